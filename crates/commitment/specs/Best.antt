@@ -1,0 +1,51 @@
+-- The best plan, by trying every list of outputs in document 01's order; of several that earn the most the first wins.
+use mathlib.Core.Bool.{Bool, true, false, cond}
+use mathlib.Core.List.{List, [], _∷_, _++_, map}
+use Prim.Native.Nat.{ℕ, zero, suc, _+_, _-_, _*_}
+use lib.IntN.{ℤ}
+use lib.ListN.{length}
+use lib.Signed.{ltZ}
+use Rattle.commitment.specs.declared.UnitRecord.{UnitRecord}
+use Rattle.commitment.specs.Keeping.{keepsCase}
+use Rattle.commitment.specs.Profit.{profit}
+
+-- no schedule, or a schedule and what it earns
+pub data Plan : Type 0 where
+  nothing : Plan
+  plan : List ℕ → ℤ → Plan
+
+-- so many outputs from the first on, a block apart
+abbrev pub ladder : ℕ → ℕ → ℕ → List ℕ
+ladder block first zero = []
+ladder block first (suc count) = first ∷ ladder block (first + block) count
+
+-- the outputs, ascending: 0, then pmin to pmax blocks
+abbrev pub outputs : UnitRecord → List ℕ
+outputs u = 0 ∷ ladder (u .block) (u .pmin * u .block) (suc (u .pmax) - u .pmin)
+
+-- every first output before every list
+abbrev pub prefixed : List ℕ → List (List ℕ) → List (List ℕ)
+prefixed [] ss = []
+prefixed (m ∷ ms) ss = map (λ s. m ∷ s) ss ++ prefixed ms ss
+
+-- every list of n outputs, the earlier first
+abbrev pub lists : List ℕ → ℕ → List (List ℕ)
+lists ms zero = [] ∷ []
+lists ms (suc n) = prefixed ms (lists ms n)
+
+-- the one that earns more; the first where they earn the same
+abbrev pub better : Plan → Plan → Plan
+better nothing b = b
+better (plan s p) nothing = plan s p
+better (plan s p) (plan t q) = cond (ltZ p q) (plan t q) (plan s p)
+
+abbrev pub firstBest : List Plan → Plan
+firstBest [] = nothing
+firstBest (a ∷ bs) = better a (firstBest bs)
+
+-- a list of outputs with its profit, where it keeps the case
+abbrev pub candidate : UnitRecord → List ℤ → List ℕ → Plan
+candidate u prices s = cond (keepsCase u s) (plan s (profit u prices s)) nothing
+
+abbrev pub best : UnitRecord → List ℤ → Plan
+best u prices = firstBest (map (candidate u prices) (lists (outputs u) (length prices)))

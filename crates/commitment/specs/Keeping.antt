@@ -1,0 +1,66 @@
+-- When a schedule keeps the case: one definition for each rule of document 01. The Bool is the state before the first interval, on or off,
+-- and `spent` the intervals spent in that state.
+use mathlib.Core.Bool.{Bool, true, false, _&&_}
+use mathlib.Core.List.{List, [], _∷_}
+use Prim.Native.Nat.{ℕ, zero, suc, _+_}
+use lib.Dec.{leb, eqb}
+use Rattle.commitment.specs.declared.UnitRecord.{UnitRecord}
+use Rattle.commitment.specs.Limits.{within}
+
+-- the state before interval 1
+abbrev pub wasOn : UnitRecord → Bool
+wasOn u = eqb (u .was) 1
+
+-- "an interval that is on after one that is off is a start"
+abbrev pub startsIn : Bool → List ℕ → ℕ
+startsIn on [] = 0
+startsIn on (zero ∷ s) = startsIn false s
+startsIn false (suc m ∷ s) = suc (startsIn true s)
+startsIn true (suc m ∷ s) = startsIn true s
+
+-- "a run lasts at least mot intervals": each run that ends; one still on at the last interval may be shorter
+abbrev pub runsLast : ℕ → Bool → ℕ → List ℕ → Bool
+runsLast mot on spent [] = true
+runsLast mot true spent (zero ∷ s) = leb mot spent && runsLast mot false 1 s
+runsLast mot true spent (suc m ∷ s) = runsLast mot true (suc spent) s
+runsLast mot false spent (zero ∷ s) = runsLast mot false (suc spent) s
+runsLast mot false spent (suc m ∷ s) = runsLast mot true 1 s
+
+-- "an off spell followed by a start lasts at least mdt"
+abbrev pub spellsLast : ℕ → Bool → ℕ → List ℕ → Bool
+spellsLast mdt on spent [] = true
+spellsLast mdt true spent (zero ∷ s) = spellsLast mdt false 1 s
+spellsLast mdt true spent (suc m ∷ s) = spellsLast mdt true (suc spent) s
+spellsLast mdt false spent (zero ∷ s) = spellsLast mdt false (suc spent) s
+spellsLast mdt false spent (suc m ∷ s) = leb mdt spent && spellsLast mdt true 1 s
+
+abbrev pub onIntervals : List ℕ → ℕ
+onIntervals [] = 0
+onIntervals (zero ∷ s) = onIntervals s
+onIntervals (suc m ∷ s) = suc (onIntervals s)
+
+abbrev pub outputSum : List ℕ → ℕ
+outputSum [] = 0
+outputSum (m ∷ s) = m + outputSum s
+
+-- ---- the rules
+
+abbrev pub keepsStarts : UnitRecord → List ℕ → Bool
+keepsStarts u s = within 1 (startsIn (wasOn u) s) (u .starts)
+
+abbrev pub keepsRuns : UnitRecord → List ℕ → Bool
+keepsRuns u s = runsLast (u .mot) (wasOn u) (u .held) s
+
+abbrev pub keepsSpells : UnitRecord → List ℕ → Bool
+keepsSpells u s = spellsLast (u .mdt) (wasOn u) (u .held) s
+
+-- "on-intervals number at most 4 × hours"
+abbrev pub keepsHours : UnitRecord → List ℕ → Bool
+keepsHours u s = within 4 (onIntervals s) (u .hours)
+
+-- "the sum of outputs is at most 4 × mwh"
+abbrev pub keepsMwh : UnitRecord → List ℕ → Bool
+keepsMwh u s = within 4 (outputSum s) (u .mwh)
+
+abbrev pub keepsCase : UnitRecord → List ℕ → Bool
+keepsCase u s = keepsStarts u s && keepsRuns u s && keepsSpells u s && keepsHours u s && keepsMwh u s

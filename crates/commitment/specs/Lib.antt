@@ -1,0 +1,15 @@
+-- What a reader must believe, one topic a file.
+pub mod Causes
+pub mod Limits
+pub mod Ranges
+pub mod Schedule
+pub mod Keeping
+pub mod Profit
+pub mod Order
+pub mod Best
+pub mod Rivals
+pub mod Valuing
+pub mod Cells
+pub mod Fractions
+pub mod Figures
+pub mod Twelve

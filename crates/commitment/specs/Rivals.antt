@@ -1,0 +1,25 @@
+-- Demand 3 as a relation: what it is to be the best plan, said of every rival and not by trying lists.
+use mathlib.Core.Path.{_≡_}
+use mathlib.Core.Bool.{true, false}
+use mathlib.Core.List.{List}
+use Prim.Native.Nat.{ℕ}
+use lib.IntN.{ℤ}
+use lib.ListN.{length}
+use lib.Signed.{_≤ℤ_}
+use Rattle.commitment.specs.declared.UnitRecord.{UnitRecord}
+use Rattle.commitment.specs.Schedule.{isSchedule}
+use Rattle.commitment.specs.Keeping.{keepsCase}
+use Rattle.commitment.specs.Profit.{profit}
+use Rattle.commitment.specs.Order.{earlier}
+
+-- "A rival's outputs are any list of such outputs, one for each interval, that keeps the case."
+pub record Rival (u : UnitRecord) (prices : List ℤ) (s : List ℕ) : Type 0 where
+  pub schedule : isSchedule u (length prices) s ≡ true
+  pub kept : keepsCase u s ≡ true
+
+-- the plan is a schedule that keeps the case and earns p; no rival earns more, and none that earns as much is earlier
+pub record IsBest (u : UnitRecord) (prices : List ℤ) (s : List ℕ) (p : ℤ) : Type 0 where
+  pub own : Rival u prices s
+  pub earns : profit u prices s ≡ p
+  pub most : (r : List ℕ) → Rival u prices r → profit u prices r ≤ℤ p
+  pub first : (r : List ℕ) → Rival u prices r → profit u prices r ≡ p → earlier r s ≡ false

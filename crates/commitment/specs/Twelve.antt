@@ -1,0 +1,161 @@
+-- C1 to C12 of document 01: one table of cases beside every value that the document gives for them, and one statement over it.
+use mathlib.Core.Path.{_≡_, refl}
+use mathlib.Core.Bool.{Bool, true, false, cond, _&&_}
+use mathlib.Core.List.{List, [], _∷_, map}
+use Prim.Native.Nat.{ℕ, zero, suc, _+_}
+use lib.IntN.{ℤ, pos}
+use lib.ListN.{length}
+use lib.Signed.{leZ}
+use Rattle.commitment.specs.declared.Limit.{Limit}
+use Rattle.commitment.specs.declared.Limit.the-variants.{At}
+use Rattle.commitment.specs.declared.Limit.the-variants as limit
+use Rattle.commitment.specs.declared.Cause.the-variants.{NoSchedule}
+use Rattle.commitment.specs.declared.Outcome.{Outcome}
+use Rattle.commitment.specs.declared.Outcome.the-variants.{Empty, Never, Gap}
+use Rattle.commitment.specs.declared.Outcome.the-variants as outcomes
+use Rattle.commitment.specs.declared.UnitRecord.{UnitRecord}
+use Rattle.commitment.specs.declared.CostInputs.{CostInputs}
+use Rattle.commitment.specs.Causes.{numberOf}
+use Rattle.commitment.specs.Best.{Plan, nothing, plan, outputs, lists, candidate, best}
+use Rattle.commitment.specs.Valuing.{startsOutcome, hoursOutcome, mwhOutcome}
+use Rattle.commitment.specs.Figures.{vecOf, sucOf, mlcOf}
+
+-- ---- the cases
+
+abbrev c1-prices : List ℤ
+c1-prices = pos 2000 ∷ pos 9000 ∷ pos 8000 ∷ pos 1000 ∷ pos 7000 ∷ pos 10000 ∷ []
+
+-- C1 but for mot, was, held, starts, hours and mwh
+abbrev c1-but : ℕ → ℕ → ℕ → Limit → Limit → Limit → UnitRecord
+c1-but mot was held starts hours mwh =
+    record {
+      block = 10;
+      pmin = 1;
+      pmax = 2;
+      mot = mot;
+      mdt = 2;
+      was = was;
+      held = held;
+      vec = 3000;
+      mlc = 30000;
+      suc = 5000;
+      starts = starts;
+      hours = hours;
+      mwh = mwh;
+    }
+
+abbrev c1 : UnitRecord
+c1 = c1-but 2 0 2 (At 2) (At 2) limit.None
+
+abbrev c2 : UnitRecord
+c2 = c1-but 2 0 2 (At 2) (At 2) (At 10)
+
+abbrev c4 : UnitRecord
+c4 = c1-but 2 0 1 (At 2) (At 2) limit.None
+
+abbrev c5 : UnitRecord
+c5 = c1-but 2 1 2 (At 2) (At 2) limit.None
+
+abbrev c6 : UnitRecord
+c6 = c1-but 2 1 1 (At 2) (At 0) limit.None
+
+abbrev c7 : UnitRecord
+c7 = c1-but 6 1 1 (At 2) (At 3) limit.None
+
+abbrev c8 : UnitRecord
+c8 = c1-but 2 0 2 (At 2) (At 1) limit.None
+
+abbrev c9 : UnitRecord
+c9 = c1-but 2 0 2 (At 0) (At 2) limit.None
+
+-- the unit of C10 but for om, gmc, allowance, rate, fuel, aux and minutes; its one segment stands beside it
+abbrev c10-but : ℕ → ℕ → ℕ → ℕ → ℕ → ℕ → ℕ → CostInputs
+c10-but om gmc allowance rate fuel aux minutes =
+    record {
+      block = 10;
+      pmin = 7;
+      pmax = 15;
+      gas = 550;
+      transport = 0;
+      allowance = allowance;
+      om = om;
+      gmc = gmc;
+      rate = rate;
+      «min_heat» = 14440;
+      fuel = fuel;
+      aux = aux;
+      minutes = minutes;
+      «start_adder» = 0;
+      «load_adder» = 0;
+    }
+
+-- ---- the values
+
+pub data Value : Type 0 where
+  schedule : List ℕ → Value
+  profit : ℤ → Value
+  number : ℕ → Value
+  outcome : Outcome → Value
+  ties : ℕ → Value
+  cents : ℕ → Value
+
+-- a plan's schedule and profit before other values, or the number of its refusal
+abbrev planned : Plan → List Value → List Value
+planned nothing rest = number (numberOf NoSchedule) ∷ rest
+planned (plan s p) rest = schedule s ∷ profit p ∷ rest
+
+abbrev profitAlone : Plan → List Value → List Value
+profitAlone nothing rest = number (numberOf NoSchedule) ∷ rest
+profitAlone (plan s p) rest = profit p ∷ rest
+
+-- how many schedules earn at least so much
+abbrev reaching : ℤ → List Plan → ℕ
+reaching p [] = 0
+reaching p (nothing ∷ rest) = reaching p rest
+reaching p (plan s q ∷ rest) = cond (leZ p q) 1 0 + reaching p rest
+
+abbrev tiesOf : UnitRecord → List ℤ → ℕ
+tiesOf u prices = among (best u prices)
+  where
+    among : Plan → ℕ
+    among nothing = 0
+    among (plan s p) = reaching p (map (candidate u prices) (lists (outputs u) (length prices)))
+
+pub record Row : Type 0 where
+  pub computed : List Value
+  pub given : List Value
+
+abbrev row : List Value → List Value → Row
+row a b = record { computed = a; given = b }
+
+abbrev pub table : List Row
+table =
+    -- C1
+    row
+    (planned (best c1 c1-prices)
+    (outcome (startsOutcome c1 c1-prices) ∷ outcome (hoursOutcome c1 c1-prices) ∷ outcome (mwhOutcome c1 c1-prices) ∷ []))
+    (schedule (0 ∷ 20 ∷ 20 ∷ 10 ∷ 20 ∷ 20 ∷ []) ∷ profit (pos 400000) ∷ outcome (Gap (pos 400000)) ∷ outcome (Gap (pos 320000)) ∷ outcome outcomes.None ∷ [])
+    -- C2
+    ∷ row (planned (best c2 c1-prices) (outcome (mwhOutcome c2 c1-prices) ∷ []))
+    (schedule (0 ∷ 10 ∷ 10 ∷ 0 ∷ 0 ∷ 20 ∷ []) ∷ profit (pos 210000) ∷ outcome (Gap (pos 0)) ∷ [])
+    -- C3, C4: one price
+    ∷ row (planned (best c1 (pos 9000 ∷ [])) []) (schedule (20 ∷ []) ∷ profit (pos 100000) ∷ [])
+    ∷ row (planned (best c4 (pos 9000 ∷ [])) []) (schedule (0 ∷ []) ∷ profit (pos 0) ∷ [])
+    -- C5: three schedules tie
+    ∷ row (planned (best c5 (pos 3000 ∷ [])) (ties (tiesOf c5 (pos 3000 ∷ [])) ∷ [])) (schedule (0 ∷ []) ∷ profit (pos 0) ∷ ties 3 ∷ [])
+    -- C6: no schedule; C7: none with an hour less
+    ∷ row (planned (best c6 c1-prices) []) (number 9 ∷ [])
+    ∷ row (outcome (hoursOutcome c7 c1-prices) ∷ []) (outcome Never ∷ [])
+    -- C8, C9: nine tenths round to 0
+    ∷ row (profitAlone (best c8 c1-prices) (outcome (hoursOutcome c8 c1-prices) ∷ [])) (profit (pos 320000) ∷ outcome Empty ∷ [])
+    ∷ row (planned (best c9 c1-prices) (outcome (startsOutcome c9 c1-prices) ∷ []))
+    (schedule (0 ∷ 0 ∷ 0 ∷ 0 ∷ 0 ∷ 0 ∷ []) ∷ profit (pos 0) ∷ outcome Empty ∷ [])
+    -- C10, C11, C12: vec, mlc and suc
+    ∷ row (cents (vecOf (c10-but 280 0 0 0 0 0 0) (80 ∷ []) (9790 ∷ [])) ∷ []) (cents 5665 ∷ [])
+    ∷ row (cents (mlcOf (c10-but 280 50 1300 531148 0 0 0)) ∷ []) (cents 580037 ∷ [])
+    ∷ row (cents (sucOf (c10-but 0 50 0 0 100 2 30)) ∷ []) (cents 66875 ∷ [])
+    ∷ []
+
+-- the definitions give what document 01 says of all twelve
+pub twelve : map (λ (r : Row). r .computed) table ≡ map (λ (r : Row). r .given) table
+twelve = refl
