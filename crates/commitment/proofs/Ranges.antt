@@ -1,10 +1,14 @@
 -- What the checks of a record and of its prices say, as orders of numbers.
-use mathlib.Core.Path.{_≡_}
+use mathlib.Core.Path.{_≡_, refl}
 use mathlib.Core.Bool.{true}
-use Prim.Native.Nat.{_*_, _≤_}
-use borrow.Author.Tests.{leb-true}
+use Prim.Native.Nat.{ℕ, _*_, _≤_}
+use native.Mathlib.Omega.{arith}
+use borrow.Author.Tests.{leb-true, le-leb}
 use lib.Dec.{leb}
+use Rattle.commitment.specs.declared.Limit.{Limit}
+use Rattle.commitment.specs.declared.Limit.the-variants.{None, At}
 use Rattle.commitment.specs.declared.UnitRecord.{UnitRecord}
+use Rattle.commitment.specs.Limits.{limitKept}
 use Rattle.commitment.specs.Ranges.{sizesKept, timesKept, costsKept, limitsKept, rangesKept, shapeKept}
 use Rattle.commitment.proofs.Conjunctions.{both}
 
@@ -74,12 +78,28 @@ costs-are u e =
       suc-most = leb-true (u .suc) 4000000000 (f3 .1);
     }
 
--- every field that is a number is in its range
+pub record Limits (u : UnitRecord) : Type 0 where
+  pub starts-kept : limitKept 2976 (u .starts) ≡ true
+  pub hours-kept : limitKept 744 (u .hours) ≡ true
+  pub mwh-kept : limitKept 372000 (u .mwh) ≡ true
+
+limits-are : (u : UnitRecord) → limitsKept u ≡ true → Limits u
+limits-are u e =
+    let f3 = both _ (limitKept 372000 (u .mwh)) e in
+    let f2 = both (limitKept 2976 (u .starts)) (limitKept 744 (u .hours)) (f3 .0) in
+    record { starts-kept = f2 .0; hours-kept = f2 .1; mwh-kept = f3 .1 }
+
+-- a figure in a range is in a wider one
+pub limit-wider : (a b : ℕ) (l : Limit) → a ≤ b → limitKept a l ≡ true → limitKept b l ≡ true
+limit-wider a b None h e = refl
+limit-wider a b (At n) h e = le-leb n b (omega (arith, leb-true n a e))
+
+-- every field is in its range
 pub record InRange (u : UnitRecord) : Type 0 where
   pub sizes : Sizes u
   pub times : Times u
   pub costs : Costs u
-  pub limits : limitsKept u ≡ true
+  pub limits : Limits u
 
 pub in-range : (u : UnitRecord) → rangesKept u ≡ true → InRange u
 unfolding rangesKept
@@ -87,7 +107,7 @@ in-range u e =
     let f4 = both _ (limitsKept u) e in
     let f3 = both _ (costsKept u) (f4 .0) in
     let f2 = both (sizesKept u) (timesKept u) (f3 .0) in
-    record { sizes = sizes-are u (f2 .0); times = times-are u (f2 .1); costs = costs-are u (f3 .1); limits = f4 .1 }
+    record { sizes = sizes-are u (f2 .0); times = times-are u (f2 .1); costs = costs-are u (f3 .1); limits = limits-are u (f4 .1) }
 
 pub record Shape (u : UnitRecord) : Type 0 where
   pub ordered : u .pmin ≤ u .pmax

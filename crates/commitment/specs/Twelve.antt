@@ -22,7 +22,7 @@ use Rattle.commitment.specs.Figures.{vecOf, sucOf, mlcOf}
 
 -- ---- the cases
 
-abbrev c1-prices : List ℤ
+abbrev pub c1-prices : List ℤ
 c1-prices = pos 2000 ∷ pos 9000 ∷ pos 8000 ∷ pos 1000 ∷ pos 7000 ∷ pos 10000 ∷ []
 
 -- C1 but for mot, was, held, starts, hours and mwh
@@ -44,7 +44,7 @@ c1-but mot was held starts hours mwh =
       mwh = mwh;
     }
 
-abbrev c1 : UnitRecord
+abbrev pub c1 : UnitRecord
 c1 = c1-but 2 0 2 (At 2) (At 2) limit.None
 
 abbrev c2 : UnitRecord

@@ -2,6 +2,10 @@
 
 ghost use mathlib.Core.Path.{_≡_};
 ghost use mathlib.Core.Bool.{true};
+ghost use Prim.Native.Nat.{_≤_};
+ghost use lib.IntN.{natAbs};
+ghost use Rattle.commitment.specs.Profit as profits;
+ghost use Rattle.commitment.specs.Causes.{numberOf};
 ghost use Rattle.commitment.specs.Limits.{limitKept};
 ghost use Rattle.commitment.specs.Ranges.{caseChecked, sizesKept, timesKept, costsKept, limitsKept, rangesKept, shapeKept, priceKept, pricesKept, horizonKept};
 
@@ -185,4 +189,33 @@ fn price_kept(price: i64) -> bool
     ensures { λ r. ⌜ r ≡ priceKept price ⌝ }
 {
     (-200000 <= price) & (price <= 200000)
+}
+
+// What an on-interval adds to the profit, of figures in their ranges.
+pub fn margin(price: i64, output: u64, vec: u64, least: u64, mlc: u64) -> i64
+    requires { ⌜ (natAbs price ≤ 200000) × (output ≤ 500) × (vec ≤ 2000000) × (least ≤ 500) × (mlc ≤ 1000000000) ⌝ }
+    ensures { λ r. ⌜ r ≡ profits.margin price output vec least mlc ⌝ }
+{
+    let m = integers::signed(output);
+    let above = m - integers::signed(least);
+    let cost = integers::signed(vec) * above;
+    price * m - cost - integers::signed(mlc)
+}
+
+// The number of a cause in document 01's table.
+pub fn number_of(cause: Cause) -> u64
+    ensures { λ r. ⌜ r ≡ numberOf cause ⌝ }
+{
+    match cause {
+        Cause::Form => 1,
+        Cause::Name => 2,
+        Cause::Range => 3,
+        Cause::Shape => 4,
+        Cause::Horizon => 5,
+        Cause::Segments => 6,
+        Cause::Length => 7,
+        Cause::Scratch => 8,
+        Cause::NoSchedule => 9,
+        Cause::NotKept => 10,
+    }
 }

@@ -1,4 +1,6 @@
 ghost use mathlib.Core.Path.{_≡_};
+ghost use Prim.Native.Nat.{_<_, _^_};
+ghost use lib.IntN.{pos};
 ghost use Rattle.integers.specs.Maximum.{maxℤ};
 
 // The larger of two, the first where they are equal.
@@ -6,4 +8,12 @@ pub fn larger(a: i64, b: i64) -> i64
     ensures { λ r. ⌜ r ≡ maxℤ a b ⌝ }
 {
     if a < b { b } else { a }
+}
+
+// A natural number as a signed one.
+pub fn signed(x: u64) -> i64
+    requires { ⌜ x < 2 ^ 62 ⌝ }
+    ensures { λ r. ⌜ r ≡ pos x ⌝ }
+{
+    x as i64
 }

@@ -14,9 +14,6 @@ use Rattle.commitment.specs.Ranges.{every, priceKept, pricesKept}
 use Rattle.commitment.proofs.Every.{every-pass, every-fail, every-end}
 use Rattle.commitment.proofs.prices_kept.Statement.{statement}
 use Rattle.commitment.proofs.prices_kept.Tie as tie
-use Rattle.commitment.proofs.prices_kept.Reads as reads
-use Rattle.commitment.proofs.prices_kept.Lts as lts
-use Rattle.commitment.proofs.price_kept.Reads as price-kept-reads
 
 abbrev Inv-loop : tie.InvT-loop
 Inv-loop prices i₀ i = (i ≤ length prices) × (every priceKept (drop i prices) ≡ every priceKept prices)

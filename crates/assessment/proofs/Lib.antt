@@ -1,0 +1,5 @@
+pub mod Bounds
+pub mod Intervals
+pub mod Walking
+pub mod Passed
+mod Examples

@@ -1,0 +1,149 @@
+-- The walk over a schedule finds what the definitions of commitment say: whether it keeps the case, and its profit.
+use mathlib.Core.Path.{_≡_, refl, sym, ap, _∙_}
+use mathlib.Core.Bool.{Bool, true, false, _&&_, cond, and-assoc, and-false}
+use mathlib.Core.List.{List, [], _∷_}
+use Prim.Native.Nat.{ℕ, zero, suc, _+_, _*_, _<_, _≤_}
+use native.Mathlib.Nat.{add-zero, zero-add}
+use native.Mathlib.Numerals.{add-one}
+use native.Mathlib.Omega.{arith}
+use borrow.Author.Tests.{eq-eqb}
+use lib.Dec.{leb}
+use lib.IntN.{ℤ, pos, _+ℤ_, _-ℤ_, +ℤ-idl}
+use lib.ListN.{length, drop, getD, drop-of-length-le}
+use Rattle.integers.proofs.Fills.{drop-next}
+use Rattle.integers.proofs.Linear.{zarith, zsum, zdiff, up-pos, dn-pos}
+use Rattle.commitment.specs.declared.Cause.the-variants.{NotKept}
+use Rattle.commitment.specs.declared.Checked.the-variants.{Passed}
+use Rattle.commitment.specs.declared.UnitRecord.{UnitRecord}
+use Rattle.commitment.specs.Causes.{unless}
+use Rattle.commitment.specs.Keeping.{wasOn, startsIn, runsLast, spellsLast, onIntervals, outputSum, keepsStarts, keepsRuns, keepsSpells, keepsHours, keepsMwh, keepsCase}
+use Rattle.commitment.specs.Profit.{earned, earnedIn, startCost, profit}
+use Rattle.commitment.specs.Ranges.{every}
+use Rattle.commitment.specs.Schedule.{isOutput, isSchedule}
+use Rattle.assessment.specs.declared.Assessed.{Assessed}
+use Rattle.assessment.specs.declared.Assessed.the-variants.{Profit, Refused}
+use Rattle.assessment.specs.declared.Walk.{Walk}
+use Rattle.assessment.specs.declared.Walked.{Walked}
+use Rattle.assessment.specs.declared.Walked.the-variants.{Whole, Broken}
+use Rattle.assessment.specs.Assessed.{answered}
+use Rattle.assessment.specs.Walking.{opening, mayFollow, stepped, walkFrom, settled, concluded}
+
+abbrev standing : Bool → ℕ → ℕ → ℕ → ℕ → ℤ → Walk
+standing on spent starts running output p =
+    record { on = on; spent = spent; starts = starts; running = running; output = output; profit = p }
+
+-- one interval's gain in front of the rest
+gain-next : (p g rest : ℤ) (k n : ℕ) → p +ℤ (g +ℤ rest -ℤ pos (k * n)) ≡ (p +ℤ g) +ℤ (rest -ℤ pos (k * n))
+gain-next p g rest k n =
+    omega
+    (zarith, zsum g rest, zdiff (g +ℤ rest) (pos (k * n)), zsum p (g +ℤ rest -ℤ pos (k * n)), zsum p g, zdiff rest (pos (k * n)), zsum (p +ℤ g) (rest -ℤ pos (k * n)))
+
+-- and where it is a start
+gain-start : (p g rest : ℤ) (k n : ℕ) → p +ℤ (g +ℤ rest -ℤ pos (k * suc n)) ≡ (p +ℤ (g -ℤ pos k)) +ℤ (rest -ℤ pos (k * n))
+gain-start p g rest k n =
+    omega
+    (zarith, zsum g rest, zdiff (g +ℤ rest) (pos (k * suc n)), zsum p (g +ℤ rest -ℤ pos (k * suc n)), zdiff g (pos k), zsum p (g -ℤ pos k), zdiff rest (pos (k * n)), zsum (p +ℤ (g -ℤ pos k)) (rest -ℤ pos (k * n)), up-pos (k * suc n), dn-pos (k * suc n), up-pos k, dn-pos k, up-pos (k * n), dn-pos (k * n))
+
+-- the tests of the first interval, pulled to the front
+pull-run : (o t e r z : Bool) → (o && e && (t && r) && z) ≡ (o && t && (e && r && z))
+pull-run true true e r z = refl
+pull-run true false e r z = simp and-false
+pull-run false t e r z = refl
+
+pull-spell : (o t e r z : Bool) → (o && e && r && (t && z)) ≡ (o && t && (e && r && z))
+pull-spell true true e r z = refl
+pull-spell true false e r z = simp and-false
+pull-spell false t e r z = refl
+
+-- the outputs and the rules, in the order of the walk and in that of document 01
+in-order : (a r z b d e : Bool) → (e && r && z && (a && b && d)) ≡ (e && (a && r && z && b && d))
+in-order a r z b d false = refl
+in-order true r z b d true = simp and-assoc
+in-order false r z b d true = simp and-false
+
+-- two tests in a row are one of both
+told : (t k : Bool) (p : ℤ) → cond t (cond k (Profit p) (Refused NotKept)) (Refused NotKept) ≡ answered (unless (t && k) NotKept Passed) p
+told true true p = refl
+told true false p = refl
+told false k p = refl
+
+module _ (u : UnitRecord) where
+  -- outputs of the unit, in runs and off spells that last
+  abbrev pub lasting : Bool → ℕ → List ℕ → Bool
+  lasting on spent s = every (isOutput u) s && runsLast (u .mot) on spent s && spellsLast (u .mdt) on spent s
+
+  -- what a schedule earns from a state
+  abbrev pub profitFrom : Bool → List ℤ → List ℕ → ℤ
+  profitFrom on prices s = earnedIn u prices s -ℤ pos (startCost u * startsIn on s)
+
+  -- ---- one interval of the walk over two slices
+
+  walk-next : (at : Walk) (prices : List ℤ) (s : List ℕ) (i : ℕ) → i < length prices → i < length s
+      → walkFrom u at (drop i prices) (drop i s)
+      ≡ cond (mayFollow u at (getD s i 0)) (walkFrom u (stepped u at (getD prices i (pos 0)) (getD s i 0)) (drop (i + 1) prices) (drop (i + 1) s)) Broken
+  walk-next at prices s i h k = rw (drop-next prices i (pos 0) h, drop-next s i 0 k)
+
+  pub walk-on : (at : Walk) (prices : List ℤ) (s : List ℕ) (i : ℕ) → i < length prices → i < length s → mayFollow u at (getD s i 0) ≡ true
+      → walkFrom u (stepped u at (getD prices i (pos 0)) (getD s i 0)) (drop (i + 1) prices) (drop (i + 1) s) ≡ walkFrom u at (drop i prices) (drop i s)
+  walk-on at prices s i h k e =
+      sym (walk-next at prices s i h k ∙ ap (λ (t : Bool). cond t (walkFrom u (stepped u at (getD prices i (pos 0)) (getD s i 0)) (drop (i + 1) prices) (drop (i + 1) s)) Broken) e)
+
+  pub walk-broken : (at : Walk) (prices : List ℤ) (s : List ℕ) (i : ℕ) → i < length prices → i < length s → mayFollow u at (getD s i 0) ≡ false
+      → walkFrom u at (drop i prices) (drop i s) ≡ Broken
+  walk-broken at prices s i h k e =
+      walk-next at prices s i h k ∙ ap (λ (t : Bool). cond t (walkFrom u (stepped u at (getD prices i (pos 0)) (getD s i 0)) (drop (i + 1) prices) (drop (i + 1) s)) Broken) e
+
+  pub walk-done : (at : Walk) (prices : List ℤ) (s : List ℕ) (i : ℕ) → length prices ≤ i → walkFrom u at (drop i prices) (drop i s) ≡ Whole at
+  walk-done at prices s i h = rw (drop-of-length-le prices {i = i} h)
+
+  -- ---- what the walk concludes
+
+  -- an interval that may follow where t holds, before a rest that ends in a
+  lead : (t g : Bool) (w : Walked) (a b : Assessed) → concluded u w ≡ cond g a (Refused NotKept) → a ≡ b → concluded u (cond t w Broken) ≡ cond (t && g) b (Refused NotKept)
+  lead true g w a b e f = e ∙ ap (λ (x : Assessed). cond g x (Refused NotKept)) f
+  lead false g w a b e f = refl
+
+  same-totals : {a a′ b b′ d d′ : ℕ} {p p′ : ℤ} → a ≡ a′ → b ≡ b′ → d ≡ d′ → p ≡ p′ → settled u a b d p ≡ settled u a′ b′ d′ p′
+  same-totals e f g h = cc
+
+  -- what the walk concludes from any state, of the rest of the schedule
+  walk-from : (on : Bool) (spent starts running output : ℕ) (p : ℤ) (prices : List ℤ) (s : List ℕ) → length s ≡ length prices
+      → concluded u (walkFrom u (standing on spent starts running output p) prices s)
+      ≡ cond (lasting on spent s)
+      (settled u (starts + startsIn on s) (running + onIntervals s) (output + outputSum s) (p +ℤ profitFrom on prices s)) (Refused NotKept)
+  unfolding mayFollow stepped
+  walk-from on spent starts running output p [] [] e =
+      let f : p +ℤ (pos 0 -ℤ pos (startCost u * 0)) ≡ p = omega (zarith, zdiff (pos 0) (pos (startCost u * 0)), zsum p (pos 0 -ℤ pos (startCost u * 0)), up-pos 0, dn-pos 0, up-pos (startCost u * 0), dn-pos (startCost u * 0)) in
+      simp (add-zero, f)
+  walk-from on spent starts running output p [] (m ∷ s) e = absurd (omega arith)
+  walk-from on spent starts running output p (l ∷ ls) [] e = absurd (omega arith)
+  walk-from true spent starts running output p (l ∷ ls) (zero ∷ s) e =
+      rw (pull-run true (leb (u .mot) spent) (every (isOutput u) s) (runsLast (u .mot) false 1 s) (spellsLast (u .mdt) false 1 s))
+      (lead (leb (u .mot) spent) (lasting false 1 s) (walkFrom u (standing false 1 starts running output p) ls s) _ _
+      (walk-from false 1 starts running output p ls s (omega arith))
+      (rw (zero-add (outputSum s), +ℤ-idl (earnedIn u ls s))))
+  walk-from false spent starts running output p (l ∷ ls) (zero ∷ s) e =
+      rw (zero-add (outputSum s), +ℤ-idl (earnedIn u ls s), ← add-one spent) (walk-from false (spent + 1) starts running output p ls s (omega arith))
+  walk-from true spent starts running output p (l ∷ ls) (suc m ∷ s) e =
+      rw
+      (← add-one spent, pull-run (isOutput u (suc m)) true (every (isOutput u) s) (runsLast (u .mot) true (spent + 1) s) (spellsLast (u .mdt) true (spent + 1) s))
+      (lead (isOutput u (suc m) && true) (lasting true (spent + 1) s) (walkFrom u (standing true (spent + 1) starts (running + 1) (output + suc m) (p +ℤ earned u l (suc m))) ls s) _ _
+      (walk-from true (spent + 1) starts (running + 1) (output + suc m) (p +ℤ earned u l (suc m)) ls s (omega arith))
+      (same-totals refl (omega arith) (omega arith) (sym (gain-next p (earned u l (suc m)) (earnedIn u ls s) (startCost u) (startsIn true s)))))
+  walk-from false spent starts running output p (l ∷ ls) (suc m ∷ s) e =
+      rw (pull-spell (isOutput u (suc m)) (leb (u .mdt) spent) (every (isOutput u) s) (runsLast (u .mot) true 1 s) (spellsLast (u .mdt) true 1 s))
+      (lead (isOutput u (suc m) && leb (u .mdt) spent) (lasting true 1 s) (walkFrom u (standing true 1 (starts + 1) (running + 1) (output + suc m) (p +ℤ (earned u l (suc m) -ℤ pos (startCost u)))) ls s) _ _
+      (walk-from true 1 (starts + 1) (running + 1) (output + suc m) (p +ℤ (earned u l (suc m) -ℤ pos (startCost u))) ls s (omega arith))
+      (same-totals (omega arith) (omega arith) (omega arith) (sym (gain-start p (earned u l (suc m)) (earnedIn u ls s) (startCost u) (startsIn true s)))))
+
+  -- what the walk over a whole schedule concludes is what the definitions say
+  pub walk-is : (prices : List ℤ) (s : List ℕ) → length s ≡ length prices
+      → concluded u (walkFrom u (opening u) prices s)
+      ≡ answered (unless (isSchedule u (length prices) s && keepsCase u s) NotKept Passed) (profit u prices s)
+  walk-is prices s e =
+      walk-from (wasOn u) (u .held) 0 0 0 (pos 0) prices s e
+      ∙ rw
+      (zero-add (startsIn (wasOn u) s), zero-add (onIntervals s), zero-add (outputSum s), +ℤ-idl (profitFrom (wasOn u) prices s), eq-eqb (length s) (length prices) e)
+      (told (lasting (wasOn u) (u .held) s) (keepsStarts u s && keepsHours u s && keepsMwh u s) (profit u prices s)
+      ∙ ap (λ (t : Bool). answered (unless t NotKept Passed) (profit u prices s))
+      (in-order (keepsStarts u s) (keepsRuns u s) (keepsSpells u s) (keepsHours u s) (keepsMwh u s) (every (isOutput u) s)))

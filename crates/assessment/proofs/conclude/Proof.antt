@@ -1,0 +1,26 @@
+-- By cases on how the walk ended.
+use borrow.Author.Needs.{needs}
+use mathlib.Core.Path.{ap, sym, _∙_}
+use Rattle.assessment.specs.Walking.{concluded}
+use Rattle.assessment.proofs.conclude.Statement.{statement}
+use Rattle.assessment.proofs.conclude.Tie as tie
+
+-- By cases on how the walk ended.
+
+enum-known-walked : tie.Need-enum-known-walked
+enum-known-walked c = search needs
+
+settle-requires : tie.Need-settle-requires
+settle-requires c κs = search needs
+
+enum-told : tie.Need-enum-told
+enum-told c = search needs
+
+returns : tie.Need-returns
+returns c = c .settle .ensures ∙ ap (concluded (c .before .before .before .before .args .unit)) (sym (c .before .before .walked .given .1))
+
+returns-2 : tie.Need-returns-2
+returns-2 c = ap (concluded (c .before .before .args .unit)) (sym (c .enum-told .given .1))
+
+pub conclude-spec : {M : Type 1} → statement M
+conclude-spec = tie.close (tie.spec enum-known-walked settle-requires enum-told returns returns-2)

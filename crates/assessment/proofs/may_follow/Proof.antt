@@ -1,0 +1,19 @@
+-- Both tests.
+
+use borrow.Author.Needs.{needs}
+use Rattle.assessment.specs.Walking.{mayFollow}
+use Rattle.assessment.proofs.may_follow.Statement.{statement}
+use Rattle.assessment.proofs.may_follow.Tie as tie
+
+is-output-requires : tie.Need-is-output-requires
+is-output-requires c κs = search needs
+
+spell-kept-requires : tie.Need-spell-kept-requires
+spell-kept-requires c κs = search needs
+
+returns : tie.Need-returns
+unfolding mayFollow
+returns c = cc
+
+pub may-follow-spec : {M : Type 1} → statement M
+may-follow-spec = tie.close (tie.spec is-output-requires spell-kept-requires returns)

@@ -1,0 +1,147 @@
+-- The invariant: the rest of the walk from where it stands is the whole walk, and the totals are small. What is left of the prices falls.
+use borrow.Author.Needs.{needs}
+use mathlib.Core.Bool.{true}
+use mathlib.Core.Path.{_≡_, refl, sym, _∙_}
+use Prim.Native.Nat.{_≤_, _<_, _-_}
+use native.Mathlib.Omega.{arith}
+use borrow.Author.Tests.{not-true, not-false}
+use lib.IntN.{pos, natAbs}
+use lib.ListN.{length, drop, getD}
+use mir.Syntax.{w64}
+use mir.Val.{toZ, ofZ}
+use Rattle.integers.proofs.Ranges.{plain-fits}
+use Rattle.commitment.specs.Schedule.{isOutput}
+use Rattle.commitment.proofs.Conjunctions.{both}
+use Rattle.commitment.proofs.Passing.{Passing, passing}
+use Rattle.assessment.specs.Walking.{opening, spellKept, mayFollow, stepped, walkFrom}
+use Rattle.assessment.proofs.Bounds.{Bounded, bounded-small, output-most, opening-bounded, step-bounded}
+use Rattle.assessment.proofs.Walking.{walk-on, walk-broken, walk-done}
+use Rattle.assessment.proofs.walk_whole.Statement.{statement}
+use Rattle.assessment.proofs.walk_whole.Tie as tie
+
+abbrev Inv-loop : tie.InvT-loop
+Inv-loop unit prices schedule at₀ i₀ at i =
+    (i ≤ length prices) × Bounded i at × (walkFrom unit at (drop i prices) (drop i schedule) ≡ walkFrom unit (opening unit) prices schedule)
+
+abbrev μ-loop : tie.MeasureT-loop
+μ-loop unit prices schedule at₀ i₀ at i = length prices - i
+
+-- the case is in order, and an interval of it has an output
+in-order : (c : tie.At-loop Inv-loop μ-loop) → Passing (c .before .before .before .args .unit) (c .before .before .before .args .prices .now)
+in-order c = passing (c .before .before .before .args .unit) (c .before .before .before .args .prices .now) (c .before .before .before .pre .0)
+
+output-there : (c : tie.In-loop Inv-loop μ-loop) → c .before .loop .i < length (c .before .before .before .before .args .schedule .now)
+output-there c = omega (arith, c .before .before .before .before .pre .1)
+
+-- in a turn that goes on: the output follows, and is small
+follows : (c : tie.Else1 Inv-loop μ-loop)
+    → mayFollow (c .before .before .before .before .before .before .before .args .unit) (c .before .before .before .before .loop .at)
+    (getD (c .before .before .before .before .before .before .before .args .schedule .now) (c .before .before .before .before .loop .i) 0)
+    ≡ true
+follows c = sym (c .before .may-follow .ensures) ∙ not-false (c .before .may-follow .result) (c .if1 .left)
+
+small-output : (c : tie.Else1 Inv-loop μ-loop)
+    → getD (c .before .before .before .before .before .before .before .args .schedule .now) (c .before .before .before .before .loop .i) 0 ≤ 500
+unfolding mayFollow
+small-output c =
+    let s = c .before .before .before .before .before .before .before in
+    let at = c .before .before .before .before .loop .at in
+    let m = getD (s .args .schedule .now) (c .before .before .before .before .loop .i) 0 in
+    let h = in-order (c .before .before .before .before) in
+    output-most (s .args .unit) (h .ranges) (h .shape) m (both (isOutput (s .args .unit) m) (spellKept (s .args .unit) (at .on) (at .spent) m) (follows c) .0)
+
+price-plain : (c : tie.After-step-arg Inv-loop μ-loop)
+    → toZ w64 (ofZ w64 (getD (c .before .before .before .before .before .before .before .before .args .prices .now) (c .before .before .before .before .before .loop .i) (pos 0)))
+    ≡ getD (c .before .before .before .before .before .before .before .before .args .prices .now) (c .before .before .before .before .before .loop .i) (pos 0)
+price-plain c = plain-fits (record { sfits = c .step-arg .given })
+
+small-price : (c : tie.After-step-arg Inv-loop μ-loop)
+    → natAbs (getD (c .before .before .before .before .before .before .before .before .args .prices .now) (c .before .before .before .before .before .loop .i) (pos 0)) ≤ 200000
+small-price c = in-order (c .before .before .before .before .before) .price-at (c .before .before .before .before .before .loop .i) (omega arith)
+
+open-requires : tie.Need-open-requires Inv-loop μ-loop
+open-requires c κs = search needs
+
+loop-holds : tie.Need-loop-holds Inv-loop μ-loop
+loop-holds c =
+    let s = c .before .before in
+    let h = passing (s .args .unit) (s .args .prices .now) (s .pre .0) in
+    rw (c .«open» .ensures) (omega arith, opening-bounded (s .args .unit) (h .ranges) (h .shape), refl)
+
+mul-output : tie.Need-mul-output Inv-loop μ-loop
+mul-output c = search needs
+
+shared-slice-read-output : tie.Need-shared-slice-read-output Inv-loop μ-loop
+shared-slice-read-output c = output-there (c .before)
+
+may-follow-requires : tie.Need-may-follow-requires Inv-loop μ-loop
+may-follow-requires c κs = let h = in-order (c .before .before) in (h .ranges, h .shape)
+
+returns : tie.Need-returns Inv-loop μ-loop
+returns c =
+    let s = c .before .before .before .before .before .before .before in
+    let l = c .before .before .before .before .loop in
+    sym
+    (walk-broken (s .args .unit) (l .at) (s .args .prices .now) (s .args .schedule .now) (l .i) (omega arith) (output-there (c .before .before .before))
+    (sym (c .before .may-follow .ensures) ∙ not-true (c .before .may-follow .result) (c .if1 .taken)))
+    ∙ l .inv .2
+
+mul-step : tie.Need-mul-step Inv-loop μ-loop
+mul-step c = search needs
+
+shared-slice-copy-out-step : tie.Need-shared-slice-copy-out-step Inv-loop μ-loop
+shared-slice-copy-out-step c = omega arith
+
+step-requires : tie.Need-step-requires Inv-loop μ-loop
+step-requires c κs =
+    let h = in-order (c .before .before .before .before .before) in
+    let l = c .before .before .before .before .before .loop in (
+      (h .ranges, h .shape),
+      ((rw (price-plain c) (small-price c), small-output (c .before)), bounded-small (l .i) (l .at) (omega (arith, l .inv .0, h .most-prices)) (l .inv .1)),
+    )
+
+add-i : tie.Need-add-i Inv-loop μ-loop
+add-i c = omega arith
+
+loop-less : tie.Need-loop-less Inv-loop μ-loop
+loop-less c = omega arith
+
+loop-again : tie.Need-loop-again Inv-loop μ-loop
+loop-again c =
+    let s = c .before .before .before .before .before .before .before .before .before in
+    let l = c .before .before .before .before .before .before .loop in
+    let h = in-order (c .before .before .before .before .before .before) in
+    let p = getD (s .args .prices .now) (l .i) (pos 0) in
+    let m = getD (s .args .schedule .now) (l .i) 0 in
+    let e : c .step .result ≡ stepped (s .args .unit) (l .at) p m = rw (price-plain (c .before)) at (c .step .ensures) in
+    rw e (
+      omega arith,
+      step-bounded (s .args .unit) (h .ranges) (h .shape) (l .i) (l .at) p m (small-price (c .before)) (small-output (c .before .before)) (l .inv .1),
+      walk-on (s .args .unit) (l .at) (s .args .prices .now) (s .args .schedule .now) (l .i) (omega arith) (output-there (c .before .before .before .before .before)) (follows (c .before .before)) ∙ l .inv .2,
+    )
+
+returns-2 : tie.Need-returns-2 Inv-loop μ-loop
+returns-2 c =
+    let s = c .before .before .before .before in
+    let l = c .before .loop in
+    sym (walk-done (s .args .unit) (l .at) (s .args .prices .now) (s .args .schedule .now) (l .i) (omega arith)) ∙ l .inv .2
+
+pub walk-whole-spec : {M : Type 1} → statement M
+walk-whole-spec =
+    tie.close
+    (tie.spec
+    Inv-loop
+    μ-loop
+    open-requires
+    loop-holds
+    mul-output
+    shared-slice-read-output
+    may-follow-requires
+    returns
+    mul-step
+    shared-slice-copy-out-step
+    step-requires
+    add-i
+    loop-less
+    loop-again
+    returns-2)

@@ -1,0 +1,36 @@
+-- The product of a figure in range with 1 or 4 fits.
+use borrow.Author.Needs.{needs}
+use mathlib.Core.Path.{ap, sym, _∙_}
+use Prim.Native.Nat.{_≤_}
+use native.Mathlib.Nat.{mul-le-mul}
+use native.Mathlib.Omega.{arith}
+use borrow.Author.Tests.{leb-true}
+use Rattle.commitment.specs.Limits.{within, limitKept}
+use Rattle.assessment.proofs.within_limit.Statement.{statement}
+use Rattle.assessment.proofs.within_limit.Tie as tie
+
+-- The product of a figure in range with 1 or 4 fits.
+
+-- The product of a figure in range with 1 or 4 fits.
+
+enum-told : tie.Need-enum-told
+enum-told c = search needs
+
+enum-known-limit : tie.Need-enum-known-limit
+enum-known-limit c = search needs
+
+mul-result : tie.Need-mul-result
+mul-result c =
+    let s = c .before .before .before in
+    let n = c .before .limit .given .0 .0 in
+    let small : n ≤ 372000 = leb-true n 372000 (sym (ap (limitKept 372000) (c .before .limit .given .1)) ∙ s .pre .1) in
+    omega (arith, mul-le-mul (s .pre .0) small)
+
+returns : tie.Need-returns
+returns c = search needs
+
+returns-2 : tie.Need-returns-2
+returns-2 c = ap (within (c .before .before .before .args .worth) (c .before .before .before .args .count)) (sym (c .before .limit .given .1))
+
+pub within-limit-spec : {M : Type 1} → statement M
+within-limit-spec = tie.close (tie.spec enum-told enum-known-limit mul-result returns returns-2)

@@ -1,0 +1,45 @@
+-- Handing in a schedule: it is passed exactly when it keeps the case and no other cause holds; then its profit is formula (7).
+use mathlib.Core.Bool.{_&&_}
+use mathlib.Core.List.{List}
+use Prim.Native.Nat.{ℕ}
+use lib.Dec.{eqb}
+use lib.IntN.{ℤ, pos}
+use lib.ListN.{length}
+use Rattle.commitment.specs.declared.Cause.the-variants.{Length, NotKept}
+use Rattle.commitment.specs.declared.Checked.{Checked}
+use Rattle.commitment.specs.declared.Checked.the-variants.{Passed}
+use Rattle.commitment.specs.declared.Checked.the-variants as checked
+use Rattle.commitment.specs.declared.UnitRecord.{UnitRecord}
+use Rattle.commitment.specs.Causes.{numberOf, unless, checkedThen}
+use Rattle.commitment.specs.Ranges.{caseChecked}
+use Rattle.commitment.specs.Schedule.{isSchedule}
+use Rattle.commitment.specs.Keeping.{keepsCase}
+use Rattle.commitment.specs.Profit.{profit}
+use Rattle.assessment.specs.declared.Assessed.{Assessed}
+use Rattle.assessment.specs.declared.Assessed.the-variants.{Profit, Refused}
+
+-- 7: a schedule of another length; 10: one that does not keep the case
+abbrev pub handedIn : UnitRecord → List ℤ → List ℕ → Checked
+handedIn u prices s =
+    unless (eqb (length s) (length prices)) Length (unless (isSchedule u (length prices) s && keepsCase u s) NotKept Passed)
+
+-- 3, 4, 5, then 7, then 10
+abbrev pub handInChecked : UnitRecord → List ℤ → List ℕ → Checked
+handInChecked u prices s = checkedThen (caseChecked u prices) (handedIn u prices s)
+
+abbrev pub answered : Checked → ℤ → Assessed
+answered Passed p = Profit p
+answered (checked.Refused cause) p = Refused cause
+
+abbrev pub assessed : UnitRecord → List ℤ → List ℕ → Assessed
+assessed u prices s = answered (handInChecked u prices s) (profit u prices s)
+
+-- ---- the number and the profit of an answer: 0 where there is none
+
+abbrev pub assessedNumber : Assessed → ℕ
+assessedNumber (Profit p) = 0
+assessedNumber (Refused cause) = numberOf cause
+
+abbrev pub assessedProfit : Assessed → ℤ
+assessedProfit (Profit p) = p
+assessedProfit (Refused cause) = pos 0

@@ -1,0 +1,2 @@
+pub mod Assessed
+pub mod Walking

@@ -1,0 +1,72 @@
+-- The walk over a schedule, interval by interval: where the unit stands and what it has spent and earned so far.
+use mathlib.Core.Bool.{Bool, true, false, _&&_, cond}
+use mathlib.Core.List.{List, [], _∷_}
+use Prim.Native.Nat.{ℕ, zero, suc, _+_, _^_, _<_}
+use lib.Dec.{leb}
+use lib.IntN.{ℤ, pos, natAbs, _+ℤ_, _-ℤ_}
+use Rattle.commitment.specs.declared.Cause.the-variants.{NotKept}
+use Rattle.commitment.specs.declared.UnitRecord.{UnitRecord}
+use Rattle.commitment.specs.Keeping.{wasOn}
+use Rattle.commitment.specs.Limits.{within}
+use Rattle.commitment.specs.Profit.{earned, startCost}
+use Rattle.commitment.specs.Schedule.{isOutput}
+use Rattle.assessment.specs.declared.Assessed.{Assessed}
+use Rattle.assessment.specs.declared.Assessed.the-variants.{Profit, Refused}
+use Rattle.assessment.specs.declared.Walk.{Walk}
+use Rattle.assessment.specs.declared.Walked.{Walked}
+use Rattle.assessment.specs.declared.Walked.the-variants.{Whole, Broken}
+
+abbrev pub opening : UnitRecord → Walk
+opening u = record { on = wasOn u; spent = u .held; starts = 0; running = 0; output = 0; profit = pos 0 }
+
+-- a run that ends has lasted mot, an off spell that ends mdt
+abbrev pub spellKept : UnitRecord → Bool → ℕ → ℕ → Bool
+spellKept u true spent zero = leb (u .mot) spent
+spellKept u true spent (suc m) = true
+spellKept u false spent zero = true
+spellKept u false spent (suc m) = leb (u .mdt) spent
+
+unfoldable pub mayFollow : UnitRecord → Walk → ℕ → Bool
+mayFollow u at m = isOutput u m && spellKept u (at .on) (at .spent) m
+
+-- off for so many intervals
+abbrev pub rested : Walk → ℕ → Walk
+rested at spent =
+    record { on = false; spent = spent; starts = at .starts; running = at .running; output = at .output; profit = at .profit }
+
+-- on for so many intervals, after so many starts, the last with an output that brought a gain
+abbrev pub ran : Walk → ℕ → ℕ → ℕ → ℤ → Walk
+ran at spent starts m gain =
+    record { on = true; spent = spent; starts = starts; running = at .running + 1; output = at .output + m; profit = at .profit +ℤ gain }
+
+abbrev pub advanced : UnitRecord → Walk → ℤ → Bool → ℕ → Walk
+advanced u at price true zero = rested at 1
+advanced u at price false zero = rested at (at .spent + 1)
+advanced u at price true (suc m) = ran at (at .spent + 1) (at .starts) (suc m) (earned u price (suc m))
+advanced u at price false (suc m) = ran at 1 (at .starts + 1) (suc m) (earned u price (suc m) -ℤ pos (startCost u))
+
+unfoldable pub stepped : UnitRecord → Walk → ℤ → ℕ → Walk
+stepped u at price m = advanced u at price (at .on) m
+
+-- to the end, or to the first interval that may not follow
+abbrev pub walkFrom : UnitRecord → Walk → List ℤ → List ℕ → Walked
+walkFrom u at [] s = Whole at
+walkFrom u at (price ∷ prices) [] = Whole at
+walkFrom u at (price ∷ prices) (m ∷ s) = cond (mayFollow u at m) (walkFrom u (stepped u at price m) prices s) Broken
+
+-- what the limitations say of the totals
+abbrev pub settled : UnitRecord → ℕ → ℕ → ℕ → ℤ → Assessed
+settled u starts running output p =
+    cond (within 1 starts (u .starts) && within 4 running (u .hours) && within 4 output (u .mwh)) (Profit p) (Refused NotKept)
+
+abbrev pub concluded : UnitRecord → Walked → Assessed
+concluded u (Whole at) = settled u (at .starts) (at .running) (at .output) (at .profit)
+concluded u Broken = Refused NotKept
+
+-- sizes that leave room for one interval more
+pub record Small (at : Walk) : Type 0 where
+  pub spent : at .spent < 2 ^ 32
+  pub starts : at .starts < 2 ^ 32
+  pub running : at .running < 2 ^ 32
+  pub output : at .output < 2 ^ 32
+  pub profit : natAbs (at .profit) < 2 ^ 60

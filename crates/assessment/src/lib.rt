@@ -1,0 +1,239 @@
+// A schedule handed in: its profit, or why it is refused. One pass over the two slices.
+
+use commitment::Cause;
+use commitment::Checked;
+use commitment::Limit;
+use commitment::UnitRecord;
+ghost use mathlib.Core.Path.{_≡_};
+ghost use mathlib.Core.Bool.{true};
+ghost use Prim.Native.Nat.{_^_, _≤_, _<_};
+ghost use lib.IntN.{natAbs};
+ghost use lib.ListN.{length};
+ghost use Rattle.commitment.specs.declared.Checked.the-variants as checked;
+ghost use Rattle.commitment.specs.Limits.{within, limitKept};
+ghost use Rattle.commitment.specs.Profit as profits;
+ghost use Rattle.commitment.specs.Ranges.{caseChecked, rangesKept, shapeKept};
+ghost use Rattle.commitment.specs.Schedule.{isOutput};
+ghost use Rattle.assessment.specs.Assessed.{assessed, answered, handedIn, assessedNumber, assessedProfit};
+ghost use Rattle.assessment.specs.Walking.{opening, spellKept, mayFollow, stepped, walkFrom, settled, concluded, Small};
+ghost use Rattle.assessment.specs.Walking as walking;
+
+pub enum Assessed {
+    Profit(i64),
+    Refused(Cause),
+}
+
+// Where the unit stands after some intervals: its state, the intervals spent in it, and what was spent and earned so far.
+pub struct Walk {
+    pub on: bool,
+    pub spent: u64,
+    pub starts: u64,
+    pub running: u64,
+    pub output: u64,
+    pub profit: i64,
+}
+
+pub enum Walked {
+    Whole(Walk),
+    Broken,
+}
+
+// The profit of a schedule handed in; or 3, 4, 5, 7 (another length than the prices) or 10 (it does not keep the case).
+pub fn assess(unit: UnitRecord, prices: &[i64], schedule: &[u64]) -> Assessed
+    ensures { λ r. ⌜ r ≡ assessed unit (now (prices .entry)) (now (schedule .entry)) ⌝ }
+{
+    match commitment::check_case(unit, prices) {
+        Checked::Refused(cause) => Assessed::Refused(cause),
+        Checked::Passed => of_case(unit, prices, schedule),
+    }
+}
+
+// 0, or the number of the cause.
+pub fn number_of(answer: Assessed) -> u64
+    ensures { λ r. ⌜ r ≡ assessedNumber answer ⌝ }
+{
+    match answer {
+        Assessed::Profit(_) => 0,
+        Assessed::Refused(cause) => commitment::number_of(cause),
+    }
+}
+
+// The profit, or 0 on a refusal.
+pub fn profit_of(answer: Assessed) -> i64
+    ensures { λ r. ⌜ r ≡ assessedProfit answer ⌝ }
+{
+    match answer {
+        Assessed::Profit(profit) => profit,
+        Assessed::Refused(_) => 0,
+    }
+}
+
+fn of_case(unit: UnitRecord, prices: &[i64], schedule: &[u64]) -> Assessed
+    requires { ⌜ caseChecked unit (now prices) ≡ checked.Passed ⌝ }
+    ensures { λ r. ⌜ r ≡ answered (handedIn unit (now (prices .entry)) (now (schedule .entry))) (profits.profit unit (now (prices .entry)) (now (schedule .entry))) ⌝ }
+{
+    if schedule.len() != prices.len() {
+        return Assessed::Refused(Cause::Length);
+    }
+    conclude(unit, walk_whole(unit, prices, schedule))
+}
+
+// What the limitations say of the totals.
+fn conclude(unit: UnitRecord, walked: Walked) -> Assessed
+    requires { ⌜ rangesKept unit ≡ true ⌝ }
+    ensures { λ r. ⌜ r ≡ concluded unit walked ⌝ }
+{
+    match walked {
+        Walked::Whole(at) => settle(unit, at),
+        Walked::Broken => Assessed::Refused(Cause::NotKept),
+    }
+}
+
+fn settle(unit: UnitRecord, at: Walk) -> Assessed
+    requires { ⌜ rangesKept unit ≡ true ⌝ }
+    ensures { λ r. ⌜ r ≡ settled unit (at .starts) (at .running) (at .output) (at .profit) ⌝ }
+{
+    let starts = unit.starts;
+    let hours = unit.hours;
+    let mwh = unit.mwh;
+    if within_limit(1, at.starts, starts)
+        & within_limit(4, at.running, hours)
+        & within_limit(4, at.output, mwh)
+    {
+        return Assessed::Profit(at.profit);
+    }
+    Assessed::Refused(Cause::NotKept)
+}
+
+// The number of a limitation in range is small, so its product with a unit of 1 or 4 fits.
+fn within_limit(worth: u64, count: u64, limit: Limit) -> bool
+    requires { ⌜ worth ≤ 4 ⌝ }
+    requires { ⌜ limitKept 372000 limit ≡ true ⌝ }
+    ensures { λ r. ⌜ r ≡ within worth count limit ⌝ }
+{
+    match limit {
+        Limit::None => true,
+        Limit::At(n) => count <= worth * n,
+    }
+}
+
+// Interval by interval, to the end or to the first output that may not follow.
+fn walk_whole(unit: UnitRecord, prices: &[i64], schedule: &[u64]) -> Walked
+    requires { ⌜ caseChecked unit (now prices) ≡ checked.Passed ⌝ }
+    requires { ⌜ length (now schedule) ≡ length (now prices) ⌝ }
+    ensures { λ r. ⌜ r ≡ walkFrom unit (opening unit) (now (prices .entry)) (now (schedule .entry)) ⌝ }
+{
+    let mut at = open(unit);
+    let mut i = 0;
+    while i < prices.len() {
+        let output = schedule[i];
+        if !may_follow(unit, at, output) {
+            return Walked::Broken;
+        }
+        at = step(unit, at, prices[i], output);
+        i += 1;
+    }
+    Walked::Whole(at)
+}
+
+fn open(unit: UnitRecord) -> Walk
+    ensures { λ r. ⌜ r ≡ opening unit ⌝ }
+{
+    Walk {
+        on: unit.was == 1,
+        spent: unit.held,
+        starts: 0,
+        running: 0,
+        output: 0,
+        profit: 0,
+    }
+}
+
+// It is an output of the unit, and the run or off spell that it ends was long enough.
+fn may_follow(unit: UnitRecord, at: Walk, output: u64) -> bool
+    requires { ⌜ (rangesKept unit ≡ true) × (shapeKept unit ≡ true) ⌝ }
+    ensures { λ r. ⌜ r ≡ mayFollow unit at output ⌝ }
+{
+    is_output(unit, output) & spell_kept(unit, at.on, at.spent, output)
+}
+
+fn is_output(unit: UnitRecord, output: u64) -> bool
+    requires { ⌜ (rangesKept unit ≡ true) × (shapeKept unit ≡ true) ⌝ }
+    ensures { λ r. ⌜ r ≡ isOutput unit output ⌝ }
+{
+    if output == 0 {
+        return true;
+    }
+    (output % unit.block == 0)
+        & (unit.pmin * unit.block <= output)
+        & (output <= unit.pmax * unit.block)
+}
+
+fn spell_kept(unit: UnitRecord, on: bool, spent: u64, output: u64) -> bool
+    ensures { λ r. ⌜ r ≡ spellKept unit on spent output ⌝ }
+{
+    if output == 0 {
+        if on {
+            return unit.mot <= spent;
+        }
+        return true;
+    }
+    if on {
+        return true;
+    }
+    unit.mdt <= spent
+}
+
+// One interval more.
+fn step(unit: UnitRecord, at: Walk, price: i64, output: u64) -> Walk
+    requires { ⌜ (rangesKept unit ≡ true) × (shapeKept unit ≡ true) ⌝ }
+    requires { ⌜ (natAbs price ≤ 200000) × (output ≤ 500) ⌝ }
+    requires { ⌜ Small at ⌝ }
+    ensures { λ r. ⌜ r ≡ stepped unit at price output ⌝ }
+{
+    if output == 0 {
+        if at.on {
+            return rested(at, 1);
+        }
+        return rested(at, at.spent + 1);
+    }
+    let gain = commitment::margin(price, output, unit.vec, unit.pmin * unit.block, unit.mlc);
+    if at.on {
+        return ran(at, at.spent + 1, at.starts, output, gain);
+    }
+    ran(
+        at,
+        1,
+        at.starts + 1,
+        output,
+        gain - integers::signed(4 * unit.suc),
+    )
+}
+
+fn rested(at: Walk, spent: u64) -> Walk
+    ensures { λ r. ⌜ r ≡ walking.rested at spent ⌝ }
+{
+    Walk {
+        on: false,
+        spent,
+        starts: at.starts,
+        running: at.running,
+        output: at.output,
+        profit: at.profit,
+    }
+}
+
+fn ran(at: Walk, spent: u64, starts: u64, output: u64, gain: i64) -> Walk
+    requires { ⌜ Small at ⌝ }
+    requires { ⌜ (output ≤ 500) × (natAbs gain < 2 ^ 60) ⌝ }
+    ensures { λ r. ⌜ r ≡ walking.ran at spent starts output gain ⌝ }
+{
+    Walk {
+        on: true,
+        spent,
+        starts,
+        running: at.running + 1,
+        output: at.output + output,
+        profit: at.profit + gain,
+    }
+}

@@ -1,0 +1,97 @@
+-- Every step stays far inside an i64, so each reads back as the number that it is.
+use borrow.Author.Needs.{needs}
+use Prim.Native.Nat.{ℕ, _≤_}
+use lib.Dec.{lit<}
+use lib.IntN.{ℤ, pos, natAbs, _-ℤ_, _*ℤ_}
+use mir.Facts.{toZ-ofZ}
+use mir.Syntax.{w64}
+use mir.Val.{SFits}
+use Rattle.integers.proofs.Ranges.{within-at, within-abs, within-weaken, within-diff, within-mul, within-fits}
+use Rattle.commitment.specs.Profit.{margin}
+use Rattle.commitment.proofs.margin.Statement.{statement}
+use Rattle.commitment.proofs.margin.Tie as tie
+
+record Steps (l : ℤ) (m v f k : ℕ) : Type 0 where
+  price : SFits w64 l
+  output : SFits w64 (pos m)
+  vec : SFits w64 (pos v)
+  least : SFits w64 (pos f)
+  mlc : SFits w64 (pos k)
+  above : SFits w64 (pos m -ℤ pos f)
+  cost : SFits w64 (pos v *ℤ (pos m -ℤ pos f))
+  revenue : SFits w64 (l *ℤ pos m)
+  net : SFits w64 (l *ℤ pos m -ℤ pos v *ℤ (pos m -ℤ pos f))
+  whole : SFits w64 (margin l m v f k)
+
+fitting : (price : ℤ) (output vec least mlc : ℕ) → (natAbs price ≤ 200000) × (output ≤ 500) × (vec ≤ 2000000) × (least ≤ 500) × (mlc ≤ 1000000000)
+    → Steps price output vec least mlc
+fitting price output vec least mlc h =
+    let p = within-weaken (h .0) (within-abs price) in
+    let o = within-weaken (h .1) (within-at output) in
+    let v = within-weaken (h .2) (within-at vec) in
+    let l = within-weaken (h .3) (within-at least) in
+    let k = within-weaken (h .4) (within-at mlc) in
+    let above = within-diff o l in
+    let cost = within-mul v above in
+    let revenue = within-mul p o in
+    let net = within-diff revenue cost in
+    record {
+      price = within-fits p (lit< tt);
+      output = within-fits o (lit< tt);
+      vec = within-fits v (lit< tt);
+      least = within-fits l (lit< tt);
+      mlc = within-fits k (lit< tt);
+      above = within-fits above (lit< tt);
+      cost = within-fits cost (lit< tt);
+      revenue = within-fits revenue (lit< tt);
+      net = within-fits net (lit< tt);
+      whole = within-fits (within-diff net k) (lit< tt);
+    }
+
+steps : (c : tie.Start) → Steps (c .args .price) (c .args .output) (c .args .vec) (c .args .least) (c .args .mlc)
+steps c = fitting (c .args .price) (c .args .output) (c .args .vec) (c .args .least) (c .args .mlc) (c .pre)
+
+signed-requires : tie.Need-signed-requires
+signed-requires c κs = search needs
+
+signed-requires-2 : tie.Need-signed-requires-2
+signed-requires-2 c κs = search needs
+
+sub-above : tie.Need-sub-above
+sub-above c = let s = steps (c .before .before) in simp (c .before .signed .ensures, c .signed2 .ensures, toZ-ofZ, s .output, s .least) (s .above)
+
+signed-requires-3 : tie.Need-signed-requires-3
+signed-requires-3 c κs = search needs
+
+mul-cost : tie.Need-mul-cost
+mul-cost c = let s = steps (c .before .before .before) in simp (c .before .before .signed .ensures, c .before .signed2 .ensures, c .signed3 .ensures, toZ-ofZ, s .output, s .least, s .vec, s .above) (s .cost)
+
+mul-result : tie.Need-mul-result
+mul-result c = let s = steps (c .before .before .before) in simp (c .before .before .signed .ensures, toZ-ofZ, s .output, s .price) (s .revenue)
+
+sub-result : tie.Need-sub-result
+sub-result c = let s = steps (c .before .before .before) in simp (c .before .before .signed .ensures, c .before .signed2 .ensures, c .signed3 .ensures, toZ-ofZ, s .price, s .output, s .least, s .vec, s .above, s .cost, s .revenue) (s .net)
+
+signed-requires-4 : tie.Need-signed-requires-4
+signed-requires-4 c κs = search needs
+
+sub-result-2 : tie.Need-sub-result-2
+sub-result-2 c = let s = steps (c .before .before .before .before) in simp (c .before .before .before .signed .ensures, c .before .before .signed2 .ensures, c .before .signed3 .ensures, c .signed4 .ensures, toZ-ofZ, s .price, s .output, s .least, s .vec, s .mlc, s .above, s .cost, s .revenue, s .net) (s .whole)
+
+returns : tie.Need-returns
+returns c = let s = steps (c .before .before .before .before) in simp (c .before .before .before .signed .ensures, c .before .before .signed2 .ensures, c .before .signed3 .ensures, c .signed4 .ensures, toZ-ofZ, s .price, s .output, s .least, s .vec, s .mlc, s .above, s .cost, s .revenue, s .net, s .whole)
+
+pub margin-spec : {M : Type 1} → statement M
+margin-spec =
+    tie.close
+    (tie.spec
+    signed-requires
+    signed-requires-2
+    sub-above
+    signed-requires-3
+    mul-cost
+    mul-result
+    sub-result
+    signed-requires-4
+    sub-result-2
+    returns)
