@@ -1,0 +1,5 @@
+pub mod Linear
+pub mod Order
+pub mod Maximum
+pub mod Ranges
+pub mod Fills
