@@ -101,7 +101,7 @@ module _ (u : UnitRecord) (prices : List ℤ) where
           earns = k .1;
           most = λ r v. ⊎-elim (λ (h : profit u prices r <ℤ p). omega zarith) (λ (h : (profit u prices r ≡ p) × (earlier r s ≡ false)). omega zarith) (b r v);
           first =
-          λ r v i. ⊎-elim (λ (h : profit u prices r <ℤ p). absurd (omega zarith)) (λ (h : (profit u prices r ≡ p) × (earlier r s ≡ false)). h .1) (b r v);
+              λ r v i. ⊎-elim (λ (h : profit u prices r <ℤ p). absurd (omega zarith)) (λ (h : (profit u prices r ≡ p) × (earlier r s ≡ false)). h .1) (b r v);
         }
 
     -- and there is none exactly where no rival exists

@@ -111,9 +111,20 @@ earn-on e r x = omega (zarith, zsum e r, zdiff (e +ℤ r) (pos x), zdiff r (pos 
 
 earn-start : (e r : ℤ) (k n : ℕ) → e +ℤ r -ℤ pos (k * suc n) ≡ (e -ℤ pos k) +ℤ (r -ℤ pos (k * n))
 earn-start e r k n =
-    omega
-    (zarith, zsum e r, zdiff (e +ℤ r) (pos (k * suc n)), zdiff e (pos k), zdiff r (pos (k * n)), zsum (e -ℤ pos k) (r -ℤ pos (k * n)),
-    up-pos (k * suc n), dn-pos (k * suc n), up-pos k, dn-pos k, up-pos (k * n), dn-pos (k * n))
+    omega (
+      zarith,
+      zsum e r,
+      zdiff (e +ℤ r) (pos (k * suc n)),
+      zdiff e (pos k),
+      zdiff r (pos (k * n)),
+      zsum (e -ℤ pos k) (r -ℤ pos (k * n)),
+      up-pos (k * suc n),
+      dn-pos (k * suc n),
+      up-pos k,
+      dn-pos k,
+      up-pos (k * n),
+      dn-pos (k * n),
+    )
 
 -- ---- one interval in front
 

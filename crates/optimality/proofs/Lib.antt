@@ -5,3 +5,8 @@ pub mod Commit
 pub mod Ranges
 pub mod Outputs
 pub mod Best
+pub mod Simulate
+pub mod Left
+pub mod Cells
+pub mod Values
+pub mod Turns

@@ -46,7 +46,7 @@ ladder-is (suc count) first block n i =
     (List·Memᴰ·cases-cons i)
 
 -- from a blocks to b blocks
-blocks-join : (a b block : ℕ) → a ≤ b → a * block + (b - a) * block ≡ b * block
+pub blocks-join : (a b block : ℕ) → a ≤ b → a * block + (b - a) * block ≡ b * block
 blocks-join a b block h = by (b - a) (omega arith)
   where
     by : (d : ℕ) → a + d ≡ b → a * block + d * block ≡ b * block
@@ -93,9 +93,12 @@ module _ (u : UnitRecord) (ok : Ranged u) where
       let r = blocks-of m i in
       let k : ℕ = r .0 in
       let z : suc m % u .block ≡ 0 = ap (λ (n : ℕ). n % u .block) (r .1) ∙ mul-mod-left k (u .block) in
-      simp
-      (z, eq-eqb 0 0 refl, le-leb (u .pmin * u .block) (suc m) (omega (arith, r .1, mul-le-mul-right (u .block) (r .2))),
-      le-leb (suc m) (u .pmax * u .block) (omega (arith, r .1, mul-le-mul-right (u .block) (r .3))))
+      simp (
+        z,
+        eq-eqb 0 0 refl,
+        le-leb (u .pmin * u .block) (suc m) (omega (arith, r .1, mul-le-mul-right (u .block) (r .2))),
+        le-leb (suc m) (u .pmax * u .block) (omega (arith, r .1, mul-le-mul-right (u .block) (r .3))),
+      )
 
   -- a list is of outputs exactly where each is tried
   pub all-tried : (s : List ℕ) → every (isOutput u) s ≡ true → AllIn (outputs u) s

@@ -3,9 +3,11 @@ use mathlib.Core.Path.{_≡_, refl}
 use mathlib.Core.Bool.{Bool, true, false, _&&_, false≢true}
 use Prim.Native.Nat.{ℕ, _*_, _≤_}
 use borrow.Author.Tests.{leb-true}
+use Rattle.commitment.specs.declared.Limit.{Limit}
 use Rattle.commitment.specs.declared.UnitRecord.{UnitRecord}
 use Rattle.commitment.specs.Limits.{limitKept}
-use Rattle.commitment.specs.Ranges.{sizesKept, timesKept, costsKept, limitsKept, rangesKept, shapeKept}
+use Rattle.commitment.specs.Ranges.{rangesKept, shapeKept}
+use Rattle.commitment.specs.Valuing.{limited}
 
 pub and-left : (a b : Bool) → (a && b) ≡ true → a ≡ true
 and-left true b e = refl
@@ -33,9 +35,6 @@ pub record Ranged (u : UnitRecord) : Type 0 where
   pub vec : u .vec ≤ 2000000
   pub mlc : u .mlc ≤ 1000000000
   pub suc : u .suc ≤ 4000000000
-  pub starts : limitKept 2976 (u .starts) ≡ true
-  pub hours : limitKept 744 (u .hours) ≡ true
-  pub mwh : limitKept 372000 (u .mwh) ≡ true
 
 pub ranged : (u : UnitRecord) → rangesKept u ≡ true → shapeKept u ≡ true → Ranged u
 unfolding rangesKept
@@ -55,7 +54,33 @@ ranged u h k =
       vec = search bounds depth 12;
       mlc = search bounds depth 12;
       suc = search bounds depth 12;
-      starts = search bounds depth 12;
-      hours = search bounds depth 12;
-      mwh = search bounds depth 12;
+    }
+
+-- the limitations are bounded apart, since runs of valuing change them
+pub record LimitsRanged (u : UnitRecord) : Type 0 where
+  pub starts : limitKept 2976 (u .starts) ≡ true
+  pub hours : limitKept 744 (u .hours) ≡ true
+  pub mwh : limitKept 372000 (u .mwh) ≡ true
+
+pub limits-ranged : (u : UnitRecord) → rangesKept u ≡ true → LimitsRanged u
+unfolding rangesKept
+limits-ranged u h = record { starts = search bounds depth 12; hours = search bounds depth 12; mwh = search bounds depth 12 }
+
+pub ranged-limited : (u : UnitRecord) (a b c : Limit) → Ranged u → Ranged (limited u a b c)
+ranged-limited u a b c ok =
+    record {
+      block = ok .block;
+      pmin = ok .pmin;
+      pmax = ok .pmax;
+      top = ok .top;
+      mot = ok .mot;
+      mot-most = ok .mot-most;
+      mdt = ok .mdt;
+      mdt-most = ok .mdt-most;
+      was = ok .was;
+      held = ok .held;
+      held-most = ok .held-most;
+      vec = ok .vec;
+      mlc = ok .mlc;
+      suc = ok .suc;
     }

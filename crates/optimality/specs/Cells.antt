@@ -2,7 +2,7 @@
 -- and of the output blocks. The budgets' tops are not read by any step, so a smaller limitation is the same machine at another cell.
 use mathlib.Core.Bool.{Bool, cond, _&&_}
 use mathlib.Core.List.{List, [], _∷_}
-use Prim.Native.Nat.{ℕ, suc, _+_, _-_, _*_, _/_, _≤_, _<_, min}
+use Prim.Native.Nat.{ℕ, zero, suc, _+_, _-_, _*_, _/_, _≤_, _<_, min}
 use lib.Dec.{leb, ltb, eqb}
 use lib.IntN.{ℤ, pos, _-ℤ_, _*ℤ_}
 use Rattle.commitment.specs.declared.Limit.{Limit}
@@ -13,7 +13,7 @@ use Rattle.commitment.specs.Best.{Plan, ladder}
 use Rattle.commitment.specs.Cells.{startsCount, hoursCount, mwhCount}
 use Rattle.optimality.specs.declared.Figures.{Figures}
 use Rattle.optimality.specs.declared.Cell.{Cell}
-use Rattle.optimality.specs.Machine.{Step, allow, go, bestFrom, Value, valueFrom}
+use Rattle.optimality.specs.Machine.{Step, allow, go, bestFrom, Value, noSchedule, more, valueAlong, valueFrom}
 
 abbrev pub cell : ℕ → ℕ → ℕ → ℕ → Cell
 cell state starts ons blocks = record { state = state; starts = starts; ons = ons; blocks = blocks }
@@ -25,8 +25,9 @@ abbrev pub takenOf : Limit → ℕ
 takenOf None = 0
 takenOf (At limit) = 1
 
-unfoldable pub figuresOf : UnitRecord → ℕ → Figures
-figuresOf u n =
+-- with the most that a cell can have left of each
+abbrev pub figuresWith : UnitRecord → ℕ → ℕ → ℕ → Figures
+figuresWith u starts ons blocks =
     record {
       block = u .block;
       pmin = u .pmin;
@@ -39,10 +40,34 @@ figuresOf u n =
       perstart = takenOf (u .starts);
       peron = takenOf (u .hours);
       perblock = takenOf (u .mwh);
-      starts = startsCount u n;
-      ons = hoursCount u n;
-      blocks = mwhCount u n;
+      starts = starts;
+      ons = ons;
+      blocks = blocks;
     }
+
+-- a, b and c of document 01
+unfoldable pub figuresOf : UnitRecord → ℕ → Figures
+figuresOf u n = figuresWith u (startsCount u n) (hoursCount u n) (mwhCount u n)
+
+-- the ranges of the figures
+pub record Sound (f : Figures) : Type 0 where
+  pub block : 1 ≤ f .block
+  pub pmin : 1 ≤ f .pmin
+  pub pmax : f .pmin ≤ f .pmax
+  pub top : f .pmax * f .block ≤ 500
+  pub mot : 1 ≤ f .mot
+  pub mot-most : f .mot ≤ 96
+  pub mdt : 1 ≤ f .mdt
+  pub mdt-most : f .mdt ≤ 96
+  pub vec : f .vec ≤ 2000000
+  pub mlc : f .mlc ≤ 1000000000
+  pub suc : f .suc ≤ 4000000000
+  pub perstart : f .perstart ≤ 1
+  pub peron : f .peron ≤ 1
+  pub perblock : f .perblock ≤ 1
+  pub starts : f .starts ≤ 2976
+  pub ons : f .ons ≤ 2976
+  pub blocks : f .blocks ≤ 1488000
 
 -- ---- state numbers: below mot on for s + 1 intervals (mot or more at the last), from mot on off for s - mot + 1 (mdt or more at the last)
 
@@ -106,6 +131,19 @@ planAt f prices c = bestFrom Cell ℤ (cellStep f) (choices f) prices c
 
 unfoldable pub valueAt : Figures → List ℤ → Cell → Value
 valueAt f prices c = valueFrom Cell ℤ (cellStep f) (choices f) prices c
+
+-- ---- a cell by the cells after it: what the rest of the intervals is worth from each cell being `rest`
+
+abbrev pub offValue : Figures → (Cell → Value) → Cell → Value
+offValue f rest c = valueAlong (offStep f c) rest
+
+abbrev pub onValue : Figures → (Cell → Value) → Cell → ℤ → ℕ → Value
+onValue f rest c price k = valueAlong (onStep f c price k) rest
+
+-- the best of so many outputs from k blocks on
+abbrev pub onBest : Figures → (Cell → Value) → Cell → ℤ → ℕ → ℕ → Value
+onBest f rest c price k zero = noSchedule
+onBest f rest c price k (suc count) = more (onValue f rest c price k) (onBest f rest c price (suc k) count)
 
 -- ---- the cell before interval 1, for n intervals
 
