@@ -22,6 +22,7 @@ use Rattle.optimality.specs.declared.Figures.{Figures}
 use Rattle.optimality.specs.declared.Cell.{Cell}
 use Rattle.optimality.specs.Machine.{Step, go, allow, bestFrom}
 use Rattle.optimality.specs.Cells.{takenOf, figuresWith, figuresOf, Sound, InTable, states, afterOff, afterOn, startTakes, startPays, gain, mayRun, offCell, onCell, onStep, cellStep, planAt, openingState, opening}
+use Rattle.optimality.specs.Runs.{AtMost}
 use Rattle.optimality.proofs.Ranges.{Ranged, and-left, and-right, ranged-limited}
 use Rattle.optimality.proofs.Commit.{affords, spend, counted, Status, status, commit, before, best-steps}
 use Rattle.optimality.proofs.Outputs.{blocks-of}
@@ -206,13 +207,6 @@ opening-alike u ok n = (opening-time u ok, starts-left (u .starts), hours-left (
     mwh-left (At k) = (refl, omega arith)
 
 -- ---- smaller limitations
-
--- a limitation is at most another: both are `none`, or both are numbers
-abbrev pub AtMost : Limit → Limit → Type 0
-AtMost None None = Unit {0}
-AtMost None (At m) = ⊥
-AtMost (At k) None = ⊥
-AtMost (At k) (At m) = k ≤ m
 
 pub at-most-itself : (l : Limit) → AtMost l l
 at-most-itself None = tt

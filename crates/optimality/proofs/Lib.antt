@@ -10,3 +10,6 @@ pub mod Left
 pub mod Cells
 pub mod Values
 pub mod Turns
+pub mod Valuing
+pub mod Runs
+pub mod Demands
