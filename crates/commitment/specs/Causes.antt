@@ -28,3 +28,8 @@ checkedNumber (Refused cause) = numberOf cause
 abbrev pub unless : Bool → Cause → Checked → Checked
 unless true cause rest = rest
 unless false cause rest = Refused cause
+
+-- further checks, after those that come first
+abbrev pub checkedThen : Checked → Checked → Checked
+checkedThen Passed further = further
+checkedThen (Refused cause) further = Refused cause

@@ -1,4 +1,9 @@
-// The definitions of Ralwinga stand in specs/; here are the types that they and every call share.
+// The types that every call shares, and the checks of a case. The definitions that all is proved against stand in specs/.
+
+ghost use mathlib.Core.Path.{_≡_};
+ghost use mathlib.Core.Bool.{true};
+ghost use Rattle.commitment.specs.Limits.{limitKept};
+ghost use Rattle.commitment.specs.Ranges.{caseChecked, sizesKept, timesKept, costsKept, limitsKept, rangesKept, shapeKept, priceKept, pricesKept, horizonKept};
 
 // A limitation of the permit: not limited, or at most a number.
 pub enum Limit {
@@ -74,4 +79,110 @@ pub struct CostInputs {
     pub minutes: u64,
     pub start_adder: u64,
     pub load_adder: u64,
+}
+
+// The lowest cause for which the case cannot be worked on, whatever call it is for: 3, 4 or 5.
+pub fn check_case(unit: UnitRecord, prices: &[i64]) -> Checked
+    ensures { λ r. ⌜ r ≡ caseChecked unit (now (prices .entry)) ⌝ }
+{
+    if !(ranges_kept(unit) & prices_kept(prices)) {
+        return Checked::Refused(Cause::Range);
+    }
+    if !shape_kept(unit) {
+        return Checked::Refused(Cause::Shape);
+    }
+    if !horizon_kept(prices.len()) {
+        return Checked::Refused(Cause::Horizon);
+    }
+    Checked::Passed
+}
+
+const MOST_INTERVALS: usize = 2976;
+
+fn horizon_kept(intervals: usize) -> bool
+    ensures { λ r. ⌜ r ≡ horizonKept intervals ⌝ }
+{
+    (1 <= intervals) & (intervals <= MOST_INTERVALS)
+}
+
+// Every field of the record is in its range.
+pub fn ranges_kept(unit: UnitRecord) -> bool
+    ensures { λ r. ⌜ r ≡ rangesKept unit ⌝ }
+{
+    sizes_kept(unit) & times_kept(unit) & costs_kept(unit) & limits_kept(unit)
+}
+
+fn sizes_kept(unit: UnitRecord) -> bool
+    ensures { λ r. ⌜ r ≡ sizesKept unit ⌝ }
+{
+    (1 <= unit.block)
+        & (unit.block <= 500)
+        & (1 <= unit.pmin)
+        & (unit.pmin <= 500)
+        & (1 <= unit.pmax)
+        & (unit.pmax <= 500)
+}
+
+fn times_kept(unit: UnitRecord) -> bool
+    ensures { λ r. ⌜ r ≡ timesKept unit ⌝ }
+{
+    (1 <= unit.mot)
+        & (unit.mot <= 96)
+        & (1 <= unit.mdt)
+        & (unit.mdt <= 96)
+        & (unit.was <= 1)
+        & (1 <= unit.held)
+        & (unit.held <= 9999)
+}
+
+fn costs_kept(unit: UnitRecord) -> bool
+    ensures { λ r. ⌜ r ≡ costsKept unit ⌝ }
+{
+    (unit.vec <= 2000000) & (unit.mlc <= 1000000000) & (unit.suc <= 4000000000)
+}
+
+fn limits_kept(unit: UnitRecord) -> bool
+    ensures { λ r. ⌜ r ≡ limitsKept unit ⌝ }
+{
+    let starts = unit.starts;
+    let hours = unit.hours;
+    let mwh = unit.mwh;
+    limit_kept(2976, starts) & limit_kept(744, hours) & limit_kept(372000, mwh)
+}
+
+fn limit_kept(most: u64, limit: Limit) -> bool
+    ensures { λ r. ⌜ r ≡ limitKept most limit ⌝ }
+{
+    match limit {
+        Limit::None => true,
+        Limit::At(n) => n <= most,
+    }
+}
+
+// The product is taken of sizes in range, where it cannot overflow.
+pub fn shape_kept(unit: UnitRecord) -> bool
+    requires { ⌜ rangesKept unit ≡ true ⌝ }
+    ensures { λ r. ⌜ r ≡ shapeKept unit ⌝ }
+{
+    (unit.pmin <= unit.pmax) & (unit.pmax * unit.block <= 500)
+}
+
+// Every price is in its range.
+pub fn prices_kept(prices: &[i64]) -> bool
+    ensures { λ r. ⌜ r ≡ pricesKept (now (prices .entry)) ⌝ }
+{
+    let mut i = 0;
+    while i < prices.len() {
+        if !price_kept(prices[i]) {
+            return false;
+        }
+        i += 1;
+    }
+    true
+}
+
+fn price_kept(price: i64) -> bool
+    ensures { λ r. ⌜ r ≡ priceKept price ⌝ }
+{
+    (-200000 <= price) & (price <= 200000)
 }

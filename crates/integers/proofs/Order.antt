@@ -23,25 +23,25 @@ pub -ℤ-mono : {x y : ℤ} (a : ℤ) → x ≤ℤ y → (x -ℤ a) ≤ℤ (y -�
 
 -- ---- the test `ltZ`
 
-pub ltZ-true : {x y : ℤ} → ltZ x y ≡ true → x <ℤ y
-ltZ-true e = ltZ-yes (subst T (sym e) tt)
+pub ltZ-true : (x y : ℤ) → ltZ x y ≡ true → x <ℤ y
+ltZ-true x y e = ltZ-yes (subst T (sym e) tt)
 
-pub ltZ-false : {x y : ℤ} → ltZ x y ≡ false → y ≤ℤ x
-ltZ-false e = ltZ-no (subst (λ (t : Bool). T (not t)) (sym e) tt)
+pub ltZ-false : (x y : ℤ) → ltZ x y ≡ false → y ≤ℤ x
+ltZ-false x y e = ltZ-no (subst (λ (t : Bool). T (not t)) (sym e) tt)
 
 -- the test with what it says
 pub ltZ-dec : (x y : ℤ) → ((ltZ x y ≡ true) × (x <ℤ y)) ⊎ ((ltZ x y ≡ false) × (y ≤ℤ x))
 ltZ-dec x y = go (ltZ x y) refl
   where
     go : (t : Bool) → ltZ x y ≡ t → ((ltZ x y ≡ true) × (x <ℤ y)) ⊎ ((ltZ x y ≡ false) × (y ≤ℤ x))
-    go true e = inl (e, ltZ-true e)
-    go false e = inr (e, ltZ-false e)
+    go true e = inl (e, ltZ-true x y e)
+    go false e = inr (e, ltZ-false x y e)
 
-pub lt-ltZ : {x y : ℤ} → x <ℤ y → ltZ x y ≡ true
-lt-ltZ {x} {y} h = ⊎-elim (λ w. w .0) (λ w. clashℤ h (w .1)) (ltZ-dec x y)
+pub lt-ltZ : (x y : ℤ) → x <ℤ y → ltZ x y ≡ true
+lt-ltZ x y h = ⊎-elim (λ w. w .0) (λ w. clashℤ h (w .1)) (ltZ-dec x y)
 
-pub le-ltZ : {x y : ℤ} → y ≤ℤ x → ltZ x y ≡ false
-le-ltZ {x} {y} h = ⊎-elim (λ w. clashℤ (w .1) h) (λ w. w .0) (ltZ-dec x y)
+pub le-ltZ : (x y : ℤ) → y ≤ℤ x → ltZ x y ≡ false
+le-ltZ x y h = ⊎-elim (λ w. clashℤ (w .1) h) (λ w. w .0) (ltZ-dec x y)
 
 pub ≤ℤ-total : (x y : ℤ) → (x ≤ℤ y) ⊎ (y ≤ℤ x)
 ≤ℤ-total x y = ⊎-elim (λ w. inl (omega zarith)) (λ w. inr (omega zarith)) (ltZ-dec x y)
@@ -52,18 +52,18 @@ is-true : (t : Bool) → T t → t ≡ true
 is-true true h = refl
 is-true false h = absurd h
 
-pub leZ-true : {x y : ℤ} → leZ x y ≡ true → x ≤ℤ y
-leZ-true e = leZ-yes (subst T (sym e) tt)
+pub leZ-true : (x y : ℤ) → leZ x y ≡ true → x ≤ℤ y
+leZ-true x y e = leZ-yes (subst T (sym e) tt)
 
-pub le-leZ : {x y : ℤ} → x ≤ℤ y → leZ x y ≡ true
-le-leZ {x} {y} h = is-true (leZ x y) (h .le)
+pub leZ-false : (x y : ℤ) → leZ x y ≡ false → y <ℤ x
+leZ-false x y e = ⊎-elim (λ w. w .1) (λ w. absurd (subst T e (w .1 .le))) (ltZ-dec y x)
 
-pub leZ-false : {x y : ℤ} → leZ x y ≡ false → y <ℤ x
-leZ-false {x} {y} e = ⊎-elim (λ w. w .1) (λ w. absurd (subst T e (w .1 .le))) (ltZ-dec y x)
+pub le-leZ : (x y : ℤ) → x ≤ℤ y → leZ x y ≡ true
+le-leZ x y h = is-true (leZ x y) (h .le)
 
-pub lt-leZ : {x y : ℤ} → y <ℤ x → leZ x y ≡ false
-lt-leZ {x} {y} h = go (leZ x y) refl
+pub lt-leZ : (x y : ℤ) → y <ℤ x → leZ x y ≡ false
+lt-leZ x y h = go (leZ x y) refl
   where
     go : (t : Bool) → leZ x y ≡ t → leZ x y ≡ false
-    go true e = clashℤ h (leZ-true e)
+    go true e = clashℤ h (leZ-true x y e)
     go false e = e

@@ -1,0 +1,21 @@
+-- By cases on the limitation.
+use mathlib.Core.Path.{ap, sym}
+use Rattle.commitment.specs.Limits.{limitKept}
+use borrow.Author.Needs.{needs}
+use Rattle.commitment.proofs.limit_kept.Statement.{statement}
+use Rattle.commitment.proofs.limit_kept.Tie as tie
+
+enum-told : tie.Need-enum-told
+enum-told c = search needs
+
+enum-known-limit : tie.Need-enum-known-limit
+enum-known-limit c = search needs
+
+returns : tie.Need-returns
+returns c = search needs
+
+returns-2 : tie.Need-returns-2
+returns-2 c = ap (limitKept (c .before .before .before .args .most)) (sym (c .before .limit .given .1))
+
+pub limit-kept-spec : {M : Type 1} → statement M
+limit-kept-spec = tie.close (tie.spec enum-told enum-known-limit returns returns-2)

@@ -1,0 +1,31 @@
+-- The four groups of fields.
+use Rattle.commitment.specs.Ranges.{rangesKept}
+use borrow.Author.Needs.{needs}
+use Rattle.commitment.proofs.ranges_kept.Statement.{statement}
+use Rattle.commitment.proofs.ranges_kept.Tie as tie
+
+sizes-kept-requires : tie.Need-sizes-kept-requires
+sizes-kept-requires c κs = search needs
+
+times-kept-requires : tie.Need-times-kept-requires
+times-kept-requires c κs = search needs
+
+costs-kept-requires : tie.Need-costs-kept-requires
+costs-kept-requires c κs = search needs
+
+limits-kept-requires : tie.Need-limits-kept-requires
+limits-kept-requires c κs = search needs
+
+returns : tie.Need-returns
+unfolding rangesKept
+returns c = cc
+
+pub ranges-kept-spec : {M : Type 1} → statement M
+ranges-kept-spec =
+    tie.close
+    (tie.spec
+    sizes-kept-requires
+    times-kept-requires
+    costs-kept-requires
+    limits-kept-requires
+    returns)

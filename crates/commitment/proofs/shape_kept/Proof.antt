@@ -1,0 +1,16 @@
+-- Sizes in range have a product that fits.
+use native.Mathlib.Nat.{mul-le-mul}
+use native.Mathlib.Omega.{arith}
+use borrow.Author.Needs.{needs}
+use Rattle.commitment.proofs.Ranges.{in-range}
+use Rattle.commitment.proofs.shape_kept.Statement.{statement}
+use Rattle.commitment.proofs.shape_kept.Tie as tie
+
+mul-result : tie.Need-mul-result
+mul-result c = let h = in-range (c .before .before .args .unit) (c .before .before .pre) in omega (arith, mul-le-mul (h .sizes .pmax-most) (h .sizes .block-most))
+
+returns : tie.Need-returns
+returns c = search needs
+
+pub shape-kept-spec : {M : Type 1} → statement M
+shape-kept-spec = tie.close (tie.spec mul-result returns)
