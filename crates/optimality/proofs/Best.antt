@@ -2,7 +2,7 @@
 use mathlib.Core.Path.{_≡_, refl, sym, ap, ap₂, _∙_, subst}
 use mathlib.Core.Bool.{Bool, true, false, cond, _&&_, _||_, false≢true}
 use mathlib.Core.List.{List, [], _∷_}
-use mathlib.Core.Logic.{_⊎_, ⊎-elim, inl, inr}
+use mathlib.Core.Logic.{_⊎_, ⊎-elim}
 use Prim.Native.Nat.{ℕ, _≤_}
 use native.Mathlib.Omega.{arith}
 use borrow.Author.Tests.{ltb-false, eqb-true, eq-eqb}
@@ -17,9 +17,10 @@ use Rattle.commitment.specs.Schedule.{isOutput}
 use Rattle.commitment.specs.Keeping.{keepsCase}
 use Rattle.commitment.specs.Profit.{profit}
 use Rattle.commitment.specs.Order.{earlier}
-use Rattle.commitment.specs.Best.{Plan, nothing, plan, outputs, candidate, best}
+use Rattle.commitment.specs.Best.{Plan, nothing, plan, outputs, best}
 use Rattle.commitment.specs.Rivals.{Rival, IsBest}
-use Rattle.optimality.proofs.Ranges.{Ranged, and-left, and-right}
+use Rattle.commitment.proofs.Conjunctions.{both}
+use Rattle.optimality.proofs.Ranges.{Ranged}
 use Rattle.optimality.proofs.Rival.{not-plan, Beats, run-length, attained, no-rival}
 use Rattle.optimality.proofs.Commit.{Status, commit, before, candidate-run, best-steps}
 use Rattle.optimality.proofs.Outputs.{outputs-ascending, all-tried, tried-all}
@@ -59,10 +60,10 @@ from-candidate false s p q e = absurd (not-plan e)
 
 module _ (u : UnitRecord) (prices : List ℤ) where
   rival-length : (r : List ℕ) → Rival u prices r → length r ≡ length prices
-  rival-length r v = eqb-true (length r) (length prices) (and-left (eqb (length r) (length prices)) (every (isOutput u) r) (v .schedule))
+  rival-length r v = eqb-true (length r) (length prices) (both (eqb (length r) (length prices)) (every (isOutput u) r) (v .schedule) .0)
 
   -- what is best is best alone
-  pub best-alone : (s t : List ℕ) (p q : ℤ) → IsBest u prices s p → IsBest u prices t q → plan s p ≡ plan t q
+  best-alone : (s t : List ℕ) (p q : ℤ) → IsBest u prices s p → IsBest u prices t q → plan s p ≡ plan t q
   best-alone s t p q a b =
       let le : profit u prices t ≤ℤ p = a .most t (b .own) in
       let ge : profit u prices s ≤ℤ q = b .most s (a .own) in
@@ -80,7 +81,7 @@ module _ (u : UnitRecord) (prices : List ℤ) where
     beats-rival r v =
         rw (best-steps u prices)
         (no-rival Status ℤ (commit u) (outputs u) (outputs-ascending u ok) prices (before u) r (profit u prices r)
-        (all-tried u ok r (and-right (eqb (length r) (length prices)) (every (isOutput u) r) (v .schedule)))
+        (all-tried u ok r (both (eqb (length r) (length prices)) (every (isOutput u) r) (v .schedule) .1))
         (sym (candidate-run u prices r (rival-length r v)) ∙ ap (λ (k : Bool). cond k (plan r (profit u prices r)) nothing) (v .kept)))
 
     plan-kept : (s : List ℕ) (p : ℤ) → best u prices ≡ plan s p → Rival u prices s × (profit u prices s ≡ p)

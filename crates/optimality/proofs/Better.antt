@@ -25,13 +25,13 @@ better-assoc (plan s p) (plan t q) (plan u r) =
     ⊎-elim
     (λ (w : (ltZ p q ≡ true) × (p <ℤ q)).
     ⊎-elim
-    (λ (v : (ltZ q r ≡ true) × (q <ℤ r)). let h : p <ℤ r = omega zarith in simp (w .0, v .0, lt-ltZ h))
+    (λ (v : (ltZ q r ≡ true) × (q <ℤ r)). let h : p <ℤ r = omega zarith in simp (w .0, v .0, lt-ltZ p r h))
     (λ (v : (ltZ q r ≡ false) × (r ≤ℤ q)). simp (w .0, v .0))
     (ltZ-dec q r))
     (λ (w : (ltZ p q ≡ false) × (q ≤ℤ p)).
     ⊎-elim
     (λ (v : (ltZ q r ≡ true) × (q <ℤ r)). simp (w .0, v .0))
-    (λ (v : (ltZ q r ≡ false) × (r ≤ℤ q)). let h : r ≤ℤ p = omega zarith in simp (w .0, v .0, le-ltZ h))
+    (λ (v : (ltZ q r ≡ false) × (r ≤ℤ q)). let h : r ≤ℤ p = omega zarith in simp (w .0, v .0, le-ltZ p r h))
     (ltZ-dec q r))
     (ltZ-dec p q)
 
@@ -45,8 +45,8 @@ best-append (x ∷ xs) ys = ap (better x) (best-append xs ys) ∙ sym (better-as
 shift-ltZ : (g p q : ℤ) → ltZ (g +ℤ p) (g +ℤ q) ≡ ltZ p q
 shift-ltZ g p q =
     ⊎-elim
-    (λ (w : (ltZ p q ≡ true) × (p <ℤ q)). lt-ltZ {x = g +ℤ p} {y = g +ℤ q} (omega (zarith, zsum g p, zsum g q)) ∙ sym (w .0))
-    (λ (w : (ltZ p q ≡ false) × (q ≤ℤ p)). le-ltZ {x = g +ℤ p} {y = g +ℤ q} (omega (zarith, zsum g p, zsum g q)) ∙ sym (w .0))
+    (λ (w : (ltZ p q ≡ true) × (p <ℤ q)). lt-ltZ (g +ℤ p) (g +ℤ q) (omega (zarith, zsum g p, zsum g q)) ∙ sym (w .0))
+    (λ (w : (ltZ p q ≡ false) × (q ≤ℤ p)). le-ltZ (g +ℤ p) (g +ℤ q) (omega (zarith, zsum g p, zsum g q)) ∙ sym (w .0))
     (ltZ-dec p q)
 
 after-cond : (m : ℕ) (g : ℤ) (t : Bool) (a b : Plan) → cond t (after m g a) (after m g b) ≡ after m g (cond t a b)

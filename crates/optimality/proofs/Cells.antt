@@ -1,10 +1,10 @@
 -- The cells' machine has the same best plan as the case: a cell counts time in state to mot or mdt, starts and on-intervals to the
 -- intervals left, and output in blocks. Because no step reads the budgets' tops, one table serves the plan and every lowered run.
-use mathlib.Core.Path.{_≡_, refl, sym, ap, _∙_, subst}
+use mathlib.Core.Path.{_≡_, refl, sym, ap, _∙_}
 use mathlib.Core.Bool.{Bool, true, false, cond, _&&_, false≢true}
-use mathlib.Core.List.{List, [], _∷_, List·Memᴰ}
+use mathlib.Core.List.{List, List·Memᴰ}
 use Prim.Native.Nat.{ℕ, zero, suc, _+_, _-_, _*_, _/_, _≤_, _<_, min}
-use native.Mathlib.Nat.{mul-div-cancel, div-one, mul-one, one-mul, mul-le-mul, mul-le-mul-left, div-mul-le-self, le-div-iff-mul-le}
+use native.Mathlib.Nat.{mul-div-cancel, div-one, mul-one, one-mul, mul-le-mul, div-mul-le-self, le-div-iff-mul-le}
 use native.Mathlib.Omega.{arith}
 use borrow.Author.Tests.{leb-true, leb-false, lt-ltb, le-ltb, eq-eqb, ne-eqb}
 use lib.Dec.{leb, ltb, eqb, leb·zero}
@@ -18,12 +18,13 @@ use Rattle.commitment.specs.Profit.{earned, startCost}
 use Rattle.commitment.specs.Best.{outputs, best}
 use Rattle.commitment.specs.Cells.{startsCount, hoursCount, mwhCount}
 use Rattle.commitment.specs.Valuing.{limited}
+use Rattle.commitment.proofs.Conjunctions.{both}
 use Rattle.optimality.specs.declared.Figures.{Figures}
 use Rattle.optimality.specs.declared.Cell.{Cell}
-use Rattle.optimality.specs.Machine.{Step, go, allow, bestFrom}
+use Rattle.optimality.specs.Machine.{go, bestFrom}
 use Rattle.optimality.specs.Cells.{takenOf, figuresWith, figuresOf, Sound, InTable, states, afterOff, afterOn, startTakes, startPays, gain, mayRun, offCell, onCell, onStep, cellStep, planAt, openingState, opening}
 use Rattle.optimality.specs.Runs.{AtMost}
-use Rattle.optimality.proofs.Ranges.{Ranged, and-left, and-right, ranged-limited}
+use Rattle.optimality.proofs.Ranges.{Ranged, ranged-limited}
 use Rattle.optimality.proofs.Commit.{affords, spend, counted, Status, status, commit, before, best-steps}
 use Rattle.optimality.proofs.Outputs.{blocks-of}
 use Rattle.optimality.proofs.Simulate.{Match, match-allow, same-best}
@@ -163,7 +164,9 @@ module _ (u : UnitRecord) (ok : Ranged u) (starts ons blocks : ℕ) where
           (go (gain f price k -ℤ pos (startPays f (x .state))) (onCell f x k))
           ((rw (t .0, t .2, starts-are, hours, mwh)) ∙ swap (leb (u .mdt) spent) (affords a 1) (affords b 1) (affords c (suc m)))
           (λ o.
-          let lasted = and-right (affords a 1) (leb (u .mdt) spent) (and-left (affords a 1 && leb (u .mdt) spent) (affords b 1) (and-left (affords a 1 && leb (u .mdt) spent && affords b 1) (affords c (suc m)) o)) in
+          let abc = both (affords a 1 && leb (u .mdt) spent && affords b 1) (affords c (suc m)) o in
+          let ab = both (affords a 1 && leb (u .mdt) spent) (affords b 1) (abc .0) in
+          let lasted = both (affords a 1) (leb (u .mdt) spent) (ab .0) .1 in
           rw (t .2, t .3, t .1 lasted)
           (ap (λ (g : ℤ). g -ℤ pos (startCost u)) e, ((omega arith, omega (arith, ok .mot)), one-spend (takenOf (u .starts)) n a (x .starts) (r .1), hours-left, mwh-left)))
 
@@ -255,12 +258,9 @@ module _ (u : UnitRecord) (ok : Ranged u) (n : ℕ) where
       hours-top None = omega arith
       hours-top (At k) = omega arith
 
-      pmax-most : u .pmax ≤ 500
-      pmax-most = omega (arith, mul-le-mul-left (u .pmax) (ok .block), mul-one (u .pmax), ok .top)
-
       mwh-top : (l : Limit) → mwhCount (limited u None None l) n ≤ 1488000
       mwh-top None = omega arith
-      mwh-top (At k) = let h′ : n * u .pmax ≤ 2976 * 500 = mul-le-mul h pmax-most in omega arith
+      mwh-top (At k) = let h′ : n * u .pmax ≤ 2976 * 500 = mul-le-mul h (ok .pmax-most) in omega arith
 
   -- the table has the opening cell of a run with limitations at most the unit's
   pub opening-in-table : (a b c : Limit) → AtMost a (u .starts) → AtMost b (u .hours) → AtMost c (u .mwh) → InTable (figuresOf u n) (opening (limited u a b c) n)

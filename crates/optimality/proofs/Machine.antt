@@ -17,7 +17,7 @@ pub map-append : {A B : Type 0} (f : A → B) (xs ys : List A) → map f (xs ++ 
 map-append f [] ys = refl
 map-append f (x ∷ xs) ys = ap (_∷_ (f x)) (map-append f xs ys)
 
-pub map-ext : {A B : Type 0} (f g : A → B) → ((x : A) → f x ≡ g x) → (xs : List A) → map f xs ≡ map g xs
+map-ext : {A B : Type 0} (f g : A → B) → ((x : A) → f x ≡ g x) → (xs : List A) → map f xs ≡ map g xs
 map-ext f g h [] = refl
 map-ext f g h (x ∷ xs) = ap₂ _∷_ (h x) (map-ext f g h xs)
 

@@ -12,7 +12,8 @@ use Rattle.commitment.specs.declared.UnitRecord.{UnitRecord}
 use Rattle.commitment.specs.Ranges.{every}
 use Rattle.commitment.specs.Schedule.{isOutput}
 use Rattle.commitment.specs.Best.{ladder, outputs}
-use Rattle.optimality.proofs.Ranges.{Ranged, and-left, and-right}
+use Rattle.commitment.proofs.Conjunctions.{both}
+use Rattle.optimality.proofs.Ranges.{Ranged}
 use Rattle.optimality.proofs.Rival.{Ascending, AllIn}
 
 -- ---- the ladder: so many rungs from the first on, a block apart
@@ -76,9 +77,11 @@ module _ (u : UnitRecord) (ok : Ranged u) where
       let whole = eqb (suc m % u .block) 0 in
       let low = leb (u .pmin * u .block) (suc m) in
       let high = leb (suc m) (u .pmax * u .block) in
-      let z = eqb-true (suc m % u .block) 0 (and-left whole low (and-left (whole && low) high e)) in
-      let lo = leb-true (u .pmin * u .block) (suc m) (and-right whole low (and-left (whole && low) high e)) in
-      let hi = leb-true (suc m) (u .pmax * u .block) (and-right (whole && low) high e) in
+      let t = both (whole && low) high e in
+      let s = both whole low (t .0) in
+      let z = eqb-true (suc m % u .block) 0 (s .0) in
+      let lo = leb-true (u .pmin * u .block) (suc m) (s .1) in
+      let hi = leb-true (suc m) (u .pmax * u .block) (t .1) in
       let k : ℕ = suc m / u .block in
       let is : k * u .block ≡ suc m = omega (arith, div-add-mod' (suc m) (u .block), z) in
       let least : u .pmin ≤ k = le-of-mul-le-mul-right {k = u .block} (omega arith) (ok .block) in
@@ -104,7 +107,8 @@ module _ (u : UnitRecord) (ok : Ranged u) where
   pub all-tried : (s : List ℕ) → every (isOutput u) s ≡ true → AllIn (outputs u) s
   all-tried [] e = tt
   all-tried (m ∷ s) e =
-      (output-tried m (and-left (isOutput u m) (every (isOutput u) s) e), all-tried s (and-right (isOutput u m) (every (isOutput u) s) e))
+      let t = both (isOutput u m) (every (isOutput u) s) e in
+      (output-tried m (t .0), all-tried s (t .1))
 
   pub tried-all : (s : List ℕ) → AllIn (outputs u) s → every (isOutput u) s ≡ true
   tried-all [] i = refl

@@ -1,5 +1,5 @@
 -- One interval of the cells' machine, in blocks: a cell's value by the values of the cells after it, and the plan's output read off them.
-use mathlib.Core.Path.{_≡_, refl, sym, ap, ap₂, _∙_, subst}
+use mathlib.Core.Path.{_≡_, refl, sym, ap, ap₂, _∙_}
 use mathlib.Core.Bool.{Bool, true, false, cond, _&&_}
 use mathlib.Core.List.{List, [], _∷_, _++_, map, List·Memᴰ, List·Memᴰ·cases-cons, List·Memᴰ·not-nil}
 use mathlib.Core.Logic.{_⊎_, ⊎-elim, inl, inr}
@@ -10,12 +10,12 @@ use borrow.Author.Tests.{ltb-true, leb-true, ne-eqb}
 use lib.Dec.{leb, ltb}
 use lib.IntN.{ℤ, pos, _-ℤ_}
 use lib.Signed.{ltZ}
-use Rattle.commitment.specs.Best.{Plan, ladder}
+use Rattle.commitment.specs.Best.{ladder}
+use Rattle.commitment.proofs.Conjunctions.{both}
 use Rattle.optimality.specs.declared.Figures.{Figures}
 use Rattle.optimality.specs.declared.Cell.{Cell}
 use Rattle.optimality.specs.Machine.{Step, go, allow, after, along, Value, noSchedule, earning, valueOf, more, most, valueAlong}
 use Rattle.optimality.specs.Cells.{Sound, InTable, states, afterOff, afterOn, startTakes, startPays, gain, mayRun, offCell, onCell, offStep, onStep, cellStep, rungs, choices, planAt, valueAt, offValue, onValue, onBest}
-use Rattle.optimality.proofs.Ranges.{and-left, and-right}
 use Rattle.optimality.proofs.Outputs.{ladder-is, blocks-join}
 use Rattle.optimality.proofs.Values.{no-earning, value-from, first-reaching}
 
@@ -58,8 +58,6 @@ pub record OnTurn (f : Figures) (price : ℤ) (prices : List ℤ) (c : Cell) (k 
 leads-on : (t : Bool) (g : ℤ) (y : Cell) (rest : Cell → Value) (p : ℤ) → valueAlong (allow t (go g y)) rest ≡ earning p → t ≡ true
 leads-on true g y rest p e = refl
 leads-on false g y rest p e = absurd (no-earning e)
-
-ruleset tests = (ltb-true, leb-true, and-left, and-right)
 
 -- the table has the cell that follows
 pub off-in-table : (f : Figures) (c : Cell) → InTable f c → afterOff f (c .state) < states f → InTable f (offCell f c)
@@ -178,11 +176,13 @@ module _ (f : Figures) (ok : Sound f) where
     on-turn off k lo hi short h =
         let room = leb (k * f .perblock) (c .blocks) in
         let t = leads-on (mayRun f c && room) (gain f price k -ℤ pos (startPays f (c .state))) (onCell f c k) (valueAt f prices) best h in
-        let run = and-left (mayRun f c) room t in
+        let all = both (mayRun f c) room t in
+        let run = both _ (leb (f .peron) (c .ons)) (all .0) in
+        let start = both (ltb (afterOn f (c .state)) (states f)) (leb (startTakes f (c .state)) (c .starts)) (run .0) in
         record {
-          leads = search tests depth 8;
-          starts = search tests depth 8;
-          ons = search tests depth 8;
-          blocks = search tests depth 8;
+          leads = ltb-true (afterOn f (c .state)) (states f) (start .0);
+          starts = leb-true (startTakes f (c .state)) (c .starts) (start .1);
+          ons = leb-true (f .peron) (c .ons) (run .1);
+          blocks = leb-true (k * f .perblock) (c .blocks) (all .1);
           is = plan-on off k lo hi short h ∙ (rw t);
         }

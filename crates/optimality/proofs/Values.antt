@@ -30,12 +30,12 @@ value-after : (m : ℕ) (g : ℤ) (a : Plan) → valueOf (after m g a) ≡ plus 
 value-after m g nothing = refl
 value-after m g (plan s p) = refl
 
-pub value-along : {State : Type 0} (m : ℕ) (t : Step State) (f : State → Plan) (v : State → Value) → ((x : State) → valueOf (f x) ≡ v x)
+value-along : {State : Type 0} (m : ℕ) (t : Step State) (f : State → Plan) (v : State → Value) → ((x : State) → valueOf (f x) ≡ v x)
     → valueOf (along m t f) ≡ valueAlong t v
 value-along m stop f v h = refl
 value-along m (go g x) f v h = value-after m g (f x) ∙ ap (plus g) (h x)
 
-pub value-most : (f : ℕ → Plan) (v : ℕ → Value) → ((m : ℕ) → valueOf (f m) ≡ v m) → (ms : List ℕ) → valueOf (firstBest (map f ms)) ≡ most (map v ms)
+value-most : (f : ℕ → Plan) (v : ℕ → Value) → ((m : ℕ) → valueOf (f m) ≡ v m) → (ms : List ℕ) → valueOf (firstBest (map f ms)) ≡ most (map v ms)
 value-most f v h [] = refl
 value-most f v h (m ∷ ms) = value-better (f m) (firstBest (map f ms)) ∙ ap₂ more (h m) (value-most f v h ms)
 
@@ -55,7 +55,7 @@ reaches a bs e = first a (firstBest bs) e
         (ltZ-dec p q)
 
 -- one that falls short is passed over
-pub falls-short : (a : Plan) (bs : List Plan) → (valueOf a ≡ valueOf (firstBest (a ∷ bs)) → ⊥) → firstBest (a ∷ bs) ≡ firstBest bs
+falls-short : (a : Plan) (bs : List Plan) → (valueOf a ≡ valueOf (firstBest (a ∷ bs)) → ⊥) → firstBest (a ∷ bs) ≡ firstBest bs
 falls-short a bs h = later a (firstBest bs) h
   where
     later : (a b : Plan) → (valueOf a ≡ valueOf (better a b) → ⊥) → better a b ≡ b

@@ -1,16 +1,14 @@
 -- Valuing: under larger limitations every rival stays one, so the best profit does not fall; hence what each outcome says. And each outcome by
 -- the values of two cells of the one table.
 use mathlib.Core.Path.{_≡_, refl, sym, ap, ap₂, _∙_, subst}
-use mathlib.Core.Bool.{Bool, true, false, _&&_}
+use mathlib.Core.Bool.{true, _&&_}
 use mathlib.Core.List.{List, [], _∷_}
 use mathlib.Core.Logic.{_↔_}
-use Prim.Native.Nat.{ℕ, zero, suc, _*_, _/_, _≤_}
-use native.Mathlib.Nat.{div-le-of-le-mul, mul-le-mul-left}
+use Prim.Native.Nat.{ℕ, zero, suc, _*_}
+use native.Mathlib.Nat.{mul-le-mul-left}
 use native.Mathlib.Omega.{arith}
 use borrow.Author.Tests.{le-leb, leb-true}
-use lib.Dec.{leb}
 use lib.IntN.{ℤ, pos, _+ℤ_, _-ℤ_}
-use lib.ListN.{length}
 use lib.Signed.{_≤ℤ_}
 use Rattle.integers.proofs.Linear.{zarith, zdiff, up-pos, dn-pos}
 use Rattle.commitment.specs.declared.Limit.{Limit}
@@ -27,9 +25,10 @@ use Rattle.commitment.specs.Profit.{earned, earnedIn, startCost, profit}
 use Rattle.commitment.specs.Best.{Plan, nothing, plan, best}
 use Rattle.commitment.specs.Rivals.{Rival, IsBest}
 use Rattle.commitment.specs.Valuing.{lowered, limited, gapOf, runsAt, valued, startsOutcome, hoursOutcome, mwhOutcome}
+use Rattle.commitment.proofs.Conjunctions.{both}
 use Rattle.optimality.specs.Runs.{AtMost}
-use Rattle.optimality.specs.Outcomes.{EmptyAt, NeverAt, GapAt, Says}
-use Rattle.optimality.proofs.Ranges.{Ranged, and-left, and-right, ranged-limited}
+use Rattle.optimality.specs.Outcomes.{Says}
+use Rattle.optimality.proofs.Ranges.{Ranged, ranged-limited}
 use Rattle.optimality.proofs.Rival.{not-plan}
 use Rattle.optimality.proofs.Best.{plan-best, no-plan, no-rivals, best-plan}
 use Rattle.optimality.proofs.Cells.{at-most-itself}
@@ -71,18 +70,19 @@ module _ (u : UnitRecord) (prices : List ℤ) (a b c a′ b′ c′ : Limit) (st
       let A = within 1 (startsIn (wasOn u) s) a in
       let B = within 4 (onIntervals s) b in
       let C = within 4 (outputSum s) c in
-      let arc = and-left (A && keepsRuns u s && keepsSpells u s && B) C (r .kept) in
-      let ars = and-left (A && keepsRuns u s && keepsSpells u s) B arc in
-      let ar = and-left (A && keepsRuns u s) (keepsSpells u s) ars in
+      let all = both (A && keepsRuns u s && keepsSpells u s && B) C (r .kept) in
+      let first = both (A && keepsRuns u s && keepsSpells u s) B (all .0) in
+      let times = both (A && keepsRuns u s) (keepsSpells u s) (first .0) in
+      let start = both A (keepsRuns u s) (times .0) in
       record {
         schedule = rw (outputs-limited u a′ b′ c′ s) (rw (outputs-limited u a b c s) at (r .schedule));
         kept =
             simp (
-              within-more 1 (startsIn (wasOn u) s) a a′ starts (and-left A (keepsRuns u s) ar),
-              and-right A (keepsRuns u s) ar,
-              and-right (A && keepsRuns u s) (keepsSpells u s) ars,
-              within-more 4 (onIntervals s) b b′ hours (and-right (A && keepsRuns u s && keepsSpells u s) B arc),
-              within-more 4 (outputSum s) c c′ mwh (and-right (A && keepsRuns u s && keepsSpells u s && B) C (r .kept)),
+              within-more 1 (startsIn (wasOn u) s) a a′ starts (start .0),
+              start .1,
+              times .1,
+              within-more 4 (onIntervals s) b b′ hours (first .1),
+              within-more 4 (outputSum s) c c′ mwh (all .1),
             );
       }
 

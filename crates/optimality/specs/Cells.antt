@@ -1,7 +1,7 @@
 -- The machine whose state is a cell of the table: time in state counted to mot or mdt, and what is left of the starts, of the on-intervals
 -- and of the output blocks. The budgets' tops are not read by any step, so a smaller limitation is the same machine at another cell.
 use mathlib.Core.Bool.{Bool, cond, _&&_}
-use mathlib.Core.List.{List, [], _∷_}
+use mathlib.Core.List.{List, _∷_}
 use Prim.Native.Nat.{ℕ, zero, suc, _+_, _-_, _*_, _/_, _≤_, _<_, min}
 use lib.Dec.{leb, ltb, eqb}
 use lib.IntN.{ℤ, pos, _-ℤ_, _*ℤ_}
