@@ -41,7 +41,7 @@ value-most f v h (m ∷ ms) = value-better (f m) (firstBest (map f ms)) ∙ ap�
 
 -- ---- the first that reaches the best
 
-pub reaches : (a : Plan) (bs : List Plan) → valueOf a ≡ valueOf (firstBest (a ∷ bs)) → firstBest (a ∷ bs) ≡ a
+reaches : (a : Plan) (bs : List Plan) → valueOf a ≡ valueOf (firstBest (a ∷ bs)) → firstBest (a ∷ bs) ≡ a
 reaches a bs e = first a (firstBest bs) e
   where
     first : (a b : Plan) → valueOf a ≡ valueOf (better a b) → better a b ≡ a
