@@ -1,45 +1,43 @@
--- The cells' machine has the same best plan as the case: a cell counts time in state to mot or mdt, starts and on-intervals to the
--- intervals left, and output in blocks. Because no step reads the budgets' tops, one table serves the plan and every lowered run.
+-- The cells' machine has the same best plan as the case, by simulation: a cell counts time in state to mot or mdt, starts and on-intervals
+-- no further than the intervals left, and output in blocks.
 use mathlib.Core.Path.{_≡_, refl, sym, ap, _∙_}
 use mathlib.Core.Bool.{Bool, true, false, cond, _&&_, false≢true}
 use mathlib.Core.List.{List, List·Memᴰ}
-use Prim.Native.Nat.{ℕ, zero, suc, _+_, _-_, _*_, _/_, _≤_, _<_, min}
-use native.Mathlib.Nat.{mul-div-cancel, div-one, mul-one, one-mul, mul-le-mul, div-mul-le-self, le-div-iff-mul-le}
+use Prim.Native.Nat.{ℕ, zero, suc, _+_, _-_, _*_, _/_, _≤_, min}
+use native.Mathlib.Nat.{mul-div-cancel}
 use native.Mathlib.Omega.{arith}
 use borrow.Author.Tests.{leb-true, leb-false, lt-ltb, le-ltb, eq-eqb, ne-eqb}
 use lib.Dec.{leb, ltb, eqb, leb·zero}
 use lib.IntN.{ℤ, pos, _-ℤ_, +ℤ-idr}
 use lib.ListN.{length}
 use Rattle.commitment.specs.declared.Limit.{Limit}
-use Rattle.commitment.specs.declared.Limit.the-variants.{None, At}
 use Rattle.commitment.specs.declared.UnitRecord.{UnitRecord}
-use Rattle.commitment.specs.Keeping.{wasOn}
 use Rattle.commitment.specs.Profit.{earned, startCost}
-use Rattle.commitment.specs.Best.{outputs, best}
-use Rattle.commitment.specs.Cells.{startsCount, hoursCount, mwhCount}
-use Rattle.commitment.specs.Valuing.{limited}
+use Rattle.commitment.specs.Best.{outputs}
 use Rattle.commitment.proofs.Conjunctions.{both}
 use Rattle.optimality.specs.declared.Figures.{Figures}
 use Rattle.optimality.specs.declared.Cell.{Cell}
 use Rattle.optimality.specs.Machine.{go, bestFrom}
-use Rattle.optimality.specs.Cells.{takenOf, figuresWith, figuresOf, Sound, InTable, states, afterOff, afterOn, startTakes, startPays, gain, mayRun, offCell, onCell, onStep, cellStep, planAt, openingState, opening}
-use Rattle.optimality.specs.Runs.{AtMost}
-use Rattle.optimality.proofs.Ranges.{Ranged, ranged-limited}
-use Rattle.optimality.proofs.Commit.{affords, spend, counted, Status, status, commit, before, best-steps}
+use Rattle.optimality.specs.Cells.{takenOf, figuresWith, states, afterOff, afterOn, startTakes, startPays, gain, mayRun, offCell, onCell, onStep, cellStep, planAt}
+use Rattle.optimality.proofs.Ranges.{Ranged}
+use Rattle.optimality.proofs.Commit.{affords, spend, Status, status, commit}
 use Rattle.optimality.proofs.Outputs.{blocks-of}
 use Rattle.optimality.proofs.Simulate.{Match, match-allow, same-best}
 use Rattle.optimality.proofs.Left.{Left, left-affords, left-spend, left-less, one-affords, one-spend, one-less}
 
 -- ---- when a status and a cell are alike, with n intervals to go
 
-abbrev Timed : UnitRecord → Bool → ℕ → ℕ → Type 0
+abbrev pub Timed : UnitRecord → Bool → ℕ → ℕ → Type 0
 Timed u true spent s = (1 ≤ spent) × (s + 1 ≡ min spent (u .mot))
 Timed u false spent s = (1 ≤ spent) × (s + 1 ≡ u .mot + min spent (u .mdt))
 
-abbrev Alike : UnitRecord → ℕ → Status → Cell → Type 0
-Alike u n (status on spent a b c) x =
-    Timed u on spent (x .state) × Left 1 1 (takenOf (u .starts)) n a (x .starts) × Left 1 1 (takenOf (u .hours)) n b (x .ons)
+abbrev Budgets : UnitRecord → ℕ → Limit → Limit → Limit → Cell → Type 0
+Budgets u n a b c x =
+    Left 1 1 (takenOf (u .starts)) n a (x .starts) × Left 1 1 (takenOf (u .hours)) n b (x .ons)
     × Left (u .block) (u .pmax) (takenOf (u .mwh)) n c (x .blocks)
+
+abbrev pub Alike : UnitRecord → ℕ → Status → Cell → Type 0
+Alike u n (status on spent a b c) x = Timed u on spent (x .state) × Budgets u n a b c x
 
 swap : (a b c d : Bool) → (a && b && c && d) ≡ (b && a && c && d)
 swap true true c d = refl
@@ -47,9 +45,9 @@ swap true false c d = refl
 swap false true c d = refl
 swap false false c d = refl
 
-module _ (u : UnitRecord) (ok : Ranged u) (starts ons blocks : ℕ) where
+module _ (u : UnitRecord) (ok : Ranged u) (a-top b-top c-top : ℕ) where
   abbrev f : Figures
-  f = figuresWith u starts ons blocks
+  f = figuresWith u a-top b-top c-top
 
   -- ---- the state after an interval
 
@@ -107,22 +105,23 @@ module _ (u : UnitRecord) (ok : Ranged u) (starts ons blocks : ℕ) where
 
   -- ---- an interval off, and on with k blocks
 
+  none-used : (n : ℕ) (a b c : Limit) (x : Cell) → Budgets u (suc n) a b c x → Budgets u n a b c x
+  none-used n a b c x r = (
+    left-less 1 1 (omega arith) (takenOf (u .starts)) n a (x .starts) (r .0),
+    left-less 1 1 (omega arith) (takenOf (u .hours)) n b (x .ons) (r .1),
+    left-less (u .block) (u .pmax) (ok .block) (takenOf (u .mwh)) n c (x .blocks) (r .2),
+  )
+
   match-off : (n : ℕ) (on : Bool) (spent : ℕ) (a b c : Limit) (x : Cell) (price : ℤ) → Alike u (suc n) (status on spent a b c) x
       → Match (Alike u n) (commit u (status on spent a b c) price 0) (cellStep f x price 0)
   match-off n true spent a b c x price r =
       let t = run-ends spent (x .state) (r .0) in
       match-allow (Alike u n) (leb (u .mot) spent) (ltb (afterOff f (x .state)) (states f)) (go (pos 0) (status false 1 a b c)) (go (pos 0) (offCell f x)) (t .0)
-      (λ i. (
-        refl,
-        ((omega arith, rw (t .1 i) (omega (arith, ok .mdt))), left-less 1 1 (omega arith) (takenOf (u .starts)) n a (x .starts) (r .1), left-less 1 1 (omega arith) (takenOf (u .hours)) n b (x .ons) (r .2), left-less (u .block) (u .pmax) (ok .block) (takenOf (u .mwh)) n c (x .blocks) (r .3)),
-      ))
+      (λ i. (refl, ((omega arith, rw (t .1 i) (omega (arith, ok .mdt))), none-used n a b c x (r .1))))
   match-off n false spent a b c x price r =
       let t = spell-goes-on spent (x .state) (r .0) in
       match-allow (Alike u n) true (ltb (afterOff f (x .state)) (states f)) (go (pos 0) (status false (suc spent) a b c)) (go (pos 0) (offCell f x)) (t .0)
-      (λ i. (
-        refl,
-        (t .1, left-less 1 1 (omega arith) (takenOf (u .starts)) n a (x .starts) (r .1), left-less 1 1 (omega arith) (takenOf (u .hours)) n b (x .ons) (r .2), left-less (u .block) (u .pmax) (ok .block) (takenOf (u .mwh)) n c (x .blocks) (r .3)),
-      ))
+      (λ i. (refl, (t .1, none-used n a b c x (r .1))))
 
   -- what the cells' machine counts in blocks
   in-blocks : (x : Cell) (price : ℤ) (m k : ℕ) → suc m ≡ k * u .block
@@ -134,41 +133,48 @@ module _ (u : UnitRecord) (ok : Ranged u) (starts ons blocks : ℕ) where
   match-on : (n : ℕ) (on : Bool) (spent : ℕ) (a b c : Limit) (x : Cell) (price : ℤ) (m k : ℕ) → suc m ≡ k * u .block → k ≤ u .pmax
       → earned u price (suc m) ≡ gain f price k → Alike u (suc n) (status on spent a b c) x
       → Match (Alike u n) (commit u (status on spent a b c) price (suc m)) (onStep f x price k)
-  match-on n on spent a b c x price m k i hk e r = case on r
+  match-on n on spent a b c x price m k i hk e r = case on (r .0)
     where
+      left : Budgets u (suc n) a b c x
+      left = r .1
+
+      starts : leb (takenOf (u .starts)) (x .starts) ≡ affords a 1
+      starts = one-affords (takenOf (u .starts)) n a (x .starts) (left .0)
+
       hours : leb (takenOf (u .hours)) (x .ons) ≡ affords b 1
-      hours = one-affords (takenOf (u .hours)) n b (x .ons) (r .2)
+      hours = one-affords (takenOf (u .hours)) n b (x .ons) (left .1)
 
       mwh : leb (k * takenOf (u .mwh)) (x .blocks) ≡ affords c (suc m)
-      mwh = left-affords (u .block) (u .pmax) (ok .block) (takenOf (u .mwh)) n k c (x .blocks) hk (r .3) ∙ ap (affords c) (sym i)
+      mwh = left-affords (u .block) (u .pmax) (ok .block) (takenOf (u .mwh)) n k c (x .blocks) hk (left .2) ∙ ap (affords c) (sym i)
 
       hours-left : Left 1 1 (takenOf (u .hours)) n (spend b 1) (x .ons - takenOf (u .hours))
-      hours-left = one-spend (takenOf (u .hours)) n b (x .ons) (r .2)
+      hours-left = one-spend (takenOf (u .hours)) n b (x .ons) (left .1)
 
       mwh-left : Left (u .block) (u .pmax) (takenOf (u .mwh)) n (spend c (suc m)) (x .blocks - k * takenOf (u .mwh))
-      mwh-left = rw i (left-spend (u .block) (u .pmax) (ok .block) (takenOf (u .mwh)) n k c (x .blocks) hk (r .3))
+      mwh-left = rw i (left-spend (u .block) (u .pmax) (ok .block) (takenOf (u .mwh)) n k c (x .blocks) hk (left .2))
 
-      case : (on : Bool) → Alike u (suc n) (status on spent a b c) x → Match (Alike u n) (commit u (status on spent a b c) price (suc m)) (onStep f x price k)
-      case true r =
-          let t = run-goes-on spent (x .state) (r .0) in
+      case : (on : Bool) → Timed u on spent (x .state) → Match (Alike u n) (commit u (status on spent a b c) price (suc m)) (onStep f x price k)
+      case true h =
+          let t = run-goes-on spent (x .state) h in
           match-allow (Alike u n) (affords b 1 && affords c (suc m)) (mayRun f x && leb (k * takenOf (u .mwh)) (x .blocks))
           (go (earned u price (suc m)) (status true (suc spent) a (spend b 1) (spend c (suc m))))
           (go (gain f price k -ℤ pos (startPays f (x .state))) (onCell f x k))
           (rw (t .0, t .2, leb·zero (x .starts), hours, mwh))
-          (λ o. rw (t .2, t .3) (e ∙ sym (+ℤ-idr (gain f price k)), (t .1, one-less (takenOf (u .starts)) n a (x .starts) (r .1), hours-left, mwh-left)))
-      case false r =
-          let t = spell-ends spent (x .state) (r .0) in
-          let starts-are = one-affords (takenOf (u .starts)) n a (x .starts) (r .1) in
+          (λ o. rw (t .2, t .3) (e ∙ sym (+ℤ-idr (gain f price k)), (t .1, (one-less (takenOf (u .starts)) n a (x .starts) (left .0), hours-left, mwh-left))))
+      case false h =
+          let t = spell-ends spent (x .state) h in
           match-allow (Alike u n) (affords a 1 && leb (u .mdt) spent && affords b 1 && affords c (suc m)) (mayRun f x && leb (k * takenOf (u .mwh)) (x .blocks))
           (go (earned u price (suc m) -ℤ pos (startCost u)) (status true 1 (spend a 1) (spend b 1) (spend c (suc m))))
           (go (gain f price k -ℤ pos (startPays f (x .state))) (onCell f x k))
-          ((rw (t .0, t .2, starts-are, hours, mwh)) ∙ swap (leb (u .mdt) spent) (affords a 1) (affords b 1) (affords c (suc m)))
+          ((rw (t .0, t .2, starts, hours, mwh)) ∙ swap (leb (u .mdt) spent) (affords a 1) (affords b 1) (affords c (suc m)))
           (λ o.
-          let abc = both (affords a 1 && leb (u .mdt) spent && affords b 1) (affords c (suc m)) o in
-          let ab = both (affords a 1 && leb (u .mdt) spent) (affords b 1) (abc .0) in
-          let lasted = both (affords a 1) (leb (u .mdt) spent) (ab .0) .1 in
-          rw (t .2, t .3, t .1 lasted)
-          (ap (λ (g : ℤ). g -ℤ pos (startCost u)) e, ((omega arith, omega (arith, ok .mot)), one-spend (takenOf (u .starts)) n a (x .starts) (r .1), hours-left, mwh-left)))
+          let all = both (affords a 1 && leb (u .mdt) spent && affords b 1) (affords c (suc m)) o in
+          let first = both (affords a 1 && leb (u .mdt) spent) (affords b 1) (all .0) in
+          let lasted = both (affords a 1) (leb (u .mdt) spent) (first .0) .1 in
+          rw (t .2, t .3, t .1 lasted) (
+            ap (λ (g : ℤ). g -ℤ pos (startCost u)) e,
+            ((omega arith, omega (arith, ok .mot)), (one-spend (takenOf (u .starts)) n a (x .starts) (left .0), hours-left, mwh-left)),
+          ))
 
   matches : (n : ℕ) (s : Status) (x : Cell) (price : ℤ) (m : ℕ) → List·Memᴰ m (outputs u) → Alike u (suc n) s x
       → Match (Alike u n) (commit u s price m) (cellStep f x price m)
@@ -179,137 +185,7 @@ module _ (u : UnitRecord) (ok : Ranged u) (starts ons blocks : ℕ) where
       rw (e .0) (match-on n on spent a b c x price m (o .0) (o .1) (o .3) (e .1) r)
 
   -- the two machines have the same best
-  same-plan : (prices : List ℤ) (s : Status) (x : Cell) → Alike u (length prices) s x
+  pub same-plan : (prices : List ℤ) (s : Status) (x : Cell) → Alike u (length prices) s x
       → bestFrom Status ℤ (commit u) (outputs u) prices s ≡ planAt f prices x
   unfolding planAt
   same-plan prices s x r = same-best Status Cell ℤ (commit u) (cellStep f) (Alike u) (outputs u) matches prices s x r
-
--- ---- the opening cell
-
-opening-time : (u : UnitRecord) → Ranged u → Timed u (wasOn u) (u .held) (openingState u)
-opening-time u ok = test (wasOn u)
-  where
-    test : (on : Bool) → Timed u on (u .held) (cond on (min (u .held) (u .mot) - 1) (u .mot + min (u .held) (u .mdt) - 1))
-    test true = (ok .held, omega (arith, ok .held, ok .mot))
-    test false = (ok .held, omega (arith, ok .held, ok .mdt))
-
-opening-alike : (u : UnitRecord) → Ranged u → (n : ℕ) → Alike u n (before u) (opening u n)
-unfolding opening
-opening-alike u ok n = (opening-time u ok, starts-left (u .starts), hours-left (u .hours), mwh-left (u .mwh))
-  where
-    starts-left : (l : Limit) → Left 1 1 (takenOf l) n (counted 1 l) (startsCount (limited u l None None) n)
-    starts-left None = refl
-    starts-left (At k) = (refl, rw (div-one (1 * k), mul-one n, one-mul k) (omega arith))
-
-    hours-left : (l : Limit) → Left 1 1 (takenOf l) n (counted 4 l) (hoursCount (limited u None l None) n)
-    hours-left None = refl
-    hours-left (At k) = (refl, rw (div-one (4 * k), mul-one n) (omega arith))
-
-    mwh-left : (l : Limit) → Left (u .block) (u .pmax) (takenOf l) n (counted 4 l) (mwhCount (limited u None None l) n)
-    mwh-left None = refl
-    mwh-left (At k) = (refl, omega arith)
-
--- ---- smaller limitations
-
-pub at-most-itself : (l : Limit) → AtMost l l
-at-most-itself None = tt
-at-most-itself (At m) = omega arith
-
-taken-same : (k l : Limit) → AtMost k l → takenOf k ≡ takenOf l
-taken-same None None h = refl
-taken-same None (At m) h = absurd h
-taken-same (At k) None h = absurd h
-taken-same (At k) (At m) h = refl
-
-module _ (u : UnitRecord) (ok : Ranged u) (n : ℕ) where
-  -- the figures are within the table's ranges
-  pub figures-sound : n ≤ 2976 → Sound (figuresOf u n)
-  unfolding figuresOf
-  figures-sound h =
-      record {
-        block = ok .block;
-        pmin = ok .pmin;
-        pmax = ok .pmax;
-        top = ok .top;
-        mot = ok .mot;
-        mot-most = ok .mot-most;
-        mdt = ok .mdt;
-        mdt-most = ok .mdt-most;
-        vec = ok .vec;
-        mlc = ok .mlc;
-        suc = ok .suc;
-        perstart = taken (u .starts);
-        peron = taken (u .hours);
-        perblock = taken (u .mwh);
-        starts = starts-top (u .starts);
-        ons = hours-top (u .hours);
-        blocks = mwh-top (u .mwh);
-      }
-    where
-      taken : (l : Limit) → takenOf l ≤ 1
-      taken None = omega arith
-      taken (At k) = omega arith
-
-      starts-top : (l : Limit) → startsCount (limited u l None None) n ≤ 2976
-      starts-top None = omega arith
-      starts-top (At k) = omega arith
-
-      hours-top : (l : Limit) → hoursCount (limited u None l None) n ≤ 2976
-      hours-top None = omega arith
-      hours-top (At k) = omega arith
-
-      mwh-top : (l : Limit) → mwhCount (limited u None None l) n ≤ 1488000
-      mwh-top None = omega arith
-      mwh-top (At k) = let h′ : n * u .pmax ≤ 2976 * 500 = mul-le-mul h (ok .pmax-most) in omega arith
-
-  -- the table has the opening cell of a run with limitations at most the unit's
-  pub opening-in-table : (a b c : Limit) → AtMost a (u .starts) → AtMost b (u .hours) → AtMost c (u .mwh) → InTable (figuresOf u n) (opening (limited u a b c) n)
-  unfolding figuresOf opening
-  opening-in-table a b c i j k =
-      record {
-        state = state (wasOn u);
-        starts = starts-top a (u .starts) i;
-        ons = hours-top b (u .hours) j;
-        blocks = mwh-top c (u .mwh) k;
-      }
-    where
-      state : (on : Bool) → cond on (min (u .held) (u .mot) - 1) (u .mot + min (u .held) (u .mdt) - 1) < u .mot + u .mdt
-      state true = omega (arith, ok .mot, ok .mdt)
-      state false = omega (arith, ok .mot, ok .mdt)
-
-      starts-top : (k l : Limit) → AtMost k l → startsCount (limited u k None None) n ≤ startsCount (limited u l None None) n
-      starts-top None None h = omega arith
-      starts-top None (At m) h = absurd h
-      starts-top (At k) None h = absurd h
-      starts-top (At k) (At m) h = omega arith
-
-      hours-top : (k l : Limit) → AtMost k l → hoursCount (limited u None k None) n ≤ hoursCount (limited u None l None) n
-      hours-top None None h = omega arith
-      hours-top None (At m) h = absurd h
-      hours-top (At k) None h = absurd h
-      hours-top (At k) (At m) h = omega arith
-
-      mwh-top : (k l : Limit) → AtMost k l → mwhCount (limited u None None k) n ≤ mwhCount (limited u None None l) n
-      mwh-top None None h = omega arith
-      mwh-top None (At m) h = absurd h
-      mwh-top (At k) None h = absurd h
-      mwh-top (At k) (At m) h = let d : 4 * k / u .block ≤ 4 * m / u .block = le-div-iff-mul-le (ok .block) .1 (omega (arith, div-mul-le-self (4 * k) (u .block))) in omega arith
-
--- the best plan under smaller limitations is that of another cell of the same table
-pub best-lowered : (u : UnitRecord) → Ranged u → (prices : List ℤ) (a b c : Limit) → AtMost a (u .starts) → AtMost b (u .hours) → AtMost c (u .mwh)
-    → best (limited u a b c) prices ≡ planAt (figuresOf u (length prices)) prices (opening (limited u a b c) (length prices))
-unfolding figuresOf
-best-lowered u ok prices a b c i j k =
-    let n = length prices in
-    let v : UnitRecord = limited u a b c in
-    let same : figuresWith v (startsCount u n) (hoursCount u n) (mwhCount u n) ≡ figuresOf u n =
-    rw (taken-same a (u .starts) i, taken-same b (u .hours) j, taken-same c (u .mwh) k) in
-    best-steps v prices
-    ∙ same-plan v (ranged-limited u a b c ok) (startsCount u n) (hoursCount u n) (mwhCount u n) prices (before v) (opening v n)
-    (opening-alike v (ranged-limited u a b c ok) n)
-    ∙ ap (λ (f : Figures). planAt f prices (opening v n)) same
-
--- the best plan is that of the opening cell
-pub best-cell : (u : UnitRecord) → Ranged u → (prices : List ℤ) → best u prices ≡ planAt (figuresOf u (length prices)) prices (opening u (length prices))
-best-cell u ok prices =
-    best-lowered u ok prices (u .starts) (u .hours) (u .mwh) (at-most-itself (u .starts)) (at-most-itself (u .hours)) (at-most-itself (u .mwh))

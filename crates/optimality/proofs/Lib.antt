@@ -8,6 +8,7 @@ pub mod Best
 pub mod Simulate
 pub mod Left
 pub mod Cells
+pub mod Opening
 pub mod Values
 pub mod Turns
 pub mod Valuing

@@ -15,7 +15,7 @@ use Rattle.optimality.specs.Machine.{Value, valueOf}
 use Rattle.optimality.specs.Cells.{figuresOf, InTable, valueAt, opening}
 use Rattle.optimality.specs.Runs.{AtMost, startsCell, hoursCell, mwhCell, gapBetween, outcomeAt, outcomeBy}
 use Rattle.optimality.proofs.Ranges.{Ranged}
-use Rattle.optimality.proofs.Cells.{at-most-itself, opening-in-table, best-lowered}
+use Rattle.optimality.proofs.Opening.{at-most-itself, opening-in-table, best-lowered}
 use Rattle.optimality.proofs.Turns.{plan-value}
 
 pub lowered-less : (n : ℕ) → lowered n ≤ n

@@ -31,7 +31,7 @@ use Rattle.optimality.specs.Outcomes.{Says}
 use Rattle.optimality.proofs.Ranges.{Ranged, ranged-limited}
 use Rattle.optimality.proofs.Rival.{not-plan}
 use Rattle.optimality.proofs.Best.{plan-best, no-plan, no-rivals, best-plan}
-use Rattle.optimality.proofs.Cells.{at-most-itself}
+use Rattle.optimality.proofs.Opening.{at-most-itself}
 
 -- ---- larger limitations
 
