@@ -15,7 +15,7 @@ use Rattle.commitment.specs.declared.UnitRecord.{UnitRecord}
 use Rattle.commitment.specs.Ranges.{rangesKept, shapeKept}
 use Rattle.commitment.specs.Profit.{profit}
 use Rattle.commitment.specs.Order.{earlier}
-use Rattle.commitment.specs.Best.{nothing, plan, firstBest, lists, best}
+use Rattle.commitment.specs.Best.{nothing, plan, firstBest, lists, outputs, best}
 use Rattle.commitment.specs.Rivals.{Rival, IsBest}
 use Rattle.commitment.specs.Valuing.{limited, startsOutcome, hoursOutcome, mwhOutcome}
 use Rattle.optimality.specs.Machine.{Step, along, run, bestFrom, valueOf, valueAlong, valueFrom}
@@ -23,28 +23,12 @@ use Rattle.optimality.specs.Cells.{figuresOf, opening, planAt}
 use Rattle.optimality.specs.Outcomes.{Says}
 use Rattle.optimality.specs.Runs.{AtMost}
 use Rattle.optimality.proofs.Machine as machine
+use Rattle.optimality.proofs.Commit.{Status, commit, before, best-steps}
 use Rattle.optimality.proofs.Values as values
 use Rattle.optimality.proofs.Ranges.{ranged}
 use Rattle.optimality.proofs.Best as best-of
 use Rattle.optimality.proofs.Opening as opening-cell
 use Rattle.optimality.proofs.Valuing as valuing
-
--- the best of all lists of outputs is found step by step, for any machine and whatever an interval brings
-pub step-by-step : (State Input : Type 0) (step : State → Input → ℕ → Step State) (outputs : List ℕ) (inputs : List Input) (x : State)
-    → firstBest (map (run State Input step inputs x) (lists outputs (length inputs))) ≡ bestFrom State Input step outputs inputs x
-step-by-step = machine.optimal
-
--- the best profit is found without the plan, and the first output that reaches the best remaining profit is the plan's
-pub profit-alone : (State Input : Type 0) (step : State → Input → ℕ → Step State) (outputs : List ℕ) (inputs : List Input) (x : State)
-    → valueOf (bestFrom State Input step outputs inputs x) ≡ valueFrom State Input step outputs inputs x
-profit-alone = values.value-from
-
-pub first-that-reaches : (State Input : Type 0) (step : State → Input → ℕ → Step State) (outputs : List ℕ) (i : Input) (is : List Input) (x : State)
-    (passed : List ℕ) (m : ℕ) (later : List ℕ) → outputs ≡ passed ++ (m ∷ later)
-    → ((n : ℕ) → List·Memᴰ n passed → valueAlong (step x i n) (valueFrom State Input step outputs is) ≡ valueFrom State Input step outputs (i ∷ is) x → ⊥)
-    → valueAlong (step x i m) (valueFrom State Input step outputs is) ≡ valueFrom State Input step outputs (i ∷ is) x
-    → bestFrom State Input step outputs (i ∷ is) x ≡ along m (step x i m) (bestFrom State Input step outputs is)
-first-that-reaches = values.first-reaching
 
 module _ (u : UnitRecord) (ranges : rangesKept u ≡ true) (shape : shapeKept u ≡ true) (prices : List ℤ) where
   -- ---- the plan
@@ -94,3 +78,26 @@ module _ (u : UnitRecord) (ranges : rangesKept u ≡ true) (shape : shapeKept u 
   pub one-table : (a b c : Limit) → AtMost a (u .starts) → AtMost b (u .hours) → AtMost c (u .mwh)
       → best (limited u a b c) prices ≡ planAt (figuresOf u (length prices)) prices (opening (limited u a b c) (length prices))
   one-table = opening-cell.best-lowered u (ranged u ranges shape) prices
+
+-- ---- how it is found
+
+-- the best of all lists of outputs is found step by step, for any machine and whatever an interval brings
+pub step-by-step : (State Input : Type 0) (step : State → Input → ℕ → Step State) (outputs : List ℕ) (inputs : List Input) (x : State)
+    → firstBest (map (run State Input step inputs x) (lists outputs (length inputs))) ≡ bestFrom State Input step outputs inputs x
+step-by-step = machine.optimal
+
+-- and the case is such a machine: on or off, for how long, and what is left of each limitation
+pub case-step-by-step : (u : UnitRecord) (prices : List ℤ) → best u prices ≡ bestFrom Status ℤ (commit u) (outputs u) prices (before u)
+case-step-by-step = best-steps
+
+-- the best profit is found without the plan, and the first output that reaches the best remaining profit is the plan's
+pub profit-alone : (State Input : Type 0) (step : State → Input → ℕ → Step State) (outputs : List ℕ) (inputs : List Input) (x : State)
+    → valueOf (bestFrom State Input step outputs inputs x) ≡ valueFrom State Input step outputs inputs x
+profit-alone = values.value-from
+
+pub first-that-reaches : (State Input : Type 0) (step : State → Input → ℕ → Step State) (outputs : List ℕ) (i : Input) (is : List Input) (x : State)
+    (passed : List ℕ) (m : ℕ) (later : List ℕ) → outputs ≡ passed ++ (m ∷ later)
+    → ((n : ℕ) → List·Memᴰ n passed → valueAlong (step x i n) (valueFrom State Input step outputs is) ≡ valueFrom State Input step outputs (i ∷ is) x → ⊥)
+    → valueAlong (step x i m) (valueFrom State Input step outputs is) ≡ valueFrom State Input step outputs (i ∷ is) x
+    → bestFrom State Input step outputs (i ∷ is) x ≡ along m (step x i m) (bestFrom State Input step outputs is)
+first-that-reaches = values.first-reaching
