@@ -1,0 +1,203 @@
+-- The case as a machine of steps with exact counters: a list of outputs that keeps the case is a run of it, and earns what the run earns.
+-- So the best of all schedules is found step by step.
+use mathlib.Core.Path.{_≡_, refl, sym, ap, ap₂, _∙_}
+use mathlib.Core.Bool.{Bool, true, false, cond, _&&_, and-false}
+use mathlib.Core.List.{List, [], _∷_, _++_, map}
+use Prim.Native.Nat.{ℕ, zero, suc, _+_, _-_, _*_}
+use native.Mathlib.Nat.{zero-add, mul-zero}
+use native.Mathlib.Numerals.{one-add}
+use native.Mathlib.Omega.{arith}
+use borrow.Author.Tests.{le-leb, lt-leb, leb-true, leb-false}
+use lib.Dec.{leb, leb·zero}
+use lib.IntN.{ℤ, pos, _+ℤ_, _-ℤ_}
+use lib.ListN.{length}
+use Rattle.integers.proofs.Linear.{zarith, zsum, zdiff, up-pos, dn-pos}
+use Rattle.commitment.specs.declared.Limit.{Limit}
+use Rattle.commitment.specs.declared.Limit.the-variants.{None, At}
+use Rattle.commitment.specs.declared.UnitRecord.{UnitRecord}
+use Rattle.commitment.specs.Limits.{within}
+use Rattle.commitment.specs.Keeping.{wasOn, startsIn, runsLast, spellsLast, onIntervals, outputSum}
+use Rattle.commitment.specs.Profit.{earned, earnedIn, startCost}
+use Rattle.commitment.specs.Best.{Plan, nothing, plan, firstBest, prefixed, lists, candidate, outputs, best}
+use Rattle.optimality.specs.Machine.{Step, go, allow, after, along, run, bestFrom}
+use Rattle.optimality.proofs.Machine.{map-map, map-append, along-ext, optimal}
+
+-- ---- what is left of a limitation
+
+abbrev pub affords : Limit → ℕ → Bool
+affords None n = true
+affords (At left) n = leb n left
+
+abbrev pub spend : Limit → ℕ → Limit
+spend None n = None
+spend (At left) n = At (left - n)
+
+-- in counts, of which a unit of the limitation is worth so many
+abbrev pub counted : ℕ → Limit → Limit
+counted unit None = None
+counted unit (At limit) = At (unit * limit)
+
+within-counted : (unit n : ℕ) (l : Limit) → within unit n l ≡ affords (counted unit l) n
+within-counted unit n None = refl
+within-counted unit n (At limit) = refl
+
+affords-none : (l : Limit) → affords l 0 ≡ true
+affords-none None = refl
+affords-none (At left) = leb·zero left
+
+-- some, and then some more
+affords-sum : (l : Limit) (j n : ℕ) → affords l (j + n) ≡ (affords l j && affords (spend l j) n)
+affords-sum None j n = refl
+affords-sum (At left) j n = test (leb j left) refl (leb n (left - j)) refl
+  where
+    test : (s : Bool) → leb j left ≡ s → (t : Bool) → leb n (left - j) ≡ t → leb (j + n) left ≡ (leb j left && leb n (left - j))
+    test true e true f = simp (e, f, le-leb (j + n) left (omega (arith, leb-true j left e, leb-true n (left - j) f)))
+    test true e false f = simp (e, f, lt-leb (j + n) left (omega (arith, leb-true j left e, leb-false n (left - j) f)))
+    test false e t f = simp (e, lt-leb (j + n) left (omega (arith, leb-false j left e)))
+
+affords-one : (l : Limit) (n : ℕ) → affords l (suc n) ≡ (affords l 1 && affords (spend l 1) n)
+affords-one l n = ap (affords l) (sym (one-add n)) ∙ affords-sum l 1 n
+
+-- ---- the machine: on or off, for how long, and what is left of the starts, the on-intervals and the outputs
+
+pub data Status : Type 0 where
+  status : Bool → ℕ → Limit → Limit → Limit → Status
+
+abbrev pub commit : UnitRecord → Status → ℤ → ℕ → Step Status
+commit u (status true spent a b c) price zero = allow (leb (u .mot) spent) (go (pos 0) (status false 1 a b c))
+commit u (status false spent a b c) price zero = go (pos 0) (status false (suc spent) a b c)
+commit u (status true spent a b c) price (suc m) =
+    allow (affords b 1 && affords c (suc m)) (go (earned u price (suc m)) (status true (suc spent) a (spend b 1) (spend c (suc m))))
+commit u (status false spent a b c) price (suc m) =
+    allow (affords a 1 && leb (u .mdt) spent && affords b 1 && affords c (suc m))
+    (go (earned u price (suc m) -ℤ pos (startCost u)) (status true 1 (spend a 1) (spend b 1) (spend c (suc m))))
+
+-- before interval 1
+abbrev pub before : UnitRecord → Status
+before u = status (wasOn u) (u .held) (counted 1 (u .starts)) (counted 4 (u .hours)) (counted 4 (u .mwh))
+
+-- ---- keeping the case and earning, from any status
+
+abbrev keepsFrom : UnitRecord → Status → List ℕ → Bool
+keepsFrom u (status on spent a b c) s =
+    affords a (startsIn on s) && runsLast (u .mot) on spent s && spellsLast (u .mdt) on spent s && affords b (onIntervals s) && affords c (outputSum s)
+
+abbrev profitFrom : UnitRecord → Status → List ℤ → List ℕ → ℤ
+profitFrom u (status on spent a b c) prices s = earnedIn u prices s -ℤ pos (startCost u * startsIn on s)
+
+abbrev candidateFrom : UnitRecord → List ℤ → List ℕ → Status → Plan
+candidateFrom u prices s x = cond (keepsFrom u x s) (plan s (profitFrom u x prices s)) nothing
+
+-- ---- the tests of the first interval, pulled to the front; what it earns, likewise
+
+pull-off : (t A R S B C : Bool) → (A && (t && R) && S && B && C) ≡ (t && (A && R && S && B && C))
+pull-off true A R S B C = refl
+pull-off false A R S B C = simp and-false
+
+pull-on : (b c A R S B C : Bool) → (A && R && S && (b && B) && (c && C)) ≡ (b && c && (A && R && S && B && C))
+pull-on true true A R S B C = refl
+pull-on true false A R S B C = simp and-false
+pull-on false c A R S B C = simp and-false
+
+pull-start : (a t b c A R S B C : Bool) → (a && A && R && (t && S) && (b && B) && (c && C)) ≡ (a && t && b && c && (A && R && S && B && C))
+pull-start true true true true A R S B C = refl
+pull-start true true true false A R S B C = simp and-false
+pull-start true true false c A R S B C = simp and-false
+pull-start true false b c A R S B C = simp and-false
+pull-start false t b c A R S B C = refl
+
+earn-on : (e r : ℤ) (x : ℕ) → e +ℤ r -ℤ pos x ≡ e +ℤ (r -ℤ pos x)
+earn-on e r x = omega (zarith, zsum e r, zdiff (e +ℤ r) (pos x), zdiff r (pos x), zsum e (r -ℤ pos x))
+
+earn-start : (e r : ℤ) (k n : ℕ) → e +ℤ r -ℤ pos (k * suc n) ≡ (e -ℤ pos k) +ℤ (r -ℤ pos (k * n))
+earn-start e r k n =
+    omega (
+      zarith,
+      zsum e r,
+      zdiff (e +ℤ r) (pos (k * suc n)),
+      zdiff e (pos k),
+      zdiff r (pos (k * n)),
+      zsum (e -ℤ pos k) (r -ℤ pos (k * n)),
+      up-pos (k * suc n),
+      dn-pos (k * suc n),
+      up-pos k,
+      dn-pos k,
+      up-pos (k * n),
+      dn-pos (k * n),
+    )
+
+-- ---- one interval in front
+
+allowed : (t k : Bool) (m : ℕ) (g p : ℤ) (s : List ℕ) (y : Status) (f : Status → Plan) → f y ≡ cond k (plan s p) nothing
+    → cond (t && k) (plan (m ∷ s) (g +ℤ p)) nothing ≡ along m (allow t (go g y)) f
+allowed true true m g p s y f e = ap (after m g) (sym e)
+allowed true false m g p s y f e = ap (after m g) (sym e)
+allowed false k m g p s y f e = refl
+
+module _ (u : UnitRecord) where
+  -- an interval whose test is t, that earns g and leads from x to y
+  interval : (x y : Status) (t : Bool) (g price : ℤ) (prices : List ℤ) (m : ℕ) (s : List ℕ)
+      → keepsFrom u x (m ∷ s) ≡ (t && keepsFrom u y s)
+      → profitFrom u x (price ∷ prices) (m ∷ s) ≡ g +ℤ profitFrom u y prices s
+      → candidateFrom u (price ∷ prices) (m ∷ s) x ≡ along m (allow t (go g y)) (candidateFrom u prices s)
+  interval x y t g price prices m s keeps earns =
+      ap₂ (λ (k : Bool) (p : ℤ). cond k (plan (m ∷ s) p) nothing) keeps earns
+      ∙ allowed t (keepsFrom u y s) m g (profitFrom u y prices s) s y (candidateFrom u prices s) refl
+
+  one-step : (x : Status) (price : ℤ) (prices : List ℤ) (m : ℕ) (s : List ℕ)
+      → candidateFrom u (price ∷ prices) (m ∷ s) x ≡ along m (commit u x price m) (candidateFrom u prices s)
+  one-step (status true spent a b c) price prices zero s =
+      interval (status true spent a b c) (status false 1 a b c) (leb (u .mot) spent) (pos 0) price prices 0 s
+      (rw (zero-add (outputSum s))
+      (pull-off (leb (u .mot) spent) (affords a (startsIn false s)) (runsLast (u .mot) false 1 s) (spellsLast (u .mdt) false 1 s) (affords b (onIntervals s)) (affords c (outputSum s))))
+      (earn-on (pos 0) (earnedIn u prices s) (startCost u * startsIn false s))
+  one-step (status false spent a b c) price prices zero s =
+      interval (status false spent a b c) (status false (suc spent) a b c) true (pos 0) price prices 0 s (rw (zero-add (outputSum s)))
+      (earn-on (pos 0) (earnedIn u prices s) (startCost u * startsIn false s))
+  one-step (status true spent a b c) price prices (suc m) s =
+      interval (status true spent a b c) (status true (suc spent) a (spend b 1) (spend c (suc m))) (affords b 1 && affords c (suc m)) (earned u price (suc m)) price prices (suc m) s
+      (rw (affords-one b (onIntervals s), affords-sum c (suc m) (outputSum s))
+      (pull-on (affords b 1) (affords c (suc m)) (affords a (startsIn true s)) (runsLast (u .mot) true (suc spent) s) (spellsLast (u .mdt) true (suc spent) s) (affords (spend b 1) (onIntervals s)) (affords (spend c (suc m)) (outputSum s))))
+      (earn-on (earned u price (suc m)) (earnedIn u prices s) (startCost u * startsIn true s))
+  one-step (status false spent a b c) price prices (suc m) s =
+      interval (status false spent a b c) (status true 1 (spend a 1) (spend b 1) (spend c (suc m))) (affords a 1 && leb (u .mdt) spent && affords b 1 && affords c (suc m))
+      (earned u price (suc m) -ℤ pos (startCost u)) price prices (suc m) s
+      (rw (affords-one a (startsIn true s), affords-one b (onIntervals s), affords-sum c (suc m) (outputSum s))
+      (pull-start (affords a 1) (leb (u .mdt) spent) (affords b 1) (affords c (suc m)) (affords (spend a 1) (startsIn true s)) (runsLast (u .mot) true 1 s) (spellsLast (u .mdt) true 1 s) (affords (spend b 1) (onIntervals s)) (affords (spend c (suc m)) (outputSum s))))
+      (earn-start (earned u price (suc m)) (earnedIn u prices s) (startCost u) (startsIn true s))
+
+  at-end : (x : Status) → candidateFrom u [] [] x ≡ plan [] (pos 0)
+  at-end (status on spent a b c) = simp (affords-none a, affords-none b, affords-none c, mul-zero)
+
+  -- ---- the whole list
+
+  run-from : (prices : List ℤ) (s : List ℕ) (x : Status) → length s ≡ length prices → candidateFrom u prices s x ≡ run Status ℤ (commit u) prices x s
+  run-from [] [] x e = at-end x
+  run-from [] (m ∷ s) x e = absurd (omega arith)
+  run-from (price ∷ prices) [] x e = absurd (omega arith)
+  run-from (price ∷ prices) (m ∷ s) x e =
+      one-step x price prices m s
+      ∙ along-ext m (commit u x price m) (candidateFrom u prices s) (λ y. run Status ℤ (commit u) prices y s) (λ y. run-from prices s y (omega arith))
+
+  -- a list of outputs, one for each interval, is a candidate exactly where it is a run
+  pub candidate-run : (prices : List ℤ) (s : List ℕ) → length s ≡ length prices → candidate u prices s ≡ run Status ℤ (commit u) prices (before u) s
+  candidate-run prices s e = simp within-counted (run-from prices s (before u) e)
+
+-- two functions that agree on lists of one length agree on all lists of so many outputs
+lists-ext : (ms : List ℕ) (n : ℕ) (f g : List ℕ → Plan) → ((s : List ℕ) → length s ≡ n → f s ≡ g s) → map f (lists ms n) ≡ map g (lists ms n)
+lists-ext ms zero f g h = ap (λ (a : Plan). a ∷ []) (h [] refl)
+lists-ext ms (suc n) f g h = each (λ m. lists-ext ms n (λ s. f (m ∷ s)) (λ s. g (m ∷ s)) (λ s e. h (m ∷ s) (ap suc e))) ms
+  where
+    each : ((m : ℕ) → map (λ s. f (m ∷ s)) (lists ms n) ≡ map (λ s. g (m ∷ s)) (lists ms n)) → (js : List ℕ)
+        → map f (prefixed js (lists ms n)) ≡ map g (prefixed js (lists ms n))
+    each k [] = refl
+    each k (j ∷ js) =
+        map-append f (map (λ s. j ∷ s) (lists ms n)) (prefixed js (lists ms n))
+        ∙ ap₂ _++_ (map-map f (λ s. j ∷ s) (lists ms n) ∙ k j ∙ sym (map-map g (λ s. j ∷ s) (lists ms n))) (each k js)
+        ∙ sym (map-append g (map (λ s. j ∷ s) (lists ms n)) (prefixed js (lists ms n)))
+
+-- the best of all schedules is found step by step
+pub best-steps : (u : UnitRecord) (prices : List ℤ) → best u prices ≡ bestFrom Status ℤ (commit u) (outputs u) prices (before u)
+best-steps u prices =
+    ap firstBest (lists-ext (outputs u) (length prices) (candidate u prices) (run Status ℤ (commit u) prices (before u)) (λ s e. candidate-run u prices s e))
+    ∙ optimal Status ℤ (commit u) (outputs u) prices (before u)

@@ -1,0 +1,16 @@
+pub mod Better
+pub mod Machine
+pub mod Rival
+pub mod Commit
+pub mod Ranges
+pub mod Outputs
+pub mod Best
+pub mod Simulate
+pub mod Left
+pub mod Cells
+pub mod Opening
+pub mod Values
+pub mod Turns
+pub mod Valuing
+pub mod Runs
+pub mod Demands

@@ -1,0 +1,44 @@
+-- Two machines that match step by step have the same best plan.
+use mathlib.Core.Path.{_≡_, refl, ap, ap₂}
+use mathlib.Core.Bool.{Bool, true, false}
+use mathlib.Core.List.{List, [], _∷_, map, List·Memᴰ, List·Memᴰ·head, List·Memᴰ·tail}
+use Prim.Native.Nat.{ℕ, suc}
+use lib.IntN.{ℤ}
+use lib.ListN.{length}
+use Rattle.commitment.specs.Best.{Plan, firstBest}
+use Rattle.optimality.specs.Machine.{Step, stop, go, allow, after, along, bestFrom}
+
+-- both steps are not allowed, or both earn the same and lead to states that are alike
+abbrev pub Match : {A B : Type 0} → (A → B → Type 0) → Step A → Step B → Type 0
+Match Alike stop stop = Unit {0}
+Match Alike stop (go g y) = ⊥
+Match Alike (go g x) stop = ⊥
+Match Alike (go g x) (go g′ y) = (g ≡ g′) × Alike x y
+
+pub match-allow : {A B : Type 0} (Alike : A → B → Type 0) (s t : Bool) (x : Step A) (y : Step B) → t ≡ s → (s ≡ true → Match Alike x y)
+    → Match Alike (allow s x) (allow t y)
+match-allow Alike true t x y e h = rw e (h refl)
+match-allow Alike false t x y e h = rw e tt
+
+map-same : {B : Type 0} (f g : ℕ → B) (ms : List ℕ) → ((m : ℕ) → List·Memᴰ m ms → f m ≡ g m) → map f ms ≡ map g ms
+map-same f g [] h = refl
+map-same f g (m ∷ ms) h = ap₂ _∷_ (h m (List·Memᴰ·head refl)) (map-same f g ms (λ n i. h n (List·Memᴰ·tail i)))
+
+along-match : {A B : Type 0} (Alike : A → B → Type 0) (m : ℕ) (s : Step A) (t : Step B) (f : A → Plan) (g : B → Plan) → Match Alike s t
+    → ((x : A) (y : B) → Alike x y → f x ≡ g y) → along m s f ≡ along m t g
+along-match Alike m stop stop f g h k = refl
+along-match Alike m stop (go e y) f g h k = absurd h
+along-match Alike m (go e x) stop f g h k = absurd h
+along-match Alike m (go e x) (go e′ y) f g h k = ap₂ (λ (z : ℤ) (a : Plan). after m z a) (h .0) (k x y (h .1))
+
+-- `Alike n` says that two states are alike with n intervals to go
+module _ (A B Input : Type 0) (one : A → Input → ℕ → Step A) (two : B → Input → ℕ → Step B) (Alike : ℕ → A → B → Type 0) (outputs : List ℕ)
+    (match : (n : ℕ) (x : A) (y : B) (i : Input) (m : ℕ) → List·Memᴰ m outputs → Alike (suc n) x y → Match (Alike n) (one x i m) (two y i m)) where
+  pub same-best : (is : List Input) (x : A) (y : B) → Alike (length is) x y → bestFrom A Input one outputs is x ≡ bestFrom B Input two outputs is y
+  same-best [] x y h = refl
+  same-best (i ∷ is) x y h =
+      let f = bestFrom A Input one outputs is in
+      let g = bestFrom B Input two outputs is in
+      ap firstBest
+      (map-same (λ m. along m (one x i m) f) (λ m. along m (two y i m) g) outputs
+      (λ m mem. along-match (Alike (length is)) m (one x i m) (two y i m) f g (match (length is) x y i m mem h) (λ x′ y′ h′. same-best is x′ y′ h′)))

@@ -1,0 +1,202 @@
+-- One interval of the cells' machine, in blocks: a cell's value by the values of the cells after it, and the plan's output read off them.
+use mathlib.Core.Path.{_≡_, refl, sym, ap, ap₂, _∙_}
+use mathlib.Core.Bool.{Bool, true, false, cond, _&&_}
+use mathlib.Core.List.{List, [], _∷_, _++_, map, List·Memᴰ, List·Memᴰ·cases-cons, List·Memᴰ·not-nil}
+use mathlib.Core.Logic.{_⊎_, ⊎-elim, inl, inr}
+use Prim.Native.Nat.{ℕ, zero, suc, _+_, _-_, _*_, _/_, _≤_, _<_}
+use native.Mathlib.Nat.{mul-div-cancel, mul-le-mul}
+use native.Mathlib.Omega.{arith}
+use borrow.Author.Tests.{ltb-true, leb-true, ne-eqb}
+use lib.Dec.{leb, ltb}
+use lib.IntN.{ℤ, pos, _-ℤ_}
+use lib.Signed.{ltZ}
+use Rattle.commitment.specs.Best.{Plan, nothing, plan, ladder}
+use Rattle.commitment.proofs.Conjunctions.{both}
+use Rattle.optimality.specs.declared.Figures.{Figures}
+use Rattle.optimality.specs.declared.Cell.{Cell}
+use Rattle.optimality.specs.Machine.{Step, go, allow, after, along, Value, noSchedule, earning, valueOf, more, most, valueAlong}
+use Rattle.optimality.specs.Cells.{Sound, InTable, states, afterOff, afterOn, startTakes, startPays, gain, mayRun, offCell, onCell, offStep, onStep, cellStep, rungs, choices, planAt, valueAt, offValue, onValue, onBest}
+use Rattle.optimality.proofs.Outputs.{ladder-is, blocks-join}
+use Rattle.optimality.proofs.Values.{no-earning, value-from, first-reaching}
+
+-- the best plan's profit is the value
+pub plan-value : (f : Figures) (prices : List ℤ) (c : Cell) → valueOf (planAt f prices c) ≡ valueAt f prices c
+unfolding planAt valueAt
+plan-value f prices c = value-from Cell ℤ (cellStep f) (choices f) prices c
+
+pub plan-none : (f : Figures) (prices : List ℤ) (c : Cell) → valueAt f prices c ≡ noSchedule → planAt f prices c ≡ nothing
+plan-none f prices c e = see (planAt f prices c) (plan-value f prices c ∙ e)
+  where
+    see : (a : Plan) → valueOf a ≡ noSchedule → a ≡ nothing
+    see nothing h = refl
+    see (plan s p) h = absurd (no-earning (sym h))
+
+pub plan-some : (f : Figures) (prices : List ℤ) (c : Cell) (p : ℤ) → valueAt f prices c ≡ earning p → (s : List ℕ) × (planAt f prices c ≡ plan s p)
+plan-some f prices c p e = see (planAt f prices c) (plan-value f prices c ∙ e)
+  where
+    see : (a : Plan) → valueOf a ≡ earning p → (s : List ℕ) × (a ≡ plan s p)
+    see nothing h = absurd (no-earning h)
+    see (plan s q) h = let i : q ≡ p = cc in (s, ap (plan s) i)
+
+-- after the last interval nothing more is earned
+pub value-end : (f : Figures) (c : Cell) → valueAt f [] c ≡ earning (pos 0)
+unfolding valueAt
+value-end f c = refl
+
+-- ---- outputs in blocks
+
+ladder-split : (block first a b : ℕ) → ladder block first (a + suc b) ≡ ladder block first a ++ ((first + a * block) ∷ ladder block (first + a * block + block) b)
+ladder-split block first zero b =
+    let e : 0 + suc b ≡ suc b = omega arith in
+    let i : first + 0 * block ≡ first = omega arith in
+    rw (e, i)
+ladder-split block first (suc a) b =
+    let e : suc a + suc b ≡ suc (a + suc b) = omega arith in
+    let i : first + block + a * block ≡ first + suc a * block = omega arith in
+    ap (ladder block first) e ∙ ap (_∷_ first) (rw i at (ladder-split block (first + block) a b))
+
+-- ---- what the plan's output makes of a cell
+
+pub record OffTurn (f : Figures) (price : ℤ) (prices : List ℤ) (c : Cell) : Type 0 where
+  pub leads : afterOff f (c .state) < states f
+  pub is : planAt f (price ∷ prices) c ≡ after 0 (pos 0) (planAt f prices (offCell f c))
+
+pub record OnTurn (f : Figures) (price : ℤ) (prices : List ℤ) (c : Cell) (k : ℕ) : Type 0 where
+  pub leads : afterOn f (c .state) < states f
+  pub starts : startTakes f (c .state) ≤ c .starts
+  pub ons : f .peron ≤ c .ons
+  pub blocks : k * f .perblock ≤ c .blocks
+  pub is : planAt f (price ∷ prices) c ≡ after (k * f .block) (gain f price k -ℤ pos (startPays f (c .state))) (planAt f prices (onCell f c k))
+
+-- a step with a value is allowed
+leads-on : (t : Bool) (g : ℤ) (y : Cell) (rest : Cell → Value) (p : ℤ) → valueAlong (allow t (go g y)) rest ≡ earning p → t ≡ true
+leads-on true g y rest p e = refl
+leads-on false g y rest p e = absurd (no-earning e)
+
+-- the table has the cell that follows
+pub off-in-table : (f : Figures) (c : Cell) → InTable f c → afterOff f (c .state) < states f → InTable f (offCell f c)
+off-in-table f c h t = record { state = t; starts = h .starts; ons = h .ons; blocks = h .blocks }
+
+pub on-in-table : (f : Figures) (c : Cell) (k : ℕ) → InTable f c → afterOn f (c .state) < states f → InTable f (onCell f c k)
+on-in-table f c k h t = record { state = t; starts = omega (arith, h .starts); ons = omega (arith, h .ons); blocks = omega (arith, h .blocks) }
+
+module _ (f : Figures) (ok : Sound f) where
+  in-blocks : (c : Cell) (price : ℤ) (k : ℕ) → 1 ≤ k → cellStep f c price (k * f .block) ≡ onStep f c price k
+  in-blocks c price k h =
+      let p : 1 * 1 ≤ k * f .block = mul-le-mul h (ok .block) in
+      let d : k * f .block / f .block ≡ k = mul-div-cancel k (ok .block) in
+      rw (ne-eqb (k * f .block) 0 (λ e. omega arith), d)
+
+  -- ---- a cell's value by the values of the cells after it
+
+  ladder-best : (rest : Cell → Value) (c : Cell) (price : ℤ) (k count : ℕ) → 1 ≤ k
+      → most (map (λ m. valueAlong (cellStep f c price m) rest) (ladder (f .block) (k * f .block) count)) ≡ onBest f rest c price k count
+  ladder-best rest c price k zero h = refl
+  ladder-best rest c price k (suc count) h =
+      let e : k * f .block + f .block ≡ suc k * f .block = omega arith in
+      ap₂ more (ap (λ (t : Step Cell). valueAlong t rest) (in-blocks c price k h))
+      (ap (λ (m : ℕ). most (map (λ m. valueAlong (cellStep f c price m) rest) (ladder (f .block) m count))) e
+      ∙ ladder-best rest c price (suc k) count (omega arith))
+
+  pub value-turn : (price : ℤ) (prices : List ℤ) (c : Cell)
+      → valueAt f (price ∷ prices) c ≡ more (offValue f (valueAt f prices) c) (onBest f (valueAt f prices) c price (f .pmin) (rungs f))
+  unfolding valueAt
+  value-turn price prices c = ap (more (offValue f (valueAt f prices) c)) (ladder-best (valueAt f prices) c price (f .pmin) (rungs f) (ok .pmin))
+
+  -- where the unit may not run, no output has a value
+  pub may-not-run : (rest : Cell → Value) (c : Cell) (price : ℤ) (k count : ℕ) → mayRun f c ≡ false → onBest f rest c price k count ≡ noSchedule
+  may-not-run rest c price k zero e = refl
+  may-not-run rest c price k (suc count) e = rw e (may-not-run rest c price (suc k) count e)
+
+  -- ---- the plan's output, by the values: off where that reaches the cell's value, else the first number of blocks that does
+
+  module _ (price : ℤ) (prices : List ℤ) (c : Cell) (best : ℤ) (worth : valueAt f (price ∷ prices) c ≡ earning best) where
+    plan-off : offValue f (valueAt f prices) c ≡ earning best → planAt f (price ∷ prices) c ≡ along 0 (offStep f c) (planAt f prices)
+    unfolding planAt valueAt
+    plan-off h =
+        first-reaching Cell ℤ (cellStep f) (choices f) price prices c [] 0 (ladder (f .block) (f .pmin * f .block) (rungs f)) refl
+        (λ n i. absurd (List·Memᴰ·not-nil i))
+        (h ∙ sym worth)
+
+    plan-on : (offValue f (valueAt f prices) c ≡ earning best → ⊥) → (k : ℕ) → f .pmin ≤ k → k ≤ f .pmax
+        → ((j : ℕ) → f .pmin ≤ j → j < k → onValue f (valueAt f prices) c price j ≡ earning best → ⊥) → onValue f (valueAt f prices) c price k ≡ earning best
+        → planAt f (price ∷ prices) c ≡ along (k * f .block) (onStep f c price k) (planAt f prices)
+    unfolding planAt valueAt
+    plan-on off k lo hi short h =
+        first-reaching Cell ℤ (cellStep f) (choices f) price prices c (0 ∷ ladder (f .block) (f .pmin * f .block) (k - f .pmin)) (k * f .block)
+        (ladder (f .block) (k * f .block + f .block) (f .pmax - k))
+        split
+        passed
+        (ap (λ (t : Step Cell). valueAlong t (valueAt f prices)) (in-blocks c price k (omega (arith, ok .pmin))) ∙ h ∙ sym worth)
+        ∙ ap (λ (t : Step Cell). along (k * f .block) t (planAt f prices)) (in-blocks c price k (omega (arith, ok .pmin)))
+      where
+        split : choices f
+            ≡ (0 ∷ ladder (f .block) (f .pmin * f .block) (k - f .pmin)) ++ ((k * f .block) ∷ ladder (f .block) (k * f .block + f .block) (f .pmax - k))
+        split =
+            let n : rungs f ≡ k - f .pmin + suc (f .pmax - k) = omega arith in
+            let m : f .pmin * f .block + (k - f .pmin) * f .block ≡ k * f .block = blocks-join (f .pmin) k (f .block) lo in
+            ap (_∷_ 0) (ap (ladder (f .block) (f .pmin * f .block)) n ∙ (rw m at (ladder-split (f .block) (f .pmin * f .block) (k - f .pmin) (f .pmax - k))))
+
+        passed : (n : ℕ) → List·Memᴰ n (0 ∷ ladder (f .block) (f .pmin * f .block) (k - f .pmin))
+            → valueAlong (cellStep f c price n) (valueAt f prices) ≡ valueAt f (price ∷ prices) c → ⊥
+        passed n i e =
+            ⊎-elim (λ (z : n ≡ 0). off (rw z at e ∙ worth))
+            (λ (t : List·Memᴰ n (ladder (f .block) (f .pmin * f .block) (k - f .pmin))).
+            let r = ladder-is (k - f .pmin) (f .pmin * f .block) (f .block) n t in
+            let m : n ≡ (f .pmin + r .0) * f .block = omega (arith, r .2) in
+            short (f .pmin + r .0) (omega arith) (omega (arith, r .1, lo))
+            (ap (λ (t : Step Cell). valueAlong t (valueAt f prices)) (sym (in-blocks c price (f .pmin + r .0) (omega (arith, ok .pmin)))) ∙ (rw m at e) ∙ worth))
+            (List·Memᴰ·cases-cons i)
+
+    reached : (v w : Value) → more v w ≡ earning best → (v ≡ earning best) ⊎ (w ≡ earning best)
+    reached noSchedule w e = inr e
+    reached (earning p) noSchedule e = inl e
+    reached (earning p) (earning q) e = by (ltZ p q) e
+      where
+        by : (t : Bool) → cond t (earning q) (earning p) ≡ earning best → (earning p ≡ earning best) ⊎ (earning q ≡ earning best)
+        by true e = inr e
+        by false e = inl e
+
+    one-on : (k count : ℕ) → onBest f (valueAt f prices) c price k count ≡ earning best
+        → (j : ℕ) × (k ≤ j) × (j < k + count) × (onValue f (valueAt f prices) c price j ≡ earning best)
+    one-on k zero e = absurd (no-earning e)
+    one-on k (suc count) e =
+        ⊎-elim (λ (h : onValue f (valueAt f prices) c price k ≡ earning best). (k, omega arith, omega arith, h))
+        (λ (h : onBest f (valueAt f prices) c price (suc k) count ≡ earning best).
+        let r = one-on (suc k) count h in
+        (r .0, omega (arith, r .1), omega (arith, r .2), r .3))
+        (reached (onValue f (valueAt f prices) c price k) (onBest f (valueAt f prices) c price (suc k) count) e)
+
+    -- some output reaches it
+    pub some-turn : (offValue f (valueAt f prices) c ≡ earning best → ⊥)
+        → ((k : ℕ) → f .pmin ≤ k → k ≤ f .pmax → onValue f (valueAt f prices) c price k ≡ earning best → ⊥) → ⊥
+    some-turn off on =
+        ⊎-elim (λ (h : offValue f (valueAt f prices) c ≡ earning best). off h)
+        (λ (h : onBest f (valueAt f prices) c price (f .pmin) (rungs f) ≡ earning best).
+        let r = one-on (f .pmin) (rungs f) h in
+        on (r .0) (r .1) (omega (arith, r .2, ok .pmax)) (r .3))
+        (reached (offValue f (valueAt f prices) c) (onBest f (valueAt f prices) c price (f .pmin) (rungs f)) (sym (value-turn price prices c) ∙ worth))
+
+    -- off is the plan's output where it reaches the cell's value
+    pub off-turn : offValue f (valueAt f prices) c ≡ earning best → OffTurn f price prices c
+    off-turn h =
+        let t = leads-on (ltb (afterOff f (c .state)) (states f)) (pos 0) (offCell f c) (valueAt f prices) best h in
+        record { leads = ltb-true (afterOff f (c .state)) (states f) t; is = plan-off h ∙ (rw t) }
+
+    -- where off does not, the first number of blocks that reaches it is the plan's
+    pub on-turn : (offValue f (valueAt f prices) c ≡ earning best → ⊥) → (k : ℕ) → f .pmin ≤ k → k ≤ f .pmax
+        → ((j : ℕ) → f .pmin ≤ j → j < k → onValue f (valueAt f prices) c price j ≡ earning best → ⊥) → onValue f (valueAt f prices) c price k ≡ earning best
+        → OnTurn f price prices c k
+    on-turn off k lo hi short h =
+        let room = leb (k * f .perblock) (c .blocks) in
+        let t = leads-on (mayRun f c && room) (gain f price k -ℤ pos (startPays f (c .state))) (onCell f c k) (valueAt f prices) best h in
+        let all = both (mayRun f c) room t in
+        let run = both _ (leb (f .peron) (c .ons)) (all .0) in
+        let start = both (ltb (afterOn f (c .state)) (states f)) (leb (startTakes f (c .state)) (c .starts)) (run .0) in
+        record {
+          leads = ltb-true (afterOn f (c .state)) (states f) (start .0);
+          starts = leb-true (startTakes f (c .state)) (c .starts) (start .1);
+          ons = leb-true (f .peron) (c .ons) (run .1);
+          blocks = leb-true (k * f .perblock) (c .blocks) (all .1);
+          is = plan-on off k lo hi short h ∙ (rw t);
+        }

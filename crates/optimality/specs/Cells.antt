@@ -1,0 +1,161 @@
+-- The machine whose state is a cell of the table: time in state counted to mot or mdt, and what is left of the starts, of the on-intervals
+-- and of the output blocks. The budgets' tops are not read by any step, so a smaller limitation is the same machine at another cell.
+use mathlib.Core.Bool.{Bool, cond, _&&_}
+use mathlib.Core.List.{List, _∷_}
+use Prim.Native.Nat.{ℕ, zero, suc, _+_, _-_, _*_, _/_, _≤_, _<_, min}
+use lib.Dec.{leb, ltb, eqb}
+use lib.IntN.{ℤ, pos, _-ℤ_, _*ℤ_}
+use Rattle.commitment.specs.declared.Limit.{Limit}
+use Rattle.commitment.specs.declared.Limit.the-variants.{None, At}
+use Rattle.commitment.specs.declared.UnitRecord.{UnitRecord}
+use Rattle.commitment.specs.Keeping.{wasOn}
+use Rattle.commitment.specs.Best.{Plan, ladder}
+use Rattle.commitment.specs.Cells.{startsCount, hoursCount, mwhCount}
+use Rattle.optimality.specs.declared.Figures.{Figures}
+use Rattle.optimality.specs.declared.Cell.{Cell}
+use Rattle.optimality.specs.Machine.{Step, allow, go, bestFrom, Value, noSchedule, more, valueAlong, valueFrom}
+
+abbrev pub cell : ℕ → ℕ → ℕ → ℕ → Cell
+cell state starts ons blocks = record { state = state; starts = starts; ons = ons; blocks = blocks }
+
+-- ---- the figures of a unit, for n intervals
+
+-- what one start, on-interval or block takes of its budget: nothing where it is not limited
+abbrev pub takenOf : Limit → ℕ
+takenOf None = 0
+takenOf (At limit) = 1
+
+-- with the most that a cell can have left of each
+abbrev pub figuresWith : UnitRecord → ℕ → ℕ → ℕ → Figures
+figuresWith u starts ons blocks =
+    record {
+      block = u .block;
+      pmin = u .pmin;
+      pmax = u .pmax;
+      mot = u .mot;
+      mdt = u .mdt;
+      vec = u .vec;
+      mlc = u .mlc;
+      suc = u .suc;
+      perstart = takenOf (u .starts);
+      peron = takenOf (u .hours);
+      perblock = takenOf (u .mwh);
+      starts = starts;
+      ons = ons;
+      blocks = blocks;
+    }
+
+-- a, b and c of document 01
+unfoldable pub figuresOf : UnitRecord → ℕ → Figures
+figuresOf u n = figuresWith u (startsCount u n) (hoursCount u n) (mwhCount u n)
+
+-- the ranges of the figures
+pub record Sound (f : Figures) : Type 0 where
+  pub block : 1 ≤ f .block
+  pub pmin : 1 ≤ f .pmin
+  pub pmax : f .pmin ≤ f .pmax
+  pub top : f .pmax * f .block ≤ 500
+  pub mot : 1 ≤ f .mot
+  pub mot-most : f .mot ≤ 96
+  pub mdt : 1 ≤ f .mdt
+  pub mdt-most : f .mdt ≤ 96
+  pub vec : f .vec ≤ 2000000
+  pub mlc : f .mlc ≤ 1000000000
+  pub suc : f .suc ≤ 4000000000
+  pub perstart : f .perstart ≤ 1
+  pub peron : f .peron ≤ 1
+  pub perblock : f .perblock ≤ 1
+  pub starts : f .starts ≤ 2976
+  pub ons : f .ons ≤ 2976
+  pub blocks : f .blocks ≤ 1488000
+
+-- ---- state numbers: below mot on for s + 1 intervals (mot or more at the last), from mot on off for s - mot + 1 (mdt or more at the last)
+
+abbrev pub states : Figures → ℕ
+states f = f .mot + f .mdt
+
+-- the state after an interval that is off; past the last where the run is too short to end
+abbrev pub afterOff : Figures → ℕ → ℕ
+afterOff f s = cond (ltb s (f .mot)) (cond (eqb (s + 1) (f .mot)) (f .mot) (states f)) (min (s + 1) (states f - 1))
+
+-- the state after an interval that is on; past the last where the spell is too short for a start
+abbrev pub afterOn : Figures → ℕ → ℕ
+afterOn f s = cond (ltb s (f .mot)) (min (s + 1) (f .mot - 1)) (cond (eqb (s + 1) (states f)) 0 (states f))
+
+-- ---- the step
+
+-- what going on takes of the starts, and what it costs
+abbrev pub startTakes : Figures → ℕ → ℕ
+startTakes f s = cond (ltb s (f .mot)) 0 (f .perstart)
+
+abbrev pub startPays : Figures → ℕ → ℕ
+startPays f s = cond (ltb s (f .mot)) 0 (4 * f .suc)
+
+-- what an on-interval with k blocks adds
+abbrev pub gain : Figures → ℤ → ℕ → ℤ
+gain f price k = price *ℤ pos (k * f .block) -ℤ pos (f .vec) *ℤ (pos (k * f .block) -ℤ pos (f .pmin * f .block)) -ℤ pos (f .mlc)
+
+-- whether the unit may be on, but for the blocks
+abbrev pub mayRun : Figures → Cell → Bool
+mayRun f c = ltb (afterOn f (c .state)) (states f) && leb (startTakes f (c .state)) (c .starts) && leb (f .peron) (c .ons)
+
+-- the cell that an interval off, or on with k blocks, leads to
+abbrev pub offCell : Figures → Cell → Cell
+offCell f c = cell (afterOff f (c .state)) (c .starts) (c .ons) (c .blocks)
+
+abbrev pub onCell : Figures → Cell → ℕ → Cell
+onCell f c k = cell (afterOn f (c .state)) (c .starts - startTakes f (c .state)) (c .ons - f .peron) (c .blocks - k * f .perblock)
+
+abbrev pub offStep : Figures → Cell → Step Cell
+offStep f c = allow (ltb (afterOff f (c .state)) (states f)) (go (pos 0) (offCell f c))
+
+abbrev pub onStep : Figures → Cell → ℤ → ℕ → Step Cell
+onStep f c price k =
+    allow (mayRun f c && leb (k * f .perblock) (c .blocks)) (go (gain f price k -ℤ pos (startPays f (c .state))) (onCell f c k))
+
+-- an output in MW: 0 is off, another so many blocks
+abbrev pub cellStep : Figures → Cell → ℤ → ℕ → Step Cell
+cellStep f c price m = cond (eqb m 0) (offStep f c) (onStep f c price (m / f .block))
+
+-- the outputs but 0 number so many; all outputs, ascending
+abbrev pub rungs : Figures → ℕ
+rungs f = suc (f .pmax) - f .pmin
+
+abbrev pub choices : Figures → List ℕ
+choices f = 0 ∷ ladder (f .block) (f .pmin * f .block) (rungs f)
+
+-- ---- the best plan from a cell over the prices to come, and its profit alone
+
+unfoldable pub planAt : Figures → List ℤ → Cell → Plan
+planAt f prices c = bestFrom Cell ℤ (cellStep f) (choices f) prices c
+
+unfoldable pub valueAt : Figures → List ℤ → Cell → Value
+valueAt f prices c = valueFrom Cell ℤ (cellStep f) (choices f) prices c
+
+-- ---- a cell by the cells after it: what the rest of the intervals is worth from each cell being `rest`
+
+abbrev pub offValue : Figures → (Cell → Value) → Cell → Value
+offValue f rest c = valueAlong (offStep f c) rest
+
+abbrev pub onValue : Figures → (Cell → Value) → Cell → ℤ → ℕ → Value
+onValue f rest c price k = valueAlong (onStep f c price k) rest
+
+-- the best of so many outputs from k blocks on
+abbrev pub onBest : Figures → (Cell → Value) → Cell → ℤ → ℕ → ℕ → Value
+onBest f rest c price k zero = noSchedule
+onBest f rest c price k (suc count) = more (onValue f rest c price k) (onBest f rest c price (suc k) count)
+
+-- ---- the cell before interval 1, for n intervals
+
+abbrev pub openingState : UnitRecord → ℕ
+openingState u = cond (wasOn u) (min (u .held) (u .mot) - 1) (u .mot + min (u .held) (u .mdt) - 1)
+
+unfoldable pub opening : UnitRecord → ℕ → Cell
+opening u n = cell (openingState u) (startsCount u n) (hoursCount u n) (mwhCount u n)
+
+-- a cell of the table has no more left than the tops
+pub record InTable (f : Figures) (c : Cell) : Type 0 where
+  pub state : c .state < states f
+  pub starts : c .starts ≤ f .starts
+  pub ons : c .ons ≤ f .ons
+  pub blocks : c .blocks ≤ f .blocks

@@ -1,0 +1,4 @@
+pub mod Machine
+pub mod Cells
+pub mod Outcomes
+pub mod Runs
