@@ -4,11 +4,12 @@ use mathlib.Core.Bool.{Bool, cond, _&&_}
 use mathlib.Core.List.{List, _∷_}
 use Prim.Native.Nat.{ℕ, zero, suc, _+_, _-_, _*_, _/_, _≤_, _<_, min}
 use lib.Dec.{leb, ltb, eqb}
-use lib.IntN.{ℤ, pos, _-ℤ_, _*ℤ_}
+use lib.IntN.{ℤ, pos, _-ℤ_}
 use Rattle.commitment.specs.declared.Limit.{Limit}
 use Rattle.commitment.specs.declared.Limit.the-variants.{None, At}
 use Rattle.commitment.specs.declared.UnitRecord.{UnitRecord}
 use Rattle.commitment.specs.Keeping.{wasOn}
+use Rattle.commitment.specs.Profit.{margin}
 use Rattle.commitment.specs.Best.{Plan, ladder}
 use Rattle.commitment.specs.Cells.{startsCount, hoursCount, mwhCount}
 use Rattle.optimality.specs.declared.Figures.{Figures}
@@ -93,7 +94,7 @@ startPays f s = cond (ltb s (f .mot)) 0 (4 * f .suc)
 
 -- what an on-interval with k blocks adds
 abbrev pub gain : Figures → ℤ → ℕ → ℤ
-gain f price k = price *ℤ pos (k * f .block) -ℤ pos (f .vec) *ℤ (pos (k * f .block) -ℤ pos (f .pmin * f .block)) -ℤ pos (f .mlc)
+gain f price k = margin price (k * f .block) (f .vec) (f .pmin * f .block) (f .mlc)
 
 -- whether the unit may be on, but for the blocks
 abbrev pub mayRun : Figures → Cell → Bool
