@@ -1,0 +1,4 @@
+pub mod Fractions
+pub mod Ranges
+pub mod Segments
+pub mod Formulas
