@@ -1,7 +1,7 @@
 -- The fractions of (1), (2) and (3) over the code's denominators, and so the figures as the code rounds them.
 use mathlib.Core.Path.{_≡_, refl}
 use mathlib.Core.List.{List, [], _∷_}
-use Prim.Native.Nat.{ℕ, _+_, _*_, _<_}
+use Prim.Native.Nat.{ℕ, _*_, _<_}
 use native.Mathlib.Nat.{mul-pos, mul-one}
 use native.Mathlib.Omega.{arith}
 use lib.Dec.{lit<}

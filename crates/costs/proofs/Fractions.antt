@@ -1,7 +1,7 @@
 -- Fractions by their worth: sums and products over a denominator of one's own, and rounding, which depends on the worth alone.
 use mathlib.Core.Path.{_≡_, refl, sym, ap, _∙_}
-use Prim.Native.Nat.{ℕ, _+_, _-_, _*_, _/_, _≤_, _<_}
-use native.Mathlib.Nat.{mul-pos, mul-div-mul-right, div-eq-of-lt-le, div-mul-le-self, lt-div-mul-add}
+use Prim.Native.Nat.{ℕ, _+_, _-_, _*_, _/_, _%_, _≤_, _<_}
+use native.Mathlib.Nat.{mul-pos, mul-div-mul-right, mod-lt, div-add-mod', div-eq-of-lt-le, div-mul-le-self, lt-div-mul-add}
 use native.Mathlib.Omega.{arith}
 use Rattle.commitment.specs.Fractions.{Fraction, _over_, whole, _plus_, _times_, rounded}
 
@@ -53,12 +53,15 @@ rounded-same {d} {n} {f} h w =
     ∙ mul-div-mul-right (2 * n + d) (2 * d) (w .positive)
 
 -- by quotient and rest: a rest of less than half is dropped, any other counts as one
-module _ (num den quotient rest : ℕ) (parts : quotient * den + rest ≡ num) (small : rest < den) where
-  pub rounded-down : rest < den - rest → quotient ≡ rounded (num over den)
-  rounded-down h = sym (div-eq-of-lt-le (2 * den) (omega arith) (omega arith))
+module _ (num den : ℕ) (positive : 0 < den) where
+  parts : num / den * den + num % den ≡ num
+  parts = div-add-mod' num den
 
-  pub rounded-up : den - rest ≤ rest → quotient + 1 ≡ rounded (num over den)
-  rounded-up h = sym (div-eq-of-lt-le (2 * den) (omega arith) (omega arith))
+  pub rounded-down : num % den < den - num % den → num / den ≡ rounded (num over den)
+  rounded-down h = sym (div-eq-of-lt-le (2 * den) (omega (arith, parts)) (omega (arith, parts)))
+
+  pub rounded-up : den - num % den ≤ num % den → num / den + 1 ≡ rounded (num over den)
+  rounded-up h = sym (div-eq-of-lt-le (2 * den) (omega (arith, parts, mod-lt num positive)) (omega (arith, parts, mod-lt num positive)))
 
 -- no further than half of one from the fraction, on either side
 pub record Near (cents : ℕ) (f : Fraction) : Type 0 where

@@ -51,7 +51,7 @@ total-most most (mw ∷ mws) e =
 
 module _ (price om most : ℕ) where
   -- each segment costs no more than one at the highest heat rate
-  pub weighted-most :
+  weighted-most :
       (mws heats : List ℕ) → every (oneTo most) heats ≡ true →
       weightedUnits price om mws heats ≤ totalMw mws * segmentUnits price om most
   weighted-most [] heats e = omega arith

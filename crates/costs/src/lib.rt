@@ -1,18 +1,19 @@
 // The cost figures of a gas-fired unit: vec, suc and mlc by formulas (1), (2) and (3), in integers. Each figure is worked out over one
 // common denominator and rounded once, by `round_half_up`.
 
-use commitment::{Cause, Checked, CostInputs};
-
+use commitment::Cause;
+use commitment::Checked;
+use commitment::CostInputs;
 ghost use mathlib.Core.Path.{_≡_};
 ghost use mathlib.Core.Bool.{true};
-ghost use Prim.Native.Nat.{_*_, _^_, _<_, _≤_};
+ghost use Prim.Native.Nat.{_^_, _<_, _≤_};
 ghost use lib.ListN.{length};
 ghost use Rattle.commitment.specs.declared.Checked.the-variants.{Passed};
 ghost use Rattle.commitment.specs.Ranges.{every};
 ghost use Rattle.commitment.specs.Fractions.{_over_, rounded};
 ghost use Rattle.commitment.specs.Figures.{vecOf, sucOf, mlcOf, totalMw};
 ghost use Rattle.costs.specs.Ranges.{oneTo, sizesKept, pricesKept, ratesKept, startKept, inputsKept, segmentsKept, shapeKept, inputsChecked};
-ghost use Rattle.costs.specs.Answers.{costed, answered, threeFigures};
+ghost use Rattle.costs.specs.Answers.{costed, threeFigures};
 ghost use Rattle.costs.specs.Sizes.{HeatSizes, StartSizes, LoadSizes};
 ghost use Rattle.costs.specs.Numerators.{heatPrice, weightedUnits, sucUnits, mlcUnits, allowanceUnits};
 
@@ -220,7 +221,9 @@ fn suc_units(inputs: CostInputs) -> u64
     requires { ⌜ StartSizes inputs ⌝ }
     ensures { λ r. ⌜ r ≡ sucUnits inputs ⌝ }
 {
-    let cents = inputs.fuel * (inputs.gas + inputs.transport) + inputs.aux * 10 * inputs.gas + inputs.start_adder;
+    let cents = inputs.fuel * (inputs.gas + inputs.transport)
+        + inputs.aux * 10 * inputs.gas
+        + inputs.start_adder;
     let allowances = inputs.fuel * (inputs.allowance * inputs.rate);
     let grid = inputs.pmin * inputs.block * inputs.minutes * inputs.gmc;
     cents * START_UNITS + allowances * 120 + grid * 10000000

@@ -8,19 +8,20 @@ use lib.Dec.{eqb}
 use Rattle.commitment.specs.Figures.{totalMw}
 use Rattle.commitment.proofs.Conjunctions.{both}
 use Rattle.costs.specs.Ranges.{inputsKept, segmentsKept, shapeKept, rangeMw, inputsChecked}
-use Rattle.costs.proofs.Ranges.{InRange, InSegments, InShape, in-range, in-segments, in-shape, range-mw}
+use Rattle.costs.proofs.Ranges.{in-range, in-segments, in-shape, range-mw}
 use Rattle.costs.proofs.Segments.{total-most}
 use Rattle.costs.proofs.check_inputs.Statement.{statement}
 use Rattle.costs.proofs.check_inputs.Tie as tie
-use Rattle.costs.proofs.check_inputs.Reads as reads
-use Rattle.costs.proofs.check_inputs.Lts as lts
 
 -- ---- what the tests say
 
 abbrev start : tie.After-segments-kept → tie.Start
 start c = c .before .before .before .before
 
-ranges : (c : tie.After-segments-kept) → (inputsKept (start c .args .inputs) && segmentsKept (start c .args .mws .now) (start c .args .heats .now)) ≡ (c .before .inputs-kept .result && c .segments-kept .result)
+ranges :
+    (c : tie.After-segments-kept) →
+    (inputsKept (start c .args .inputs) && segmentsKept (start c .args .mws .now) (start c .args .heats .now))
+    ≡ (c .before .inputs-kept .result && c .segments-kept .result)
 ranges c = sym (ap₂ _&&_ (c .before .inputs-kept .ensures) (c .segments-kept .ensures))
 
 record Kept (c : tie.Else1) : Type 0 where
@@ -38,7 +39,10 @@ after-1 c =
 after-2 : (c : tie.Else2) → shapeKept (start (c .before .before .before) .args .inputs) ≡ true
 after-2 c = sym (c .before .shape-kept .ensures) ∙ not-false _ (c .if2 .left)
 
-after-3 : (c : tie.Else3) → eqb (totalMw (start (c .before .before .before .before .before .before .before) .args .mws .now)) (rangeMw (start (c .before .before .before .before .before .before .before) .args .inputs)) ≡ true
+abbrev start-3 : tie.Else3 → tie.Start
+start-3 c = start (c .before .before .before .before .before .before .before)
+
+after-3 : (c : tie.Else3) → eqb (totalMw (start-3 c .args .mws .now)) (rangeMw (start-3 c .args .inputs)) ≡ true
 after-3 c = eq-eqb _ _ (sym (c .before .before .before .total-mw .ensures) ∙ c .if3 .left)
 
 -- ---- the needs

@@ -11,9 +11,6 @@ use Rattle.costs.specs.Ranges.{oneTo}
 use Rattle.commitment.proofs.Every.{every-pass, every-fail, every-end}
 use Rattle.costs.proofs.every_one_to.Statement.{statement}
 use Rattle.costs.proofs.every_one_to.Tie as tie
-use Rattle.costs.proofs.every_one_to.Reads as reads
-use Rattle.costs.proofs.every_one_to.Lts as lts
-use Rattle.costs.proofs.one_to.Reads as one-to-reads
 
 abbrev Inv-loop : tie.InvT-loop
 Inv-loop most list i₀ i = (i ≤ length list) × (every (oneTo most) (drop i list) ≡ every (oneTo most) list)

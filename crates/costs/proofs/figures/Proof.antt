@@ -1,14 +1,10 @@
 -- By cases on what the check found.
-use mathlib.Core.Path.{_≡_, sym, ap, _∙_}
+use mathlib.Core.Path.{sym, ap, _∙_}
 use borrow.Author.Needs.{needs}
 use Rattle.costs.specs.declared.Costed.the-variants.{Figures}
 use Rattle.costs.specs.Answers.{costed}
 use Rattle.costs.proofs.figures.Statement.{statement}
 use Rattle.costs.proofs.figures.Tie as tie
-use Rattle.costs.proofs.figures.Reads as reads
-use Rattle.costs.proofs.figures.Lts as lts
-use Rattle.costs.proofs.check_inputs.Reads as check-inputs-reads
-use Rattle.costs.proofs.three_figures.Reads as three-figures-reads
 
 check-inputs-requires : tie.Need-check-inputs-requires
 check-inputs-requires c κs = search needs

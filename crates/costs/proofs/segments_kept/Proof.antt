@@ -7,9 +7,6 @@ use borrow.Author.Tests.{not-true, not-false}
 use Rattle.costs.specs.Ranges.{countKept, segmentsKept}
 use Rattle.costs.proofs.segments_kept.Statement.{statement}
 use Rattle.costs.proofs.segments_kept.Tie as tie
-use Rattle.costs.proofs.segments_kept.Reads as reads
-use Rattle.costs.proofs.segments_kept.Lts as lts
-use Rattle.costs.proofs.every_one_to.Reads as every-one-to-reads
 
 returns : tie.Need-returns
 unfolding segmentsKept

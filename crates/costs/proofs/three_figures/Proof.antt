@@ -1,5 +1,4 @@
 -- Each figure by its own function, whose products the accepted inputs keep small.
-use mathlib.Core.Path.{_≡_}
 use borrow.Author.Needs.{needs}
 use Rattle.costs.proofs.Ranges.{accepted, start-sizes, load-sizes}
 use Rattle.costs.proofs.three_figures.Statement.{statement}

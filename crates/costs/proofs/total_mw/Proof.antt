@@ -1,5 +1,5 @@
 -- The invariant: the sum so far and the sum of what is left make the total, which fits. What is left of the slice falls.
-use mathlib.Core.Path.{_≡_, refl, ap}
+use mathlib.Core.Path.{_≡_, ap}
 use Prim.Native.Nat.{_+_, _-_, _≤_}
 use native.Mathlib.Omega.{arith}
 use borrow.Author.Needs.{needs}
@@ -8,8 +8,6 @@ use Rattle.commitment.specs.Figures.{totalMw}
 use Rattle.costs.proofs.Segments.{total-next}
 use Rattle.costs.proofs.total_mw.Statement.{statement}
 use Rattle.costs.proofs.total_mw.Tie as tie
-use Rattle.costs.proofs.total_mw.Reads as reads
-use Rattle.costs.proofs.total_mw.Lts as lts
 
 abbrev Inv-loop : tie.InvT-loop
 Inv-loop mws total₀ i₀ total i = (i ≤ length mws) × (total + totalMw (drop i mws) ≡ totalMw mws)

@@ -1,23 +1,14 @@
 -- The sum over the segments fits, their MW are more than 0, and (1) is the sum over the code's denominator.
-use mathlib.Core.Path.{_≡_, sym, ap, ap₂, _∙_}
-use Prim.Native.Nat.{ℕ, _*_, _<_, _≤_}
+use mathlib.Core.Path.{sym}
+use Prim.Native.Nat.{_<_, _≤_}
 use native.Mathlib.Omega.{arith}
 use lib.ListN.{length}
-use borrow.Author.Needs.{needs}
-use Rattle.commitment.specs.Fractions.{_over_, rounded}
 use Rattle.commitment.specs.Figures.{totalMw}
-use Rattle.costs.specs.Numerators.{units, weightedUnits}
-use Rattle.costs.proofs.Ranges.{Accepted, accepted, heat-sizes, range-mw}
+use Rattle.costs.proofs.Ranges.{accepted, heat-sizes, range-mw}
 use Rattle.costs.proofs.Segments.{total-some, weighted-fits}
 use Rattle.costs.proofs.Formulas.{vec-none, vec-rounds}
 use Rattle.costs.proofs.vec_of.Statement.{statement}
 use Rattle.costs.proofs.vec_of.Tie as tie
-use Rattle.costs.proofs.vec_of.Reads as reads
-use Rattle.costs.proofs.vec_of.Lts as lts
-use Rattle.costs.proofs.heat_price.Reads as heat-price-reads
-use Rattle.costs.proofs.weighted_units.Reads as weighted-units-reads
-use Rattle.costs.proofs.total_mw.Reads as total-mw-reads
-use Rattle.costs.proofs.round_half_up.Reads as round-half-up-reads
 
 returns : tie.Need-returns
 returns c =
@@ -64,11 +55,8 @@ returns-2 : tie.Need-returns-2
 returns-2 c =
     let e = c .before .before .before .before in
     let a = e .before .before .before .args in
-    c .round-half-up .ensures
-    ∙ ap₂ (λ (n t : ℕ). rounded (n over (units * t)))
-      (c .before .before .weighted-units .ensures ∙ ap (λ (p : ℕ). weightedUnits p (a .inputs .om) (a .mws .now) (a .heats .now)) (c .before .before .before .heat-price .ensures))
-      (c .before .total-mw .ensures)
-    ∙ sym (vec-rounds (a .inputs) (a .mws .now) (a .heats .now) (mw e .some) (mw e .positive))
+    rw (c .round-half-up .ensures, c .before .before .weighted-units .ensures, c .before .before .before .heat-price .ensures, c .before .total-mw .ensures)
+    (sym (vec-rounds (a .inputs) (a .mws .now) (a .heats .now) (mw e .some) (mw e .positive)))
 
 pub vec-of-spec : {M : Type 1} → statement M
 vec-of-spec =

@@ -10,8 +10,6 @@ use Rattle.costs.specs.Numerators.{weightedUnits}
 use Rattle.costs.proofs.Segments.{Next, weighted-next}
 use Rattle.costs.proofs.weighted_units.Statement.{statement}
 use Rattle.costs.proofs.weighted_units.Tie as tie
-use Rattle.costs.proofs.weighted_units.Reads as reads
-use Rattle.costs.proofs.weighted_units.Lts as lts
 
 abbrev Inv-loop : tie.InvT-loop
 Inv-loop price om mws heats sum₀ i₀ sum i =
