@@ -69,7 +69,7 @@ abbrev c9 : UnitRecord
 c9 = c1-but 2 0 2 (At 0) (At 2) limit.None
 
 -- the unit of C10 but for om, gmc, allowance, rate, fuel, aux and minutes; its one segment stands beside it
-abbrev c10-but : ℕ → ℕ → ℕ → ℕ → ℕ → ℕ → ℕ → CostInputs
+abbrev pub c10-but : ℕ → ℕ → ℕ → ℕ → ℕ → ℕ → ℕ → CostInputs
 c10-but om gmc allowance rate fuel aux minutes =
     record {
       block = 10;

@@ -1,0 +1,47 @@
+-- "No figure is further than half a cent from its fraction."
+use mathlib.Core.Path.{_≡_, refl, subst}
+use mathlib.Core.Bool.{true}
+use mathlib.Core.List.{List, [], _∷_}
+use Prim.Native.Nat.{ℕ, _<_}
+use native.Mathlib.Omega.{arith}
+use lib.Dec.{lit<}
+use Rattle.commitment.specs.declared.CostInputs.{CostInputs}
+use Rattle.commitment.specs.declared.Checked.{Checked}
+use Rattle.commitment.specs.declared.Checked.the-variants as checked
+use Rattle.commitment.specs.Ranges.{every}
+use Rattle.commitment.specs.Figures.{vecFraction, sucFraction, mlcFraction}
+use Rattle.costs.specs.declared.CostFigures.{CostFigures}
+use Rattle.costs.specs.declared.Costed.the-variants.{Figures}
+use Rattle.costs.specs.Ranges.{oneTo, inputsChecked}
+use Rattle.costs.specs.Answers.{answered, threeFigures, costed}
+use Rattle.costs.proofs.Fractions.{Near, rounded-near}
+use Rattle.costs.proofs.Ranges.{accepted}
+use Rattle.costs.proofs.Segments.{total-some}
+use Rattle.costs.proofs.Formulas.{vec-worth, suc-worth, mlc-worth}
+
+-- each of three figures is within half a cent
+pub record HalfCent (k : CostInputs) (mws heats : List ℕ) (figures : CostFigures) : Type 0 where
+  pub vec : Near (figures .vec) (vecFraction k mws heats)
+  pub suc : Near (figures .suc) (sucFraction k)
+  pub mlc : Near (figures .mlc) (mlcFraction k)
+
+vec-positive : (k : CostInputs) (mws heats : List ℕ) → every (oneTo 500) mws ≡ true → 0 < vecFraction k mws heats .den
+vec-positive k [] heats e = lit< tt
+vec-positive k (mw ∷ mws) heats e = vec-worth k (mw ∷ mws) heats (omega arith) (total-some 500 (mw ∷ mws) e (omega arith)) .positive
+
+-- what was answered is what was worked out
+figured : (found : Checked) (worked answer : CostFigures) → answered found worked ≡ Figures answer → (found ≡ checked.Passed) × (worked ≡ answer)
+figured checked.Passed worked answer e = (refl, cc)
+figured (checked.Refused cause) worked answer e = let z : _≡_ {A = ℕ} 0 1 = cc in absurd (omega arith)
+
+pub within-half-a-cent : (k : CostInputs) (mws heats : List ℕ) (figures : CostFigures) → costed k mws heats ≡ Figures figures → HalfCent k mws heats figures
+unfolding costed
+within-half-a-cent k mws heats figures e =
+    let f = figured (inputsChecked k mws heats) (threeFigures k mws heats) figures e in
+    let a = accepted k mws heats (f .0) in
+    subst (HalfCent k mws heats) (f .1)
+    (record {
+      vec = rounded-near (vecFraction k mws heats) (vec-positive k mws heats (a .segments .mws-kept));
+      suc = rounded-near (sucFraction k) (suc-worth k .positive);
+      mlc = rounded-near (mlcFraction k) (mlc-worth k .positive);
+    })

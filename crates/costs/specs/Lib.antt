@@ -1,0 +1,5 @@
+-- What a reader must believe of the cost figures, beside the formulas in `commitment`.
+pub mod Ranges
+pub mod Answers
+pub mod Numerators
+pub mod Sizes

@@ -1,0 +1,270 @@
+// The cost figures of a gas-fired unit: vec, suc and mlc by formulas (1), (2) and (3), in integers. Each figure is worked out over one
+// common denominator and rounded once, by `round_half_up`.
+
+use commitment::Cause;
+use commitment::Checked;
+use commitment::CostInputs;
+ghost use mathlib.Core.Path.{_≡_};
+ghost use mathlib.Core.Bool.{true};
+ghost use Prim.Native.Nat.{_^_, _<_, _≤_};
+ghost use lib.ListN.{length};
+ghost use Rattle.commitment.specs.declared.Checked.the-variants.{Passed};
+ghost use Rattle.commitment.specs.Ranges.{every};
+ghost use Rattle.commitment.specs.Fractions.{_over_, rounded};
+ghost use Rattle.commitment.specs.Figures.{vecOf, sucOf, mlcOf, totalMw};
+ghost use Rattle.costs.specs.Ranges.{oneTo, sizesKept, pricesKept, ratesKept, startKept, inputsKept, segmentsKept, shapeKept, inputsChecked};
+ghost use Rattle.costs.specs.Answers.{costed, threeFigures};
+ghost use Rattle.costs.specs.Sizes.{HeatSizes, StartSizes, LoadSizes};
+ghost use Rattle.costs.specs.Numerators.{heatPrice, weightedUnits, sucUnits, mlcUnits, allowanceUnits};
+
+// In whole cents: per MWh, for a start, per hour.
+pub struct CostFigures {
+    pub vec: u64,
+    pub suc: u64,
+    pub mlc: u64,
+}
+
+// What `figures` answers. specs/Answers.antt gives the number and the figures of each case.
+pub enum Costed {
+    Figures(CostFigures),
+    Refused(Cause),
+}
+
+// The three figures, or the lowest cause for which there are none: 3, 4, 6 or 7.
+pub fn figures(inputs: CostInputs, mws: &[u64], heats: &[u64]) -> Costed
+    ensures { λ r. ⌜ r ≡ costed inputs (now (mws .entry)) (now (heats .entry)) ⌝ }
+{
+    let found = check_inputs(inputs, mws, heats);
+    match found {
+        Checked::Refused(cause) => Costed::Refused(cause),
+        Checked::Passed => Costed::Figures(three_figures(inputs, mws, heats)),
+    }
+}
+
+fn three_figures(inputs: CostInputs, mws: &[u64], heats: &[u64]) -> CostFigures
+    requires { ⌜ inputsChecked inputs (now mws) (now heats) ≡ Passed ⌝ }
+    ensures { λ r. ⌜ r ≡ threeFigures inputs (now (mws .entry)) (now (heats .entry)) ⌝ }
+{
+    let vec = vec_of(inputs, mws, heats);
+    let suc = suc_of(inputs);
+    let mlc = mlc_of(inputs);
+    CostFigures { vec, suc, mlc }
+}
+
+// ---- the check
+
+fn check_inputs(inputs: CostInputs, mws: &[u64], heats: &[u64]) -> Checked
+    ensures { λ r. ⌜ r ≡ inputsChecked inputs (now (mws .entry)) (now (heats .entry)) ⌝ }
+{
+    if !(inputs_kept(inputs) & segments_kept(mws, heats)) {
+        return Checked::Refused(Cause::Range);
+    }
+    if !shape_kept(inputs) {
+        return Checked::Refused(Cause::Shape);
+    }
+    let total = total_mw(mws);
+    let range = (inputs.pmax - inputs.pmin) * inputs.block;
+    if total != range {
+        return Checked::Refused(Cause::Segments);
+    }
+    if mws.len() != heats.len() {
+        return Checked::Refused(Cause::Length);
+    }
+    Checked::Passed
+}
+
+fn inputs_kept(inputs: CostInputs) -> bool
+    ensures { λ r. ⌜ r ≡ inputsKept inputs ⌝ }
+{
+    sizes_kept(inputs) & prices_kept(inputs) & rates_kept(inputs) & start_kept(inputs)
+}
+
+fn sizes_kept(inputs: CostInputs) -> bool
+    ensures { λ r. ⌜ r ≡ sizesKept inputs ⌝ }
+{
+    ((1 <= inputs.block) & (inputs.block <= 500))
+        & ((1 <= inputs.pmin) & (inputs.pmin <= 500))
+        & ((1 <= inputs.pmax) & (inputs.pmax <= 500))
+}
+
+fn prices_kept(inputs: CostInputs) -> bool
+    ensures { λ r. ⌜ r ≡ pricesKept inputs ⌝ }
+{
+    (inputs.gas <= 10000)
+        & (inputs.transport <= 10000)
+        & (inputs.allowance <= 10000)
+        & (inputs.om <= 10000)
+        & (inputs.gmc <= 10000)
+}
+
+fn rates_kept(inputs: CostInputs) -> bool
+    ensures { λ r. ⌜ r ≡ ratesKept inputs ⌝ }
+{
+    (inputs.rate <= 1000000) & ((1 <= inputs.min_heat) & (inputs.min_heat <= 50000))
+}
+
+fn start_kept(inputs: CostInputs) -> bool
+    ensures { λ r. ⌜ r ≡ startKept inputs ⌝ }
+{
+    (inputs.fuel <= 100000)
+        & (inputs.aux <= 1000)
+        & (inputs.minutes <= 1440)
+        & (inputs.start_adder <= 10000000)
+        & (inputs.load_adder <= 10000000)
+}
+
+// Lists that are too long are not walked.
+fn segments_kept(mws: &[u64], heats: &[u64]) -> bool
+    ensures { λ r. ⌜ r ≡ segmentsKept (now (mws .entry)) (now (heats .entry)) ⌝ }
+{
+    if !((mws.len() <= 10) & (heats.len() <= 10)) {
+        return false;
+    }
+    every_one_to(500, mws) & every_one_to(50000, heats)
+}
+
+fn every_one_to(most: u64, list: &[u64]) -> bool
+    ensures { λ r. ⌜ r ≡ every (oneTo most) (now (list .entry)) ⌝ }
+{
+    let mut i = 0;
+    while i < list.len() {
+        if !one_to(most, list[i]) {
+            return false;
+        }
+        i += 1;
+    }
+    true
+}
+
+fn one_to(most: u64, n: u64) -> bool
+    ensures { λ r. ⌜ r ≡ oneTo most n ⌝ }
+{
+    (1 <= n) & (n <= most)
+}
+
+// The product is taken of sizes in range, where it cannot overflow.
+fn shape_kept(inputs: CostInputs) -> bool
+    requires { ⌜ inputsKept inputs ≡ true ⌝ }
+    ensures { λ r. ⌜ r ≡ shapeKept inputs ⌝ }
+{
+    (inputs.pmin <= inputs.pmax) & (inputs.pmax * inputs.block <= 500)
+}
+
+fn total_mw(mws: &[u64]) -> u64
+    requires { ⌜ totalMw (now mws) ≤ 5000 ⌝ }
+    ensures { λ r. ⌜ r ≡ totalMw (now (mws .entry)) ⌝ }
+{
+    let mut total = 0;
+    let mut i = 0;
+    while i < mws.len() {
+        total += mws[i];
+        i += 1;
+    }
+    total
+}
+
+// ---- the figures
+
+// Heat rates are in thousandths and allowances in ten-millionths: vec and mlc are worked out in ten-billionths of a cent.
+const UNITS: u64 = 10000000000;
+
+// minutes / 60 × gmc / 2, and allowances in ten-millionths: suc is worked out in so many parts of a cent.
+const START_UNITS: u64 = 1200000000;
+
+// (1)
+fn vec_of(inputs: CostInputs, mws: &[u64], heats: &[u64]) -> u64
+    requires { ⌜ inputsChecked inputs (now mws) (now heats) ≡ Passed ⌝ }
+    ensures { λ r. ⌜ r ≡ vecOf inputs (now (mws .entry)) (now (heats .entry)) ⌝ }
+{
+    if mws.len() == 0 {
+        return 0;
+    }
+    let price = heat_price(inputs);
+    let sum = weighted_units(price, inputs.om, mws, heats);
+    let total = total_mw(mws);
+    round_half_up(sum, UNITS * total)
+}
+
+fn heat_price(inputs: CostInputs) -> u64
+    requires { ⌜ HeatSizes inputs ⌝ }
+    ensures { λ r. ⌜ r ≡ heatPrice inputs ⌝ }
+{
+    (inputs.gas + inputs.transport) * 10000000 + inputs.allowance * inputs.rate
+}
+
+fn weighted_units(price: u64, om: u64, mws: &[u64], heats: &[u64]) -> u64
+    requires { ⌜ length (now mws) ≡ length (now heats) ⌝ }
+    requires { ⌜ every (oneTo 500) (now mws) ≡ true ⌝ }
+    requires { ⌜ weightedUnits price om (now mws) (now heats) < 2 ^ 64 ⌝ }
+    ensures { λ r. ⌜ r ≡ weightedUnits price om (now (mws .entry)) (now (heats .entry)) ⌝ }
+{
+    let mut sum = 0;
+    let mut i = 0;
+    while i < mws.len() {
+        let mw = mws[i];
+        sum += mw * (heats[i] * price + om * UNITS);
+        i += 1;
+    }
+    sum
+}
+
+// (2)
+fn suc_of(inputs: CostInputs) -> u64
+    requires { ⌜ StartSizes inputs ⌝ }
+    ensures { λ r. ⌜ r ≡ sucOf inputs ⌝ }
+{
+    let sum = suc_units(inputs);
+    round_half_up(sum, START_UNITS)
+}
+
+fn suc_units(inputs: CostInputs) -> u64
+    requires { ⌜ StartSizes inputs ⌝ }
+    ensures { λ r. ⌜ r ≡ sucUnits inputs ⌝ }
+{
+    let cents = inputs.fuel * (inputs.gas + inputs.transport)
+        + inputs.aux * 10 * inputs.gas
+        + inputs.start_adder;
+    let allowances = inputs.fuel * (inputs.allowance * inputs.rate);
+    let grid = inputs.pmin * inputs.block * inputs.minutes * inputs.gmc;
+    cents * START_UNITS + allowances * 120 + grid * 10000000
+}
+
+// (3) as printed
+fn mlc_of(inputs: CostInputs) -> u64
+    requires { ⌜ LoadSizes inputs ⌝ }
+    ensures { λ r. ⌜ r ≡ mlcOf inputs ⌝ }
+{
+    let sum = mlc_units(inputs);
+    round_half_up(sum, UNITS)
+}
+
+fn mlc_units(inputs: CostInputs) -> u64
+    requires { ⌜ LoadSizes inputs ⌝ }
+    ensures { λ r. ⌜ r ≡ mlcUnits inputs ⌝ }
+{
+    let mw = inputs.pmin * inputs.block;
+    let fuel = inputs.min_heat * mw * (inputs.gas + inputs.transport);
+    let cents = inputs.om * mw + inputs.load_adder + inputs.gmc * mw;
+    fuel * 10000000 + allowance_at_minimum(inputs) + cents * UNITS
+}
+
+// The term of (3) that Pmin MW does not scale.
+fn allowance_at_minimum(inputs: CostInputs) -> u64
+    requires { ⌜ LoadSizes inputs ⌝ }
+    ensures { λ r. ⌜ r ≡ allowanceUnits inputs ⌝ }
+{
+    inputs.allowance * inputs.rate * inputs.min_heat
+}
+
+// The nearest whole number, a half going up. No number is doubled, so any numerator will do.
+fn round_half_up(num: u64, den: u64) -> u64
+    requires { ⌜ 0 < den ⌝ }
+    ensures { λ r. ⌜ r ≡ rounded (num over den) ⌝ }
+{
+    let quotient = num / den;
+    let rest = num % den;
+    if den - rest <= rest {
+        return quotient + 1;
+    }
+    quotient
+}
