@@ -1,0 +1,50 @@
+-- What it says that the slices lent are long enough and the case is in order.
+use mathlib.Core.Path.{_≡_, refl}
+use mathlib.Core.List.{List}
+use Prim.Native.Nat.{ℕ, _≤_}
+use native.Mathlib.Omega.{arith}
+use borrow.Author.Tests.{leb-true}
+use lib.Dec.{leb}
+use lib.IntN.{ℤ}
+use lib.ListN.{length}
+use Rattle.commitment.specs.declared.Cause.the-variants.{Length, Scratch}
+use Rattle.commitment.specs.declared.Checked.{Checked}
+use Rattle.commitment.specs.declared.Checked.the-variants.{Passed, Refused}
+use Rattle.commitment.specs.declared.UnitRecord.{UnitRecord}
+use Rattle.commitment.specs.Causes.{checkedThen}
+use Rattle.commitment.specs.Cells.{cellsNeeded}
+use Rattle.commitment.specs.Ranges.{caseChecked}
+use Rattle.commitment.proofs.Passing.{Passing, passing, unless-passed}
+use Rattle.planner.specs.Planning.{scratchChecked, lentChecked, planLent}
+use Rattle.planner.specs.Valuing.{valueLent}
+
+pub then-passed : (a b : Checked) → checkedThen a b ≡ Passed → (a ≡ Passed) × (b ≡ Passed)
+then-passed Passed b e = (refl, e)
+then-passed (Refused cause) b e = let z : _≡_ {A = ℕ} 0 1 = cc in absurd (omega arith)
+
+scratch-fits : (u : UnitRecord) (n scratch : ℕ) → scratchChecked u n scratch ≡ Passed → cellsNeeded u n ≤ scratch
+scratch-fits u n scratch e = leb-true (cellsNeeded u n) scratch (unless-passed (leb (cellsNeeded u n) scratch) Scratch Passed e .0)
+
+pub record ValueLent (u : UnitRecord) (prices : List ℤ) (scratch : ℕ) : Type 0 where
+  pub case : Passing u prices
+  pub cells : cellsNeeded u (length prices) ≤ scratch
+
+pub value-lent : (u : UnitRecord) (prices : List ℤ) (scratch : ℕ) → valueLent u prices scratch ≡ Passed → ValueLent u prices scratch
+unfolding valueLent
+value-lent u prices scratch e =
+    let a = then-passed (caseChecked u prices) (scratchChecked u (length prices) scratch) e in
+    record { case = passing u prices (a .0); cells = scratch-fits u (length prices) scratch (a .1) }
+
+pub record PlanLent (u : UnitRecord) (prices : List ℤ) (scratch schedule : ℕ) : Type 0 where
+  pub value : ValueLent u prices scratch
+  pub entries : length prices ≤ schedule
+
+pub plan-lent : (u : UnitRecord) (prices : List ℤ) (scratch schedule : ℕ) → planLent u prices scratch schedule ≡ Passed → PlanLent u prices scratch schedule
+unfolding planLent
+plan-lent u prices scratch schedule e =
+    let a = then-passed (caseChecked u prices) (lentChecked u (length prices) scratch schedule) e in
+    let b = unless-passed (leb (length prices) schedule) Length (scratchChecked u (length prices) scratch) (a .1) in
+    record {
+      value = record { case = passing u prices (a .0); cells = scratch-fits u (length prices) scratch (b .1) };
+      entries = leb-true (length prices) schedule (b .0);
+    }
