@@ -1,0 +1,48 @@
+-- Texts written into a buffer one after the other are their concatenation written at once.
+use mathlib.Core.Path.{_≡_, refl, sym, ap, ap₂, _∙_}
+use mathlib.Core.List.{List, [], _∷_, _++_, append-assoc}
+use Prim.Native.Nat.{ℕ, suc, _+_, _≤_, _<_}
+use native.Mathlib.Nat.{add-assoc, add-zero}
+use native.Mathlib.Numerals.{add-one}
+use native.Mathlib.Omega.{arith}
+use lib.ListN.{length, take, drop, set, length-append, length-drop}
+use lib.Seq.{set-split, length-take-le, take-at, drop-append-add, drop-drop}
+use Rattle.listing.specs.Writing.{written, Put}
+
+module _ (b : List ℕ) (at : ℕ) where
+  pub written-byte : (v : ℕ) → at < length b → set b at v ≡ written b at (v ∷ [])
+  unfolding written
+  written-byte v h = rw (add-one at) (set-split b at v h)
+
+  pub written-length : (t : List ℕ) → at + length t ≤ length b → length (written b at t) ≡ length b
+  unfolding written
+  written-length t h =
+      simp (length-append, length-take-le at b (omega arith), length-drop) (omega arith)
+
+  pub written-then : (s t : List ℕ) → at + length s + length t ≤ length b → written (written b at s) (at + length s) t ≡ written b at (s ++ t)
+  unfolding written
+  written-then s t h =
+      let front = take at b ++ s in
+      let rest = drop (at + length s) b in
+      let long : length front ≡ at + length s = simp (length-append, length-take-le at b (omega arith)) in
+      let whole : take at b ++ (s ++ rest) ≡ front ++ rest = sym (append-assoc (take at b) s rest) in
+      let first : take (at + length s) (front ++ rest) ≡ front = take-at front rest (at + length s) long in
+      let behind : drop (at + length s + length t) (front ++ rest) ≡ drop (at + length s + length t) b =
+      ap (λ (k : ℕ). drop (k + length t) (front ++ rest)) (sym long) ∙ drop-append-add front rest (length t) ∙ drop-drop (length t) (at + length s) b in
+      let seam : at + length (s ++ t) ≡ at + length s + length t = simp length-append (omega arith) in
+      ap₂ (λ (x y : List ℕ). x ++ (t ++ y)) (ap (take (at + length s)) whole ∙ first) (ap (drop (at + length s + length t)) whole ∙ behind)
+      ∙ append-assoc (take at b) s (t ++ drop (at + length s + length t) b)
+      ∙ ap (λ (x : List ℕ). take at b ++ x) (sym (append-assoc s t (drop (at + length s + length t) b)) ∙ ap (λ (k : ℕ). (s ++ t) ++ drop k b) (sym seam))
+
+-- a text after another, as what the two calls give
+pub put-then : {b : List ℕ} {at : ℕ} {s : List ℕ} {p : ℕ} {c t : List ℕ} {q : ℕ} {d : List ℕ} → at + length s + length t ≤ length b → Put b at s p c → Put c p t q d → Put b at (s ++ t) q d
+put-then {b} {at} {s} {p} {c} {t} {q} {d} h f g =
+    let e : length (s ++ t) ≡ length s + length t = length-append s t in
+    record {
+      place = omega (arith, f .place, g .place, e);
+      bytes = g .bytes ∙ ap₂ (λ (x : List ℕ) (k : ℕ). written x k t) (f .bytes) (f .place) ∙ written-then b at s t h;
+    }
+
+-- a text by another name
+pub put-as : {b : List ℕ} {at : ℕ} {s t : List ℕ} {p : ℕ} {c : List ℕ} → s ≡ t → Put b at s p c → Put b at t p c
+put-as e f = rw (← e) f
