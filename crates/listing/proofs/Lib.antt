@@ -1,2 +1,4 @@
 pub mod Writing
 pub mod Numbers
+pub mod Signed
+pub mod Lines

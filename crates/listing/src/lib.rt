@@ -1,12 +1,14 @@
 // The bytes that the planning program prints, written into a lent buffer.
 
-use commitment::{Outcome, Outcomes};
-
+use commitment::Outcome;
+use commitment::Outcomes;
 ghost use mathlib.Core.Path.{_≡_};
 ghost use Prim.Native.Nat.{_+_, _≤_, _<_};
+ghost use lib.IntN.{natAbs};
 ghost use lib.ListN.{length};
-ghost use mathlib.Core.List.{[], _∷_};
+ghost use mathlib.Core.List.{[], _∷_, _++_};
 ghost use Rattle.listing.specs.Numbers.{digit, number, signedNumber};
+ghost use Rattle.listing.specs.Listing.{outcomeText, closed, intervalLine, intervalLines, profitLine, outcomeLines};
 ghost use Rattle.listing.specs.Writing.{Put};
 
 // ---- leaves: each writes at a place and gives the place after it
@@ -28,4 +30,104 @@ fn put_number(out: &mut [u8], at: usize, n: u64) -> usize
     }
     let next = put_number(&mut *out, at, n / 10);
     put_byte(out, next, (48 + n % 10) as u8)
+}
+
+fn put_text(out: &mut [u8], at: usize, text: &[u8]) -> usize
+    requires { ⌜ at + length (now text) ≤ length (now out) ⌝ }
+    ensures { λ r. ⌜ Put (now (out .entry)) at (now (text .entry)) r (now (out .exit)) ⌝ }
+{
+    let mut i = 0;
+    while i < text.len() {
+        out[at + i] = text[i];
+        i += 1;
+    }
+    at + i
+}
+
+fn magnitude(value: i64) -> u64
+    ensures { λ r. ⌜ r ≡ natAbs value ⌝ }
+{
+    if value < 0 {
+        return (-(value + 1)) as u64 + 1;
+    }
+    value as u64
+}
+
+fn put_signed(out: &mut [u8], at: usize, value: i64) -> usize
+    requires { ⌜ at + length (signedNumber value) ≤ length (now out) ⌝ }
+    ensures { λ r. ⌜ Put (now (out .entry)) at (signedNumber value) r (now (out .exit)) ⌝ }
+{
+    if value < 0 {
+        let next = put_byte(&mut *out, at, 45);
+        return put_number(out, next, magnitude(value));
+    }
+    put_number(out, at, magnitude(value))
+}
+
+fn put_outcome(out: &mut [u8], at: usize, outcome: Outcome) -> usize
+    requires { ⌜ at + length (outcomeText outcome) ≤ length (now out) ⌝ }
+    ensures { λ r. ⌜ Put (now (out .entry)) at (outcomeText outcome) r (now (out .exit)) ⌝ }
+{
+    match outcome {
+        Outcome::None => put_text(out, at, b"none"),
+        Outcome::Empty => put_text(out, at, b"empty"),
+        Outcome::Never => put_text(out, at, b"never"),
+        Outcome::Gap(gap) => put_signed(out, at, gap),
+    }
+}
+
+// ---- lines
+
+fn put_interval(out: &mut [u8], at: usize, interval: u64, mw: u64) -> usize
+    requires { ⌜ at + length (intervalLine interval mw) ≤ length (now out) ⌝ }
+    ensures { λ r. ⌜ Put (now (out .entry)) at (intervalLine interval mw) r (now (out .exit)) ⌝ }
+{
+    let comma = put_number(&mut *out, at, interval);
+    let output = put_byte(&mut *out, comma, 44);
+    let end = put_number(&mut *out, output, mw);
+    put_byte(out, end, 10)
+}
+
+fn put_intervals(out: &mut [u8], at: usize, schedule: &[u64]) -> usize
+    requires { ⌜ at + length (intervalLines 1 (now schedule)) ≤ length (now out) ⌝ }
+    ensures { λ r. ⌜ Put (now (out .entry)) at (intervalLines 1 (now (schedule .entry))) r (now (out .exit)) ⌝ }
+{
+    let mut place = at;
+    let mut i = 0;
+    while i < schedule.len() {
+        let mw = schedule[i];
+        i += 1;
+        place = put_interval(&mut *out, place, i as u64, mw);
+    }
+    place
+}
+
+fn put_profit(out: &mut [u8], at: usize, profit: i64) -> usize
+    requires { ⌜ at + length (profitLine profit) ≤ length (now out) ⌝ }
+    ensures { λ r. ⌜ Put (now (out .entry)) at (profitLine profit) r (now (out .exit)) ⌝ }
+{
+    let value = put_text(&mut *out, at, b"profit,");
+    let end = put_signed(&mut *out, value, profit);
+    put_byte(out, end, 10)
+}
+
+fn put_outcome_line(out: &mut [u8], at: usize, name: &[u8], outcome: Outcome) -> usize
+    requires { ⌜ at + length (closed (now name ++ outcomeText outcome)) ≤ length (now out) ⌝ }
+    ensures { λ r. ⌜ Put (now (out .entry)) at (closed (now (name .entry) ++ outcomeText outcome)) r (now (out .exit)) ⌝ }
+{
+    let value = put_text(&mut *out, at, name);
+    let end = put_outcome(&mut *out, value, outcome);
+    put_byte(out, end, 10)
+}
+
+fn put_outcomes(out: &mut [u8], at: usize, outcomes: Outcomes) -> usize
+    requires { ⌜ at + length (outcomeLines outcomes) ≤ length (now out) ⌝ }
+    ensures { λ r. ⌜ Put (now (out .entry)) at (outcomeLines outcomes) r (now (out .exit)) ⌝ }
+{
+    let starts = outcomes.starts;
+    let hours = outcomes.hours;
+    let mwh = outcomes.mwh;
+    let second = put_outcome_line(&mut *out, at, b"starts,", starts);
+    let third = put_outcome_line(&mut *out, second, b"hours,", hours);
+    put_outcome_line(out, third, b"mwh,", mwh)
 }

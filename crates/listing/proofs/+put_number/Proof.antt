@@ -12,7 +12,6 @@ use borrow.Fn.PlainCycle.{Measures, is, falls, and}
 use Rattle.listing.proofs.put_number.Reads as put-number
 use Rattle.listing.proofs.put_number.Kinds as put-number-kinds
 use Rattle.listing.proofs.+put_number.Lts-put_number as put-number-lts
-use Rattle.listing.proofs.put_byte.Reads as put-byte-reads
 use Rattle.listing.proofs.+put_number.{statement}
 use Rattle.listing.proofs.+put_number.Tie.{close}
 
@@ -49,7 +48,7 @@ put-number-put-byte-requires : (t : ℕ) → put-number-lts.Need-put-byte-requir
   put-number-below t,
   put-number.Post,
 ) (put-number-at t) put-number.Post
-put-number-put-byte-requires t c κs = 
+put-number-put-byte-requires t c κs =
     let s = c .before .before .before in
     omega (arith, s .pre .1, length-small (s .args .n) (c .before .if1 .taken))
 
@@ -67,7 +66,7 @@ put-number-returns : (t : ℕ) → put-number-lts.Need-returns (
   put-number-below t,
   put-number.Post,
 ) (put-number-at t) put-number.Post
-put-number-returns t c = 
+put-number-returns t c =
     let s = c .before .before .before .before .before .before in
     let small = c .before .before .before .before .if1 .taken in
     record {
@@ -81,7 +80,7 @@ put-number-put-number-requires : (t : ℕ) → put-number-lts.Need-put-number-re
   put-number-below t,
   put-number.Post,
 ) (put-number-at t) put-number.Post
-put-number-put-number-requires t c κs = 
+put-number-put-number-requires t c κs =
     let s = c .before .before .before in
     let large = c .before .if1 .left in
     (omega (arith, s .pre .0, large), omega (arith, s .pre .1, length-large (s .args .n) large (s .fits .n .fits)))
@@ -108,7 +107,7 @@ put-number-put-byte-requires-2 : (t : ℕ) → put-number-lts.Need-put-byte-requ
   put-number-below t,
   put-number.Post,
 ) (put-number-at t) put-number.Post
-put-number-put-byte-requires-2 t c κs = 
+put-number-put-byte-requires-2 t c κs =
     let s = c .before .before .before .before .before .before .before in
     omega
     (arith, s .pre .1, length-large (s .args .n) (c .before .before .before .before .before .if1 .left) (s .fits .n .fits), c .before .before .before .put-number .ensures .place, c .before .before .before .put-number .kept .0)
@@ -127,7 +126,7 @@ put-number-returns-2 : (t : ℕ) → put-number-lts.Need-returns-2 (
   put-number-below t,
   put-number.Post,
 ) (put-number-at t) put-number.Post
-put-number-returns-2 t c = 
+put-number-returns-2 t c =
     let s = c .before .before .before .before .before .before .before .before .before .before in
     let large = c .before .before .before .before .before .before .before .before .if1 .left in
     let one = length-large (s .args .n) large (s .fits .n .fits) in
