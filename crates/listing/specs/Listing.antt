@@ -1,10 +1,18 @@
 -- The lines that the planning program prints: each is a definition of its own, closed by byte 10.
+use mathlib.Core.Bool.{cond}
 use mathlib.Core.List.{List, [], _∷_, _++_}
 use Prim.Native.Nat.{ℕ, suc}
+use lib.Dec.{leb}
 use lib.IntN.{ℤ}
+use lib.ListN.{length, drop}
+use Rattle.commitment.specs.declared.Cause.the-variants.{Length}
 use Rattle.commitment.specs.declared.Outcome.{Outcome}
 use Rattle.commitment.specs.declared.Outcome.the-variants.{None, Empty, Never, Gap}
 use Rattle.commitment.specs.declared.Outcomes.{Outcomes}
+use Rattle.listing.specs.declared.Fit.{Fit}
+use Rattle.listing.specs.declared.Fit.the-variants.{Bytes, TooLong}
+use Rattle.listing.specs.declared.Written.{Written}
+use Rattle.listing.specs.declared.Written.the-variants as written
 use Rattle.listing.specs.Numbers.{number, signedNumber}
 
 -- "interval,mw"
@@ -67,3 +75,16 @@ listing schedule profit outcomes =
 -- "It prints a refusal as the line `refused,` and the number."
 unfoldable pub refusal : ℕ → List ℕ
 refusal cause = closed (refusedName ++ number cause)
+
+-- ---- a text in a lent buffer of so many bytes
+
+abbrev pub fitted : ℕ → ℕ → Fit
+fitted bytes room = cond (leb bytes room) (Bytes bytes) TooLong
+
+-- "A buffer too short gets a refusal and is as it was": number 7, a list slice too short
+abbrev pub answered : Fit → Written
+answered (Bytes bytes) = written.Bytes bytes
+answered TooLong = written.Refused Length
+
+abbrev pub bufferAfter : List ℕ → List ℕ → List ℕ
+bufferAfter text buffer = cond (leb (length text) (length buffer)) (text ++ drop (length text) buffer) buffer

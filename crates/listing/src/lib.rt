@@ -1,5 +1,6 @@
 // The bytes that the planning program prints, written into a lent buffer.
 
+use commitment::Cause;
 use commitment::Outcome;
 use commitment::Outcomes;
 ghost use mathlib.Core.Path.{_≡_};
@@ -8,8 +9,49 @@ ghost use lib.IntN.{natAbs};
 ghost use lib.ListN.{length};
 ghost use mathlib.Core.List.{[], _∷_, _++_};
 ghost use Rattle.listing.specs.Numbers.{digit, number, signedNumber};
-ghost use Rattle.listing.specs.Listing.{outcomeText, closed, intervalLine, intervalLines, profitLine, outcomeLines};
-ghost use Rattle.listing.specs.Writing.{Put};
+ghost use Rattle.listing.specs.Listing.{outcomeText, closed, intervalLine, intervalLines, profitLine, outcomeLines, listing, refusal, fitted, answered, bufferAfter};
+ghost use Rattle.listing.specs.Writing.{Put, written};
+
+// What writing answers: so many bytes from the front, or 7 for a buffer too short.
+pub enum Written {
+    Bytes(usize),
+    Refused(Cause),
+}
+
+// Whether a text fits a buffer, and its length.
+pub enum Fit {
+    Bytes(usize),
+    TooLong,
+}
+
+// The listing of a plan: interval and MW, then profit and the three outcomes.
+pub fn write_listing(schedule: &[u64], profit: i64, outcomes: Outcomes, out: &mut [u8]) -> Written
+    ensures { λ r. ⌜ r ≡ answered (fitted (length (listing (now (schedule .entry)) profit outcomes)) (length (now (out .entry)))) ⌝ }
+    ensures { λ _. ⌜ now (out .exit) ≡ bufferAfter (listing (now (schedule .entry)) profit outcomes) (now (out .entry)) ⌝ }
+{
+    match listing_fit(schedule, profit, outcomes, out.len()) {
+        Fit::TooLong => Written::Refused(Cause::Length),
+        Fit::Bytes(bytes) => {
+            put_listing(out, schedule, profit, outcomes);
+            Written::Bytes(bytes)
+        }
+    }
+}
+
+// The line of a refusal.
+pub fn write_refusal(number: u64, out: &mut [u8]) -> Written
+    ensures { λ r. ⌜ r ≡ answered (fitted (length (refusal number)) (length (now (out .entry)))) ⌝ }
+    ensures { λ _. ⌜ now (out .exit) ≡ bufferAfter (refusal number) (now (out .entry)) ⌝ }
+{
+    let bytes = 9 + number_length(number);
+    if out.len() < bytes {
+        return Written::Refused(Cause::Length);
+    }
+    let value = put_text(&mut *out, 0, b"refused,");
+    let end = put_number(&mut *out, value, number);
+    put_byte(out, end, 10);
+    Written::Bytes(bytes)
+}
 
 // ---- leaves: each writes at a place and gives the place after it
 
@@ -130,4 +172,98 @@ fn put_outcomes(out: &mut [u8], at: usize, outcomes: Outcomes) -> usize
     let second = put_outcome_line(&mut *out, at, b"starts,", starts);
     let third = put_outcome_line(&mut *out, second, b"hours,", hours);
     put_outcome_line(out, third, b"mwh,", mwh)
+}
+
+fn put_listing(out: &mut [u8], schedule: &[u64], profit: i64, outcomes: Outcomes)
+    requires { ⌜ length (listing (now schedule) profit outcomes) ≤ length (now out) ⌝ }
+    ensures { λ _. ⌜ now (out .exit) ≡ written (now (out .entry)) 0 (listing (now (schedule .entry)) profit outcomes) ⌝ }
+{
+    let intervals = put_text(&mut *out, 0, b"interval,mw\n");
+    let heading = put_intervals(&mut *out, intervals, schedule);
+    let value = put_text(&mut *out, heading, b"\nwhat,value\n");
+    let lines = put_profit(&mut *out, value, profit);
+    put_outcomes(out, lines, outcomes);
+}
+
+// ---- lengths: nothing is written before it is known to fit
+
+fn number_length(n: u64) -> usize
+    ensures { λ r. ⌜ r ≡ length (number n) ⌝ }
+{
+    let mut digits = 1;
+    let mut rest = n;
+    while 10 <= rest {
+        rest /= 10;
+        digits += 1;
+    }
+    digits
+}
+
+fn signed_length(value: i64) -> usize
+    ensures { λ r. ⌜ r ≡ length (signedNumber value) ⌝ }
+{
+    let digits = number_length(magnitude(value));
+    if value < 0 {
+        return digits + 1;
+    }
+    digits
+}
+
+fn outcome_length(outcome: Outcome) -> usize
+    ensures { λ r. ⌜ r ≡ length (outcomeText outcome) ⌝ }
+{
+    match outcome {
+        Outcome::None => 4,
+        Outcome::Empty => 5,
+        Outcome::Never => 5,
+        Outcome::Gap(gap) => signed_length(gap),
+    }
+}
+
+// The listing but for the intervals' lines: two headings of 12 bytes, and each name, comma and line end.
+fn totals_length(profit: i64, outcomes: Outcomes) -> usize
+    ensures { λ r. ⌜ r ≡ 24 + (length (profitLine profit) + length (outcomeLines outcomes)) ⌝ }
+{
+    let starts = outcomes.starts;
+    let hours = outcomes.hours;
+    let mwh = outcomes.mwh;
+    24
+        + 8
+        + signed_length(profit)
+        + 8
+        + outcome_length(starts)
+        + 7
+        + outcome_length(hours)
+        + 5
+        + outcome_length(mwh)
+}
+
+fn intervals_fit(schedule: &[u64], room: usize) -> Fit
+    ensures { λ r. ⌜ r ≡ fitted (length (intervalLines 1 (now (schedule .entry)))) room ⌝ }
+{
+    let mut bytes = 0;
+    let mut i = 0;
+    while i < schedule.len() {
+        let mw = schedule[i];
+        i += 1;
+        let line = number_length(i as u64) + number_length(mw) + 2;
+        if room - bytes < line {
+            return Fit::TooLong;
+        }
+        bytes += line;
+    }
+    Fit::Bytes(bytes)
+}
+
+fn listing_fit(schedule: &[u64], profit: i64, outcomes: Outcomes, room: usize) -> Fit
+    ensures { λ r. ⌜ r ≡ fitted (length (listing (now (schedule .entry)) profit outcomes)) room ⌝ }
+{
+    let totals = totals_length(profit, outcomes);
+    if room < totals {
+        return Fit::TooLong;
+    }
+    match intervals_fit(schedule, room - totals) {
+        Fit::TooLong => Fit::TooLong,
+        Fit::Bytes(bytes) => Fit::Bytes(bytes + totals),
+    }
 }

@@ -12,6 +12,7 @@ use borrow.Fn.PlainCycle.{Measures, is, falls, and}
 use Rattle.listing.proofs.put_number.Reads as put-number
 use Rattle.listing.proofs.put_number.Kinds as put-number-kinds
 use Rattle.listing.proofs.+put_number.Lts-put_number as put-number-lts
+use Rattle.listing.proofs.put_byte.Reads as put-byte-reads
 use Rattle.listing.proofs.+put_number.{statement}
 use Rattle.listing.proofs.+put_number.Tie.{close}
 

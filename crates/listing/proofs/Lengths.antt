@@ -1,0 +1,49 @@
+-- How long the lines of the totals are.
+use mathlib.Core.Path.{_≡_}
+use mathlib.Core.List.{List, _∷_, _++_}
+use Prim.Native.Nat.{ℕ, suc, _+_, _≤_}
+use native.Mathlib.Omega.{arith}
+use lib.IntN.{ℤ, pos, negsuc}
+use lib.ListN.{length, length-append}
+use Rattle.commitment.specs.declared.Outcome.{Outcome}
+use Rattle.commitment.specs.declared.Outcome.the-variants.{None, Empty, Never, Gap}
+use Rattle.commitment.specs.declared.Outcomes.{Outcomes}
+use Rattle.listing.specs.Numbers.{number, signedNumber}
+use Rattle.listing.specs.Listing.{outcomeText, closed, intervalHeading, valueHeading, profitName, startsName, hoursName, mwhName, intervalLine, intervalLines, profitLine, outcomeLines, listing, refusedName, refusal}
+use Rattle.listing.proofs.Numbers.{number-short}
+
+pub signed-short : (x : ℤ) → length (signedNumber x) ≤ 21
+signed-short (pos n) = omega (arith, number-short n)
+signed-short (negsuc n) = omega (arith, number-short (suc n))
+
+pub outcome-short : (o : Outcome) → length (outcomeText o) ≤ 21
+outcome-short None = omega arith
+outcome-short Empty = omega arith
+outcome-short Never = omega arith
+outcome-short (Gap gap) = signed-short gap
+
+closed-length : (name text : List ℕ) → length (closed (name ++ text)) ≡ length name + length text + 1
+closed-length name text = simp length-append
+
+pub line-length : (k m : ℕ) → length (intervalLine k m) ≡ length (number k) + length (number m) + 2
+line-length k m = omega (arith, closed-length (number k) (44 ∷ number m))
+
+pub profit-length : (p : ℤ) → length (profitLine p) ≡ 8 + length (signedNumber p)
+profit-length p = omega (arith, closed-length profitName (signedNumber p))
+
+pub outcomes-length : (o : Outcomes)
+    → length (outcomeLines o) ≡ 20 + length (outcomeText (o .starts)) + length (outcomeText (o .hours)) + length (outcomeText (o .mwh))
+outcomes-length o =
+    omega
+    (arith, length-append (closed (startsName ++ outcomeText (o .starts))) (closed (hoursName ++ outcomeText (o .hours)) ++ closed (mwhName ++ outcomeText (o .mwh))), length-append (closed (hoursName ++ outcomeText (o .hours))) (closed (mwhName ++ outcomeText (o .mwh))), closed-length startsName (outcomeText (o .starts)), closed-length hoursName (outcomeText (o .hours)), closed-length mwhName (outcomeText (o .mwh)))
+
+pub listing-length : (s : List ℕ) (p : ℤ) (o : Outcomes)
+    → length (listing s p o) ≡ length (intervalLines 1 s) + (24 + (length (profitLine p) + length (outcomeLines o)))
+unfolding listing
+listing-length s p o =
+    omega
+    (arith, length-append intervalHeading (intervalLines 1 s ++ (valueHeading ++ (profitLine p ++ outcomeLines o))), length-append (intervalLines 1 s) (valueHeading ++ (profitLine p ++ outcomeLines o)), length-append valueHeading (profitLine p ++ outcomeLines o), length-append (profitLine p) (outcomeLines o))
+
+pub refusal-length : (n : ℕ) → length (refusal n) ≡ 9 + length (number n)
+unfolding refusal
+refusal-length n = omega (arith, closed-length refusedName (number n))
