@@ -1,0 +1,81 @@
+-- Each return is the test that the branch took; the sum stays inside an i64.
+use mathlib.Core.Path.{_≡_, _∙_}
+use mathlib.Core.Bool.{true, false}
+use Prim.Native.Nat.{_+_, _-_, _*_, _^_}
+use native.Mathlib.Omega.{arith}
+use borrow.Author.Needs.{needs}
+use borrow.Author.Tests.{le-leb, lt-leb}
+use lib.Dec.{lit<}
+use lib.IntN.{pos, _+ℤ_}
+use lib.ListN.{getD}
+use lib.Signed.{ltZ}
+use mir.Syntax.{w64}
+use mir.Val.{toZ, ofZ}
+use Rattle.integers.proofs.Ranges.{Within, within-fits, plain, plain-fits}
+use Rattle.table.specs.Layers.{swing}
+use Rattle.table.specs.Turns.{net}
+use Rattle.table.proofs.Holding.{gained-within}
+use Rattle.table.proofs.Turning.{blocks-most, net-small}
+use Rattle.table.proofs.reading.reaches.Statement.{statement}
+use Rattle.table.proofs.reading.reaches.Tie as tie
+
+-- what the output brings, and what it reaches
+brings : (c : tie.After-net) → let a = c .before .before .before .before .args in toZ w64 (ofZ w64 (c .net .result)) ≡ net (a .f) (a .price) (a .pays) (a .k)
+brings c = plain-fits (record { sfits = c .net .ok }) ∙ (rw (plain-fits (c .before .before .before .before .fits .price)) at (c .net .ensures))
+
+reached : (c : tie.After-net) →
+    let a = c .before .before .before .before .args in
+    Within (2 ^ 62 + swing) (getD (a .scratch .now) (a .row + (a .z - a .k * a .f .perblock)) (pos 0) +ℤ net (a .f) (a .price) (a .pays) (a .k))
+reached c =
+    let o = c .before .before .before .before in
+    let a = o .args in
+    gained-within (getD (a .scratch .now) (a .row + (a .z - a .k * a .f .perblock)) (pos 0)) (net (a .f) (a .price) (a .pays) (a .k)) (o .pre .1 .1 (a .z - a .k * a .f .perblock) (omega arith))
+    (net-small (a .f) (o .pre .0 .0) (a .price) (o .pre .0 .1) (a .pays) (a .k) (o .pre .0 .2) (o .pre .0 .3))
+
+read : (c : tie.After-v) →
+    let a = c .before .before .before .args in
+    toZ w64 (ofZ w64 (getD (a .scratch .now) (a .row + (a .z - a .k * a .f .perblock)) (pos 0))) ≡ getD (a .scratch .now) (a .row + (a .z - a .k * a .f .perblock)) (pos 0)
+read c = plain-fits (record { sfits = c .v .given })
+
+mul-spent : tie.Need-mul-spent
+mul-spent c = let o = c .before in omega (arith, blocks-most (o .args .f) (o .pre .0 .0) (o .args .k) (o .pre .0 .3))
+
+returns : tie.Need-returns
+returns c = simp (lt-leb _ _ (c .if1 .taken))
+
+add-i : tie.Need-add-i
+add-i c = search needs
+
+mul-v : tie.Need-mul-v
+mul-v c = search needs
+
+shared-slice-copy-out-v : tie.Need-shared-slice-copy-out-v
+shared-slice-copy-out-v c = search needs
+
+net-requires : tie.Need-net-requires
+net-requires c κs = search needs
+
+add-v : tie.Need-add-v
+add-v c = rw (read (c .before), brings c) (within-fits (reached c) (lit< tt))
+
+-- the test, of the numbers themselves
+tested : (c : tie.After-net) →
+    let a = c .before .before .before .before .args in
+    toZ w64 (ofZ w64 (toZ w64 (ofZ w64 (getD (a .scratch .now) (a .row + (a .z - a .k * a .f .perblock)) (pos 0))) +ℤ toZ w64 (ofZ w64 (c .net .result))))
+    ≡ getD (a .scratch .now) (a .row + (a .z - a .k * a .f .perblock)) (pos 0) +ℤ net (a .f) (a .price) (a .pays) (a .k)
+tested c = rw (read (c .before), brings c) (plain (reached c) (lit< tt))
+
+returns-2 : tie.Need-returns-2
+returns-2 c =
+    let o = c .before .before .before .before .before in
+    let t = rw (tested (c .before), plain-fits (o .fits .best)) at (c .if2 .taken) in
+    simp (le-leb _ _ (c .before .before .before .if1 .left), t)
+
+returns-3 : tie.Need-returns-3
+returns-3 c =
+    let o = c .before .before .before .before .before in
+    let t = rw (tested (c .before), plain-fits (o .fits .best)) at (c .if2 .left) in
+    simp (le-leb _ _ (c .before .before .before .if1 .left), t)
+
+pub reaches-spec : {M : Type 1} → statement M
+reaches-spec = tie.close (tie.spec mul-spent returns add-i mul-v shared-slice-copy-out-v net-requires add-v returns-2 returns-3)
