@@ -1,7 +1,7 @@
 -- What it says that the slices lent are long enough and the case is in order.
-use mathlib.Core.Path.{_≡_, refl}
+use mathlib.Core.Path.{_≡_, refl, sym, ap, _∙_}
 use mathlib.Core.List.{List}
-use Prim.Native.Nat.{ℕ, _≤_}
+use Prim.Native.Nat.{ℕ, _+_, _*_, _≤_}
 use native.Mathlib.Omega.{arith}
 use borrow.Author.Tests.{leb-true}
 use lib.Dec.{leb}
@@ -12,9 +12,16 @@ use Rattle.commitment.specs.declared.Checked.{Checked}
 use Rattle.commitment.specs.declared.Checked.the-variants.{Passed, Refused}
 use Rattle.commitment.specs.declared.UnitRecord.{UnitRecord}
 use Rattle.commitment.specs.Causes.{checkedThen}
-use Rattle.commitment.specs.Cells.{cellsNeeded}
+use Rattle.commitment.specs.Cells.{layerCells, cellsNeeded}
 use Rattle.commitment.specs.Ranges.{caseChecked}
 use Rattle.commitment.proofs.Passing.{Passing, passing, unless-passed}
+use Rattle.optimality.specs.declared.Figures.{Figures}
+use Rattle.optimality.specs.Cells.{Sound, states, figuresOf}
+use Rattle.optimality.proofs.Opening.{figures-sound}
+use Rattle.optimality.proofs.Ranges.{ranged}
+use Rattle.table.specs.Layers.{Room, Filled, width}
+use Rattle.table.proofs.Widths.{width-is}
+use Rattle.planner.specs.Tables.{Worked}
 use Rattle.planner.specs.Planning.{scratchChecked, lentChecked, planLent}
 use Rattle.planner.specs.Valuing.{valueLent}
 
@@ -48,3 +55,40 @@ plan-lent u prices scratch schedule e =
       value = record { case = passing u prices (a .0); cells = scratch-fits u (length prices) scratch (b .1) };
       entries = leb-true (length prices) schedule (b .0);
     }
+
+-- ---- the table that fits what is lent
+
+module _ (u : UnitRecord) (prices : List ℤ) (scratch : ℕ) (h : ValueLent u prices scratch) (f : Figures) (is : f ≡ figuresOf u (length prices)) where
+  pub lent-sound : Sound f
+  lent-sound = rw is (figures-sound u (ranged u (h .case .ranges) (h .case .shape)) (length prices) (h .case .most-prices))
+
+  pub lent-room : Room f (length prices) scratch
+  lent-room =
+      record {
+        sound = lent-sound;
+        short = h .case .most-prices;
+        fits = rw (is, width-is u (length prices)) (h .cells);
+      }
+
+  module _ (w : ℕ) (layer : w ≡ states f * (f .starts + 1) * (f .ons + 1) * (f .blocks + 1)) where
+    layer-is : w ≡ layerCells u (length prices)
+    unfolding figuresOf
+    layer-is = layer ∙ rw is refl
+
+    pub layer-width : w ≡ width f
+    layer-width = layer-is ∙ sym (rw is (width-is u (length prices)))
+
+    -- all layers are the cells needed
+    pub layers-are : (length prices + 1) * w ≡ cellsNeeded u (length prices)
+    layers-are = ap (λ (n : ℕ). (length prices + 1) * n) layer-is
+
+  pub worked : (cells : List ℤ) → length cells ≡ scratch → Filled f prices cells → Worked u prices cells
+  worked cells long filled =
+      record {
+        ranges = h .case .ranges;
+        shape = h .case .shape;
+        short = h .case .most-prices;
+        priced = h .case .price-at;
+        room = rw long (h .cells);
+        filled = rw is at filled;
+      }

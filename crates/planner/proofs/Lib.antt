@@ -1,2 +1,4 @@
 mod Runs
 mod Lent
+mod Worked
+mod Answers

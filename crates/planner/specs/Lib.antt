@@ -1,3 +1,4 @@
 pub mod Planning
 pub mod Valuing
 pub mod Reporting
+pub mod Tables

@@ -34,9 +34,12 @@ abbrev pub hasSchedule : Plan → Bool
 hasSchedule nothing = false
 hasSchedule (plan s p) = true
 
+-- 9, found by the work
+abbrev pub scheduleChecked : UnitRecord → List ℤ → Checked
+scheduleChecked u prices = unless (hasSchedule (best u prices)) NoSchedule Passed
+
 abbrev pub planChecked : UnitRecord → List ℤ → ℕ → ℕ → Checked
-planChecked u prices scratch schedule =
-    checkedThen (planLent u prices scratch schedule) (unless (hasSchedule (best u prices)) NoSchedule Passed)
+planChecked u prices scratch schedule = checkedThen (planLent u prices scratch schedule) (scheduleChecked u prices)
 
 -- ---- the answer
 

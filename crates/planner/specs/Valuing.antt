@@ -3,7 +3,6 @@ use mathlib.Core.List.{List}
 use Prim.Native.Nat.{ℕ}
 use lib.IntN.{ℤ}
 use lib.ListN.{length}
-use Rattle.commitment.specs.declared.Cause.the-variants.{NoSchedule}
 use Rattle.commitment.specs.declared.Checked.{Checked}
 use Rattle.commitment.specs.declared.Checked.the-variants.{Passed}
 use Rattle.commitment.specs.declared.Checked.the-variants as checked
@@ -11,13 +10,12 @@ use Rattle.commitment.specs.declared.Limit.{Limit}
 use Rattle.commitment.specs.declared.Outcome.{Outcome}
 use Rattle.commitment.specs.declared.Outcomes.{Outcomes}
 use Rattle.commitment.specs.declared.UnitRecord.{UnitRecord}
-use Rattle.commitment.specs.Best.{best}
-use Rattle.commitment.specs.Causes.{numberOf, unless, checkedThen}
+use Rattle.commitment.specs.Causes.{numberOf, checkedThen}
 use Rattle.commitment.specs.Ranges.{caseChecked}
 use Rattle.commitment.specs.Valuing.{startsOutcome, hoursOutcome, mwhOutcome, outcomesOf, noOutcomes}
 use Rattle.optimality.specs.declared.Cell.{Cell}
 use Rattle.optimality.specs.Runs.{startsCell, hoursCell, mwhCell}
-use Rattle.planner.specs.Planning.{scratchChecked, hasSchedule}
+use Rattle.planner.specs.Planning.{scratchChecked, scheduleChecked}
 use Rattle.planner.specs.declared.Limitation.{Limitation}
 use Rattle.planner.specs.declared.Limitation.the-variants.{Starts, Hours, Mwh}
 use Rattle.planner.specs.declared.Valued.{Valued}
@@ -29,7 +27,7 @@ unfoldable pub valueLent : UnitRecord → List ℤ → ℕ → Checked
 valueLent u prices scratch = checkedThen (caseChecked u prices) (scratchChecked u (length prices) scratch)
 
 abbrev pub valueChecked : UnitRecord → List ℤ → ℕ → Checked
-valueChecked u prices scratch = checkedThen (valueLent u prices scratch) (unless (hasSchedule (best u prices)) NoSchedule Passed)
+valueChecked u prices scratch = checkedThen (valueLent u prices scratch) (scheduleChecked u prices)
 
 -- ---- the answer
 

@@ -8,16 +8,26 @@ use commitment::Outcomes;
 use commitment::UnitRecord;
 use optimality::Cell;
 use optimality::Figures;
+use table::Best;
 ghost use mathlib.Core.Path.{_≡_};
 ghost use mathlib.Core.Bool.{true};
-ghost use Prim.Native.Nat.{_≤_};
+ghost use Prim.Native.Nat.{_≤_, _<_, _^_};
+ghost use denote.Ref.{ptr};
+ghost use lib.IntN.{natAbs};
 ghost use lib.ListN.{length};
+ghost use Rattle.commitment.specs.declared.Checked.the-variants.{Passed};
 ghost use Rattle.commitment.specs.declared.Limit.the-variants.{At};
+ghost use Rattle.commitment.specs.Best.{best};
+ghost use Rattle.commitment.specs.Cells.{cellsNeeded};
 ghost use Rattle.commitment.specs.Ranges.{rangesKept, shapeKept};
-ghost use Rattle.optimality.specs.Cells.{figuresOf};
-ghost use Rattle.optimality.specs.Runs.{AtMost};
-ghost use Rattle.planner.specs.Planning.{scratchChecked, lentChecked, planLent};
-ghost use Rattle.planner.specs.Valuing.{valueLent, limitOf, runCell};
+ghost use Rattle.commitment.specs.Valuing.{outcomesOf};
+ghost use Rattle.optimality.specs.Cells.{figuresOf, opening, valueAt};
+ghost use Rattle.optimality.specs.Runs.{AtMost, outcomeAt};
+ghost use Rattle.table.specs.Layers.{width};
+ghost use Rattle.planner.specs.Planning.{scratchChecked, lentChecked, planLent, scheduleChecked, planChecked, planned, scheduleAfter, scratchAfter, plannedNumber, plannedProfit, plannedCount, plannedPart};
+ghost use Rattle.planner.specs.Reporting.{reportedBy, reported, planIn};
+ghost use Rattle.planner.specs.Tables.{Worked, profitIn, gapOf};
+ghost use Rattle.planner.specs.Valuing.{valueLent, valuedBy, valued, limitOf, outcomeOf, runCell};
 
 // What planning answers.
 pub enum Planned {
@@ -48,6 +58,115 @@ pub enum Limitation {
     Starts,
     Hours,
     Mwh,
+}
+
+// The best plan, in the front of the schedule slice; or 3, 4, 5, 7, 8 or 9.
+pub fn plan_into(
+    unit: UnitRecord,
+    prices: &[i64],
+    scratch: &mut [i64],
+    schedule: &mut [u64],
+) -> Planned
+    ensures { λ r. ⌜ r ≡ planned unit (now (prices .entry)) (length (now (scratch .entry))) (length (now (schedule .entry))) ⌝ }
+    ensures { λ _. ⌜ now (schedule .exit) ≡ scheduleAfter (planChecked unit (now (prices .entry)) (length (now (scratch .entry))) (length (now (schedule .entry)))) (best unit (now (prices .entry))) (now (schedule .entry)) ⌝ }
+    ensures { λ _. ⌜ now (scratch .exit) ≡ scratchAfter (planLent unit (now (prices .entry)) (length (now (scratch .entry))) (length (now (schedule .entry)))) (cellsNeeded unit (length (now (prices .entry)))) (now (scratch .entry)) ⌝ }
+{
+    plan_of(report_into(unit, prices, scratch, schedule))
+}
+
+// The three outcomes; or 3, 4, 5, 8 or 9.
+pub fn value(unit: UnitRecord, prices: &[i64], scratch: &mut [i64]) -> Valued
+    ensures { λ r. ⌜ r ≡ valued unit (now (prices .entry)) (length (now (scratch .entry))) ⌝ }
+    ensures { λ _. ⌜ now (scratch .exit) ≡ scratchAfter (valueLent unit (now (prices .entry)) (length (now (scratch .entry)))) (cellsNeeded unit (length (now (prices .entry)))) (now (scratch .entry)) ⌝ }
+{
+    match check_value_lent(unit, prices, scratch.len()) {
+        Checked::Refused(cause) => Valued::Refused(cause),
+        Checked::Passed => value_case(unit, prices, scratch),
+    }
+}
+
+// Plan and outcomes from one fill of the table.
+pub fn report_into(
+    unit: UnitRecord,
+    prices: &[i64],
+    scratch: &mut [i64],
+    schedule: &mut [u64],
+) -> Reported
+    ensures { λ r. ⌜ r ≡ reported unit (now (prices .entry)) (length (now (scratch .entry))) (length (now (schedule .entry))) ⌝ }
+    ensures { λ _. ⌜ now (schedule .exit) ≡ scheduleAfter (planChecked unit (now (prices .entry)) (length (now (scratch .entry))) (length (now (schedule .entry)))) (best unit (now (prices .entry))) (now (schedule .entry)) ⌝ }
+    ensures { λ _. ⌜ now (scratch .exit) ≡ scratchAfter (planLent unit (now (prices .entry)) (length (now (scratch .entry))) (length (now (schedule .entry)))) (cellsNeeded unit (length (now (prices .entry)))) (now (scratch .entry)) ⌝ }
+{
+    match check_plan_lent(unit, prices, scratch.len(), schedule.len()) {
+        Checked::Refused(cause) => Reported::Refused(cause),
+        Checked::Passed => report_case(unit, prices, scratch, schedule),
+    }
+}
+
+// The best plan as the filled front part of the caller's own slice, empty on a refusal; the number and the profit go through the references.
+pub fn plan<'a>(
+    unit: UnitRecord,
+    prices: &[i64],
+    scratch: &mut [i64],
+    schedule: &'a mut [u64],
+    number: &mut u64,
+    profit: &mut i64,
+) -> &'a mut [u64]
+    ensures { λ r. ⌜ now r ≡ plannedPart (planChecked unit (now (prices .entry)) (length (now (scratch .entry))) (length (now (schedule .entry)))) (best unit (now (prices .entry))) ⌝ }
+    ensures { λ r. ⌜ ptr r ≡ ptr (schedule .entry) ⌝ }
+    ensures { λ _. ⌜ now (number .exit) ≡ plannedNumber (planned unit (now (prices .entry)) (length (now (scratch .entry))) (length (now (schedule .entry)))) ⌝ }
+    ensures { λ _. ⌜ now (profit .exit) ≡ plannedProfit (planned unit (now (prices .entry)) (length (now (scratch .entry))) (length (now (schedule .entry)))) ⌝ }
+    ensures { λ _. ⌜ now (scratch .exit) ≡ scratchAfter (planLent unit (now (prices .entry)) (length (now (scratch .entry))) (length (now (schedule .entry)))) (cellsNeeded unit (length (now (prices .entry)))) (now (scratch .entry)) ⌝ }
+{
+    let answer = plan_into(unit, prices, scratch, &mut *schedule);
+    *number = planned_number(answer);
+    *profit = planned_profit(answer);
+    let count = planned_count(answer);
+    &mut schedule[..count]
+}
+
+// 0, or the number of the cause.
+pub fn planned_number(answer: Planned) -> u64
+    ensures { λ r. ⌜ r ≡ plannedNumber answer ⌝ }
+{
+    match answer {
+        Planned::Plan {
+            count: _,
+            profit: _,
+        } => 0,
+        Planned::Refused(cause) => commitment::number_of(cause),
+    }
+}
+
+// The profit, or 0 on a refusal.
+pub fn planned_profit(answer: Planned) -> i64
+    ensures { λ r. ⌜ r ≡ plannedProfit answer ⌝ }
+{
+    match answer {
+        Planned::Plan { count: _, profit } => profit,
+        Planned::Refused(_) => 0,
+    }
+}
+
+// The intervals planned, 0 on a refusal.
+pub fn planned_count(answer: Planned) -> usize
+    ensures { λ r. ⌜ r ≡ plannedCount answer ⌝ }
+{
+    match answer {
+        Planned::Plan { count, profit: _ } => count,
+        Planned::Refused(_) => 0,
+    }
+}
+
+fn plan_of(answer: Reported) -> Planned
+    ensures { λ r. ⌜ r ≡ planIn answer ⌝ }
+{
+    match answer {
+        Reported::Report(report) => Planned::Plan {
+            count: report.count,
+            profit: report.profit,
+        },
+        Reported::Refused(cause) => Planned::Refused(cause),
+    }
 }
 
 // ---- what is found before any work
@@ -141,4 +260,160 @@ fn run_cell(unit: UnitRecord, f: Figures, n: usize, which: Limitation, k: u64) -
             }
         }
     }
+}
+
+// ---- the table, filled once, read, and cleared
+
+fn report_case(
+    unit: UnitRecord,
+    prices: &[i64],
+    scratch: &mut [i64],
+    schedule: &mut [u64],
+) -> Reported
+    requires { ⌜ planLent unit (now prices) (length (now scratch)) (length (now schedule)) ≡ Passed ⌝ }
+    ensures { λ r. ⌜ r ≡ reportedBy (scheduleChecked unit (now (prices .entry))) (best unit (now (prices .entry))) (outcomesOf unit (now (prices .entry))) ⌝ }
+    ensures { λ _. ⌜ now (schedule .exit) ≡ scheduleAfter (scheduleChecked unit (now (prices .entry))) (best unit (now (prices .entry))) (now (schedule .entry)) ⌝ }
+    ensures { λ _. ⌜ now (scratch .exit) ≡ scratchAfter Passed (cellsNeeded unit (length (now (prices .entry)))) (now (scratch .entry)) ⌝ }
+{
+    let n = prices.len();
+    let f = budgets::figures_of(unit, n);
+    let w = budgets::layer_cells(f);
+    table::fill(&mut *scratch, w, f, prices);
+    let answer = read_report(unit, f, w, prices, &scratch[..], schedule);
+    table::clear(scratch, (n + 1) * w);
+    answer
+}
+
+fn value_case(unit: UnitRecord, prices: &[i64], scratch: &mut [i64]) -> Valued
+    requires { ⌜ valueLent unit (now prices) (length (now scratch)) ≡ Passed ⌝ }
+    ensures { λ r. ⌜ r ≡ valuedBy (scheduleChecked unit (now (prices .entry))) (outcomesOf unit (now (prices .entry))) ⌝ }
+    ensures { λ _. ⌜ now (scratch .exit) ≡ scratchAfter Passed (cellsNeeded unit (length (now (prices .entry)))) (now (scratch .entry)) ⌝ }
+{
+    let n = prices.len();
+    let f = budgets::figures_of(unit, n);
+    let w = budgets::layer_cells(f);
+    table::fill(&mut *scratch, w, f, prices);
+    let answer = read_outcomes(unit, f, prices, &scratch[..]);
+    table::clear(scratch, (n + 1) * w);
+    answer
+}
+
+fn read_report(
+    unit: UnitRecord,
+    f: Figures,
+    w: usize,
+    prices: &[i64],
+    cells: &[i64],
+    schedule: &mut [u64],
+) -> Reported
+    requires { ⌜ Worked unit (now prices) (now cells) ⌝ }
+    requires { ⌜ (f ≡ figuresOf unit (length (now prices))) × (w ≡ width f) × (length (now prices) ≤ length (now schedule)) ⌝ }
+    ensures { λ r. ⌜ r ≡ reportedBy (scheduleChecked unit (now (prices .entry))) (best unit (now (prices .entry))) (outcomesOf unit (now (prices .entry))) ⌝ }
+    ensures { λ _. ⌜ now (schedule .exit) ≡ scheduleAfter (scheduleChecked unit (now (prices .entry))) (best unit (now (prices .entry))) (now (schedule .entry)) ⌝ }
+{
+    let from = opening_cell(unit, f, prices.len());
+    match table::best_at(cells, f, prices, from) {
+        Best::Nothing => Reported::Refused(Cause::NoSchedule),
+        Best::Profit(profit) => {
+            let count = prices.len();
+            table::read_off(cells, w, f, prices, from, schedule);
+            let outcomes = outcomes_in(unit, f, prices, cells);
+            Reported::Report(Report {
+                count,
+                profit,
+                outcomes,
+            })
+        }
+    }
+}
+
+fn read_outcomes(unit: UnitRecord, f: Figures, prices: &[i64], cells: &[i64]) -> Valued
+    requires { ⌜ Worked unit (now prices) (now cells) ⌝ }
+    requires { ⌜ f ≡ figuresOf unit (length (now prices)) ⌝ }
+    ensures { λ r. ⌜ r ≡ valuedBy (scheduleChecked unit (now (prices .entry))) (outcomesOf unit (now (prices .entry))) ⌝ }
+{
+    let from = opening_cell(unit, f, prices.len());
+    match table::best_at(cells, f, prices, from) {
+        Best::Nothing => Valued::Refused(Cause::NoSchedule),
+        Best::Profit(_) => Valued::Outcomes(outcomes_in(unit, f, prices, cells)),
+    }
+}
+
+fn opening_cell(unit: UnitRecord, f: Figures, n: usize) -> Cell
+    requires { ⌜ (rangesKept unit ≡ true) × (f ≡ figuresOf unit n) ⌝ }
+    ensures { λ r. ⌜ r ≡ opening unit n ⌝ }
+{
+    Cell {
+        state: budgets::opening_state(unit),
+        starts: f.starts,
+        ons: f.ons,
+        blocks: f.blocks,
+    }
+}
+
+// ---- the outcomes, from the first layer
+
+fn outcomes_in(unit: UnitRecord, f: Figures, prices: &[i64], cells: &[i64]) -> Outcomes
+    requires { ⌜ Worked unit (now prices) (now cells) ⌝ }
+    requires { ⌜ f ≡ figuresOf unit (length (now prices)) ⌝ }
+    ensures { λ r. ⌜ r ≡ outcomesOf unit (now (prices .entry)) ⌝ }
+{
+    let starts = outcome_in(unit, f, prices, cells, Limitation::Starts);
+    let hours = outcome_in(unit, f, prices, cells, Limitation::Hours);
+    let mwh = outcome_in(unit, f, prices, cells, Limitation::Mwh);
+    Outcomes { starts, hours, mwh }
+}
+
+fn outcome_in(
+    unit: UnitRecord,
+    f: Figures,
+    prices: &[i64],
+    cells: &[i64],
+    which: Limitation,
+) -> Outcome
+    requires { ⌜ Worked unit (now prices) (now cells) ⌝ }
+    requires { ⌜ f ≡ figuresOf unit (length (now prices)) ⌝ }
+    ensures { λ r. ⌜ r ≡ outcomeOf unit (now (prices .entry)) which ⌝ }
+{
+    let limit = limit_of(unit, which);
+    match limit {
+        Limit::None => Outcome::None,
+        Limit::At(figure) => run_pair(unit, f, prices, cells, which, budgets::lowered(figure)),
+    }
+}
+
+// The run at the lowered figure, and the lower run.
+fn run_pair(
+    unit: UnitRecord,
+    f: Figures,
+    prices: &[i64],
+    cells: &[i64],
+    which: Limitation,
+    figure: u64,
+) -> Outcome
+    requires { ⌜ Worked unit (now prices) (now cells) ⌝ }
+    requires { ⌜ f ≡ figuresOf unit (length (now prices)) ⌝ }
+    requires { ⌜ AtMost (At figure) (limitOf unit which) ⌝ }
+    ensures { λ r. ⌜ r ≡ outcomeAt (λ k. valueAt f (now (prices .entry)) (runCell unit (length (now (prices .entry))) which k)) figure ⌝ }
+{
+    if figure == 0 {
+        return Outcome::Empty;
+    }
+    let n = prices.len();
+    let first = table::best_at(cells, f, prices, run_cell(unit, f, n, which, figure));
+    let lower = table::best_at(cells, f, prices, run_cell(unit, f, n, which, figure - 1));
+    gap_between(first, lower)
+}
+
+fn gap_between(first: Best, lower: Best) -> Outcome
+    requires { ⌜ (natAbs (profitIn first) < 2 ^ 61) × (natAbs (profitIn lower) < 2 ^ 61) ⌝ }
+    ensures { λ r. ⌜ r ≡ gapOf first lower ⌝ }
+{
+    let Best::Profit(least) = lower else {
+        return Outcome::Never;
+    };
+    let Best::Profit(most) = first else {
+        return Outcome::Never;
+    };
+    Outcome::Gap(most - least)
 }

@@ -42,9 +42,9 @@ pub filled-last : (f : Figures) (prices was s : List ℤ) → (length prices + 1
 filled-last f prices was s room is =
     record {
       layers = λ j lo hi.
-      let e : j ≡ length prices = omega arith in
-      rw (e, drop-of-length-le prices {i = length prices} (omega arith), is)
-      (record { holds = λ c h. rw (value-end f c) (put-inside was (length prices * width f) (width f) (pos 0) (omega arith) (index f c) (index-lt f c h), omega arith) });
+          let e : j ≡ length prices = omega arith in
+          rw (e, drop-of-length-le prices {i = length prices} (omega arith), is)
+          (record { holds = λ c h. rw (value-end f c) (put-inside was (length prices * width f) (width f) (pos 0) (omega arith) (index f c) (index-lt f c h), omega arith) });
       beyond = λ j l. refl;
       same = refl;
     }
@@ -57,8 +57,8 @@ module _ (f : Figures) (prices was : List ℤ) where
       record {
         layers = λ j lo hi. by j lo hi (ltb t j) refl;
         beyond = λ j l.
-        let d : (t + 1) * width f ≤ (length prices + 1) * width f = mul-le-mul-right (width f) (omega arith) in
-        made .apart j (inr (omega arith)) ∙ old .beyond j l;
+            let d : (t + 1) * width f ≤ (length prices + 1) * width f = mul-le-mul-right (width f) (omega arith) in
+            made .apart j (inr (omega arith)) ∙ old .beyond j l;
         same = long ∙ old .same;
       }
     where
@@ -68,9 +68,9 @@ module _ (f : Figures) (prices was : List ℤ) where
           let d : (t + 1) * width f ≤ j * width f = mul-le-mul-right (width f) (omega arith) in
           record {
             holds = λ c h.
-            subst (λ (v : ℤ). Holds (length (drop j prices)) (valueAt f (drop j prices) c) v)
-            (sym (made .apart (j * width f + index f c) (inr (omega arith))))
-            (old .layers j lo hi .holds c h);
+                subst (λ (v : ℤ). Holds (length (drop j prices)) (valueAt f (drop j prices) c) v)
+                (sym (made .apart (j * width f + index f c) (inr (omega arith))))
+                (old .layers j lo hi .holds c h);
           }
 
       this : Layer f (drop t prices) (heldAt f cells (t * width f))
@@ -83,8 +83,8 @@ module _ (f : Figures) (prices was : List ℤ) where
           rw (drop-cons prices t (pos 0) inside)
           (record {
             holds = λ c h.
-            subst (λ (v : ℤ). Holds (suc (length rest)) (valueAt f (price ∷ rest) c) v) (sym (made .inside c h))
-            (cell-holds f ok price (priced t inside) rest few (heldAt f s (t * width f + width f)) next c h);
+                subst (λ (v : ℤ). Holds (suc (length rest)) (valueAt f (price ∷ rest) c) v) (sym (made .inside c h))
+                (cell-holds f ok price (priced t inside) rest few (heldAt f s (t * width f + width f)) next c h);
           })
 
       by : (j : ℕ) → t ≤ j → j ≤ length prices → (b : Bool) → ltb t j ≡ b → Layer f (drop j prices) (heldAt f cells (j * width f))

@@ -61,7 +61,7 @@ module _ (f : Figures) (price : ℤ) (pays : ℕ) (was : List ℤ) where
         record {
           left = λ z l. left-next s t k z h (once z l) (old .left z l);
           apart = λ j out.
-          new .apart j (⊎-elim (λ (o : j < to). inl (omega arith)) (λ (o : to + row f ≤ j). inr (omega arith)) out) ∙ old .apart j out;
+              new .apart j (⊎-elim (λ (o : j < to). inl (omega arith)) (λ (o : to + row f ≤ j). inr (omega arith)) out) ∙ old .apart j out;
           same = long ∙ old .same;
         }
       where
@@ -83,8 +83,8 @@ module _ (f : Figures) (price : ℤ) (pays : ℕ) (was : List ℤ) where
     row-skip s k h spent old =
         record {
           left = λ z l.
-          let e : leb (k * f .perblock) z ≡ false = lt-leb (k * f .perblock) z (omega (arith, in-row f z l)) in
-          left-next s s k z h (rw e) (old .left z l);
+              let e : leb (k * f .perblock) z ≡ false = lt-leb (k * f .perblock) z (omega (arith, in-row f z l)) in
+              left-next s s k z h (rw e) (old .left z l);
           apart = old .apart;
           same = old .same;
         }
@@ -163,7 +163,7 @@ module _ (f : Figures) (price : ℤ) (pays : ℕ) where
         record {
           inside = λ y z i k. by y z i k (leb (f .peron) y) refl;
           apart = λ j out.
-          new .apart j (⊎-elim (λ (l : j < to). inl (omega arith)) (λ (l : to + span f ≤ j). inr (omega (arith, rows-fit′))) out);
+              new .apart j (⊎-elim (λ (l : j < to). inl (omega arith)) (λ (l : to + span f ≤ j). inr (omega (arith, rows-fit′))) out);
         }
       where
         rows-fit′ : f .peron * row f ≤ span f
@@ -235,5 +235,5 @@ module _ (f : Figures) (price : ℤ) (pays : ℕ) where
           record {
             inside = λ x y z i j k. old .right x (omega arith) (record { y = y; z = z; y≤ = j; z≤ = k });
             apart =
-            done-apart (λ (p : SpanPlace f). p .y * row f + p .z) (span f) (λ p. in-span f (p .y) (p .z) (p .y≤) (p .z≤)) was to spanNow s x (part f) (rw (h, spans-all f) (omega arith)) old;
+                done-apart (λ (p : SpanPlace f). p .y * row f + p .z) (span f) (λ p. in-span f (p .y) (p .z) (p .y≤) (p .z≤)) was to spanNow s x (part f) (rw (h, spans-all f) (omega arith)) old;
           }

@@ -157,9 +157,11 @@ loop-again c =
     let lt = c .before .before .before .before .before .before .loop-test .taken in
     let t = here (c .before .before .before .before .before .before) in
     let k = c .before .before .choose .result in
-    rw (c .moved .ensures)
-    (omega (arith, lt), omega (arith, t .next),
-    written-next (a .f) (a .prices .now) (a .from) (a .schedule .now) (l .schedule) (l .t) (l .c) k lt (omega (arith, lt, l .inv .2 .same, o .pre .1 .1 .1 .0)) (l .inv .2) (plans (c .before .before)))
+    rw (c .moved .ensures) (
+      omega (arith, lt),
+      omega (arith, t .next),
+      written-next (a .f) (a .prices .now) (a .from) (a .schedule .now) (l .schedule) (l .t) (l .c) k lt (omega (arith, lt, l .inv .2 .same, o .pre .1 .1 .1 .0)) (l .inv .2) (plans (c .before .before)),
+    )
 
 same-length : tie.Need-same-length Inv-loop μ-loop
 same-length c = c .before .loop .inv .2 .same

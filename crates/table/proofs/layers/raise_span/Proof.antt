@@ -39,10 +39,13 @@ raise-requires c κs =
     let o = c .before .before .before .before .before .before in
     let a = o .args in
     let h = skipped o in
-    let e = span-is (a .f) in
-    ((omega (arith, h, e, o .pre .1 .0 .0), omega (arith, h, e, o .pre .1 .0 .1)),
-    (λ i l. o .pre .1 .0 .2 i (omega (arith, h, e)),
-    rw (plain-fits (o .fits .end), o .pre .1 .1) (end-small (a .f) (o .pre .0 .0) (a .price) (a .pays) (o .pre .0 .1) (o .pre .0 .2))))
+    let e = span-is (a .f) in (
+      (omega (arith, h, e, o .pre .1 .0 .0), omega (arith, h, e, o .pre .1 .0 .1)),
+      (
+        λ i l. o .pre .1 .0 .2 i (omega (arith, h, e)),
+        rw (plain-fits (o .fits .end), o .pre .1 .1) (end-small (a .f) (o .pre .0 .0) (a .price) (a .pays) (o .pre .0 .1) (o .pre .0 .2)),
+      ),
+    )
 
 raise-rows-requires : tie.Need-raise-rows-requires
 raise-rows-requires c κs = search needs
