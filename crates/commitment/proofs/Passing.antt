@@ -25,7 +25,7 @@ pub unless-passed : (t : Bool) (cause : Cause) (rest : Checked) → unless t cau
 unless-passed true cause rest e = (refl, e)
 unless-passed false cause rest e = let z : _≡_ {A = ℕ} 0 1 = cc in absurd (omega arith)
 
-every-at : {A : Type 0} (test : A → Bool) (otherwise : A) (xs : List A) (i : ℕ) → every test xs ≡ true → i < length xs → test (getD xs i otherwise) ≡ true
+pub every-at : {A : Type 0} (test : A → Bool) (otherwise : A) (xs : List A) (i : ℕ) → every test xs ≡ true → i < length xs → test (getD xs i otherwise) ≡ true
 every-at test otherwise [] i e h = absurd (omega arith)
 every-at test otherwise (x ∷ xs) zero e h = both (test x) (every test xs) e .0
 every-at test otherwise (x ∷ xs) (suc i) e h = every-at test otherwise xs i (both (test x) (every test xs) e .1) (omega arith)
