@@ -5,7 +5,7 @@ use mathlib.Core.List.{List, [], _∷_}
 use Prim.Native.Nat.{ℕ, suc, _+_, _-_, _≤_, _<_}
 use native.Mathlib.Omega.{arith}
 use lib.Dec.{leb}
-use lib.ListN.{length, take, drop, length-drop}
+use lib.ListN.{length, take, drop, length-drop, drop-of-length-le}
 use lib.Seq.{drop-drop, take-all}
 use borrow.Author.Tests.{le-leb, lt-leb, leb-true, leb-false}
 use Rattle.lines.specs.declared.Class.{Class}
@@ -60,6 +60,9 @@ fields-start s = simp (le-leb 0 (length s) (omega arith))
 pub fields-end : (s : List ℕ) (at : ℕ) → length s < at → fieldsFrom s at ≡ []
 fields-end s at h = simp (lt-leb at (length s) h)
 
+pub lines-end : (s : List ℕ) (at : ℕ) → length s ≤ at → linesFrom s at ≡ []
+lines-end s at h = ap linesOf (drop-of-length-le s {i = at} h)
+
 -- the first piece lies between two places, and the others are those from behind its end on
 pub record Cut (from : ℕ → List (List ℕ)) (s : List ℕ) (at end : ℕ) : Type 0 where
   pub starts : at ≤ end
@@ -67,8 +70,8 @@ pub record Cut (from : ℕ → List (List ℕ)) (s : List ℕ) (at end : ℕ) : 
   pub on : from at ≡ part at end s ∷ from (end + 1)
 
 module _ (mark : Class) (s : List ℕ) (at end : ℕ) (here : at ≤ length s) (is : end ≡ at + endOf mark (drop at s)) where
-  within : (at ≤ end) × (end ≤ length s)
-  within = omega (arith, end-within mark (drop at s), length-drop at s)
+  pub end-between : (at ≤ end) × (end ≤ length s)
+  end-between = omega (arith, end-within mark (drop at s), length-drop at s)
 
   first : take (endOf mark (drop at s)) (drop at s) ≡ part at end s
   first = let k : endOf mark (drop at s) ≡ end - at = omega arith in ap (λ (n : ℕ). take n (drop at s)) k
@@ -92,13 +95,13 @@ module _ (s : List ℕ) (at end : ℕ) where
 
   pub field-cut : at ≤ length s → end ≡ at + endOf Comma (drop at s) → Cut (fieldsFrom s) s at end
   field-cut here is =
-      let w = within Comma s at end here is in
+      let w = end-between Comma s at end here is in
       record { starts = w .0; stops = w .1; on = fields-on here is }
 
   pub line-cut : at < length s → end ≡ at + endOf LineEnd (drop at s) → Cut (linesFrom s) s at end
   line-cut more is =
       let here : at ≤ length s = omega arith in
-      let w = within LineEnd s at end here is in
+      let w = end-between LineEnd s at end here is in
       record {
         starts = w .0;
         stops = w .1;

@@ -10,11 +10,11 @@ use Rattle.commitment.specs.Ranges.{every}
 use Rattle.lines.specs.declared.Value.{Value}
 use Rattle.lines.specs.declared.Value.the-variants.{Malformed}
 use Rattle.lines.specs.Bytes.{same}
-use Rattle.lines.specs.Pieces.{fieldsOf}
-use Rattle.lines.specs.Places.{part, fieldsFrom}
+use Rattle.lines.specs.Pieces.{linesOf, fieldsOf}
+use Rattle.lines.specs.Places.{part, fieldsFrom, linesFrom}
 use Rattle.lines.specs.Tables.{tally, under}
 use Rattle.lines.specs.Values.{valueOf}
-use Rattle.lines.proofs.Cuts.{Cut, fields-start, fields-end}
+use Rattle.lines.proofs.Cuts.{Cut, fields-start, fields-end, lines-end}
 
 -- ---- a test of every piece: those not yet passed decide
 
@@ -46,6 +46,12 @@ fields-tested test s = record { within = omega arith; left = ap (every test) (fi
 pub fields-tested-all : {test : List ℕ → Bool} {s : List ℕ} {whole : Bool} {at : ℕ} → Testing (fieldsFrom s) test s whole at → length s < at → true ≡ whole
 fields-tested-all {s = s} {at = at} w h = test-ends w (fields-end s at h)
 
+pub lines-tested : (test : List ℕ → Bool) (s : List ℕ) → Testing (linesFrom s) test s (every test (linesOf s)) 0
+lines-tested test s = record { within = omega arith; left = refl }
+
+pub lines-tested-all : {test : List ℕ → Bool} {s : List ℕ} {whole : Bool} {at : ℕ} → Testing (linesFrom s) test s whole at → length s ≤ at → true ≡ whole
+lines-tested-all {s = s} {at = at} w h = test-ends w (lines-end s at h)
+
 -- ---- a count of the pieces that pass a test
 
 pub record Counting (from : ℕ → List (List ℕ)) (test : List ℕ → Bool) (s : List ℕ) (whole : ℕ) (count at : ℕ) : Type 0 where
@@ -74,6 +80,12 @@ fields-counted test s = record { within = omega arith; small = omega arith; left
 
 pub fields-counted-all : {test : List ℕ → Bool} {s : List ℕ} {whole count at : ℕ} → Counting (fieldsFrom s) test s whole count at → length s < at → count ≡ whole
 fields-counted-all {s = s} {at = at} w h = count-ends w (fields-end s at h)
+
+pub lines-counted : (test : List ℕ → Bool) (s : List ℕ) → Counting (linesFrom s) test s (tally test (linesOf s)) 0 0
+lines-counted test s = record { within = omega arith; small = omega arith; left = omega arith }
+
+pub lines-counted-all : {test : List ℕ → Bool} {s : List ℕ} {whole count at : ℕ} → Counting (linesFrom s) test s whole count at → length s ≤ at → count ≡ whole
+lines-counted-all {s = s} {at = at} w h = count-ends w (lines-end s at h)
 
 -- where every piece counts, the count is the length
 abbrev pub any : List ℕ → Bool

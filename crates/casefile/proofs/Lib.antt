@@ -1,0 +1,4 @@
+pub mod Starts
+pub mod Stored
+pub mod Checking
+pub mod Examples

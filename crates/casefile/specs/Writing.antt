@@ -1,0 +1,37 @@
+-- The text that a writer of the format makes of a record and prices.
+use mathlib.Core.Bool.{cond}
+use mathlib.Core.List.{List, [], _∷_, _++_, map}
+use Prim.Native.Nat.{ℕ, zero, suc, _+_, _/_, _%_}
+use lib.Dec.{ltb}
+use lib.IntN.{ℤ, pos, negsuc}
+use Rattle.commitment.specs.declared.Limit.{Limit}
+use Rattle.commitment.specs.declared.Limit.the-variants.{None, At}
+use Rattle.lines.specs.Values.{noneWord}
+
+-- fields joined by commas
+abbrev pub joined : List (List ℕ) → List ℕ
+joined [] = []
+joined (field ∷ []) = field
+joined (field ∷ next ∷ fields) = field ++ 44 ∷ joined (next ∷ fields)
+
+-- lines, each closed by a line end
+abbrev pub closing : List (List ℕ) → List ℕ
+closing [] = []
+closing (line ∷ lines) = line ++ 10 ∷ closing lines
+
+-- the digits of a number in front of others, at most as many as the first argument says
+abbrev pub digitsOf : ℕ → ℕ → List ℕ → List ℕ
+digitsOf zero n others = others
+digitsOf (suc k) n others = cond (ltb n 10) ((48 + n) ∷ others) (digitsOf k (n / 10) ((48 + n % 10) ∷ others))
+
+-- a number of at most ten digits
+abbrev pub shownWhole : ℕ → List ℕ
+shownWhole n = digitsOf 10 n []
+
+abbrev pub shownPrice : ℤ → List ℕ
+shownPrice (pos n) = shownWhole n
+shownPrice (negsuc n) = 45 ∷ shownWhole (suc n)
+
+abbrev pub shownLimit : Limit → List ℕ
+shownLimit None = noneWord
+shownLimit (At n) = shownWhole n
