@@ -1,4 +1,3 @@
 pub mod Starts
 pub mod Stored
 pub mod Checking
-pub mod Examples

@@ -2,4 +2,3 @@
 pub mod Names
 pub mod Reading
 pub mod Answers
-pub mod Writing

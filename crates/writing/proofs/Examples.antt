@@ -9,10 +9,10 @@ use Rattle.commitment.specs.Causes.{checkedNumber}
 use Rattle.commitment.specs.Ranges.{rangesKept, pricesKept, caseChecked}
 use Rattle.lines.specs.Bytes.{isOf}
 use Rattle.lines.specs.Values.{isName, numeral, valueOf, isValue}
 use Rattle.casefile.specs.declared.CaseRead.the-variants.{Case}
 use Rattle.casefile.specs.Answers.{readCase}
 use Rattle.casefile.specs.Reading.{formKept, namesKept, unitIn, pricesIn, caseKept, textChecked}
-use Rattle.casefile.specs.Writing.{closing}
+use Rattle.writing.specs.Writing.{closing}
 
 -- block,pmin,pmax,mot,mdt,was,held,vec,mlc,suc,starts,hours,mwh
 abbrev names : List ℕ
