@@ -1,3 +1,4 @@
+pub mod Records
 pub mod Starts
 pub mod Stored
 pub mod Checking
