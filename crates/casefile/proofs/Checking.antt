@@ -17,7 +17,8 @@ use Rattle.commitment.specs.Ranges.{every, rangesKept, pricesKept, shapeKept, h
 use Rattle.commitment.proofs.Passing.{unless-passed, then-passed}
 use Rattle.casefile.specs.declared.CaseRead.the-variants as answer
 use Rattle.casefile.specs.Answers.{answered, filled, frontPart, readCase, readPrices, readPart, readCount}
-use Rattle.casefile.specs.Reading.{formKept, namesKept, unitIn, pricesIn, caseKept, textChecked}
+use Rattle.casetext.specs.Form.{formKept, namesKept}
+use Rattle.casefile.specs.Reading.{unitIn, pricesIn, caseKept, textChecked}
 
 module _ (text : List ℕ) (room : ℕ) where
   -- ---- 1 and 2

@@ -1,4 +1,3 @@
 pub mod Records
-pub mod Starts
 pub mod Stored
 pub mod Checking

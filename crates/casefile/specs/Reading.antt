@@ -1,10 +1,9 @@
--- What a text says: its lines, the record and the prices, and the lowest cause for which it is refused.
-use mathlib.Core.Bool.{Bool, true, false, _&&_}
-use mathlib.Core.List.{List, [], _∷_, map}
+-- The case that a text holds: the record, the prices, and the lowest cause for which the text is refused.
+use mathlib.Core.List.{List, map}
 use Prim.Native.Nat.{ℕ}
 use lib.Dec.{leb}
 use lib.IntN.{ℤ, pos, negsuc}
-use lib.ListN.{length, getD, drop}
+use lib.ListN.{length}
 use Rattle.commitment.specs.declared.Cause.the-variants.{Form, Name, Length}
 use Rattle.commitment.specs.declared.Checked.{Checked}
 use Rattle.commitment.specs.declared.Checked.the-variants.{Passed}
@@ -12,58 +11,13 @@ use Rattle.commitment.specs.declared.Limit.{Limit}
 use Rattle.commitment.specs.declared.Limit.the-variants.{None, At}
 use Rattle.commitment.specs.declared.UnitRecord.{UnitRecord}
 use Rattle.commitment.specs.Causes.{unless, checkedThen}
-use Rattle.commitment.specs.Ranges.{every, caseChecked}
+use Rattle.commitment.specs.Ranges.{caseChecked}
 use Rattle.lines.specs.declared.Value.{Value}
 use Rattle.lines.specs.declared.Value.the-variants.{Malformed, WordNone, Number}
-use Rattle.lines.specs.Pieces.{linesOf, closed, fieldsOf}
-use Rattle.lines.specs.Tables.{nameLine, valueLine, under}
-use Rattle.casefile.specs.Names.{blockName, pminName, pmaxName, motName, mdtName, wasName, heldName, vecName, mlcName, sucName, startsName, hoursName, mwhName, priceName, unitNames, priceNames, onceEach}
-
--- "A text has at most 12,288 bytes"
-abbrev pub mostBytes : ℕ
-mostBytes = 12288
-
--- ---- the lines: the unit's names and values, an empty line, the prices' names, then a price to a line
-
-abbrev pub lineAt : ℕ → List ℕ → List ℕ
-lineAt k text = getD (linesOf text) k []
-
-abbrev pub unitHead : List ℕ → List ℕ
-unitHead text = lineAt 0 text
-
-abbrev pub unitRow : List ℕ → List ℕ
-unitRow text = lineAt 1 text
-
-abbrev pub gap : List ℕ → List ℕ
-gap text = lineAt 2 text
-
-abbrev pub priceHead : List ℕ → List ℕ
-priceHead text = lineAt 3 text
-
-abbrev pub priceRows : List ℕ → List (List ℕ)
-priceRows text = drop 4 (linesOf text)
-
--- ---- 1: the form
-
-abbrev pub isEmpty : List ℕ → Bool
-isEmpty [] = true
-isEmpty (b ∷ bs) = false
-
-abbrev pub tableFormed : List ℕ → List (List ℕ) → Bool
-tableFormed head rows = nameLine head && every (valueLine (length (fieldsOf head))) rows
-
-unfoldable pub formKept : List ℕ → Bool
-formKept text =
-    leb (length text) mostBytes && closed text
-    && leb 4 (length (linesOf text)) && isEmpty (gap text)
-    && tableFormed (unitHead text) (unitRow text ∷ []) && tableFormed (priceHead text) (priceRows text)
-
--- ---- 2: the names
-
-unfoldable pub namesKept : List ℕ → Bool
-namesKept text = onceEach unitNames (fieldsOf (unitHead text)) && onceEach priceNames (fieldsOf (priceHead text))
-
--- ---- the record and the prices
+use Rattle.lines.specs.Pieces.{fieldsOf}
+use Rattle.lines.specs.Tables.{under}
+use Rattle.casetext.specs.Form.{unitHead, unitRow, priceHead, priceRows, formKept, namesKept}
+use Rattle.casetext.specs.Names.{blockName, pminName, pmaxName, motName, mdtName, wasName, heldName, vecName, mlcName, sucName, startsName, hoursName, mwhName, priceName}
 
 -- A number that no range reaches, though ten digits come near. It stands for what a field cannot hold: a number below 0, or `none`
 -- where it may not stand. So the check of the ranges refuses these too.

@@ -1,6 +1,6 @@
 // The record of a text: each field is the value under its name.
 
-use crate::parts;
+use casetext::parts;
 use commitment::Limit;
 use commitment::UnitRecord;
 use lines::Value;

@@ -51,10 +51,10 @@ fn taken(text: &[u8], prices: &mut [i64]) -> CaseRead
 fn check_text(text: &[u8], room: usize) -> Checked
     ensures { λ r. ⌜ r ≡ textChecked (now (text .entry)) room ⌝ }
 {
-    if !form::form_kept(text) {
+    if !casetext::form::form_kept(text) {
         return Checked::Refused(Cause::Form);
     }
-    if !naming::names_kept(text) {
+    if !casetext::naming::names_kept(text) {
         return Checked::Refused(Cause::Name);
     }
     check_values(text, room)
@@ -132,7 +132,4 @@ fn no_unit() -> UnitRecord
 }
 
 mod fields;
-mod form;
-mod naming;
-mod parts;
 mod pricing;

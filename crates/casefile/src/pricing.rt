@@ -1,6 +1,6 @@
 // The prices of a text, line by line: first whether each is in its range, later into the caller's slice.
 
-use crate::parts;
+use casetext::parts;
 use lines::Class;
 use lines::Value;
 use lines::bytes;
@@ -13,7 +13,7 @@ ghost use Rattle.commitment.specs.Ranges.{every, priceKept, pricesKept};
 ghost use Rattle.lines.specs.Pieces.{linesOf, fieldsOf};
 ghost use Rattle.lines.specs.Places.{part};
 ghost use Rattle.lines.specs.Tables.{under};
-ghost use Rattle.casefile.specs.Names.{priceName};
+ghost use Rattle.casetext.specs.Names.{priceName};
 ghost use Rattle.casefile.specs.Reading.{centsOf, priceOf, pricesIn};
 
 pub fn prices_kept(text: &[u8]) -> bool

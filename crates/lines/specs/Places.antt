@@ -1,5 +1,5 @@
 -- Places in a string of bytes: where a piece ends, and the pieces from a place on.
-use mathlib.Core.Bool.{Bool, cond}
+use mathlib.Core.Bool.{cond}
 use mathlib.Core.List.{List, [], _∷_}
 use Prim.Native.Nat.{ℕ, suc, _-_}
 use lib.Dec.{leb}

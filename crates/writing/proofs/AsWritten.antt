@@ -1,7 +1,7 @@
 -- Demand 1's sentence: in a text that is not refused each field is the value written under its name, and the prices are those of the lines in order.
 use mathlib.Core.Path.{_≡_, refl, sym, ap, ap₂, _∙_}
 use mathlib.Core.Bool.{Bool, true, false, _&&_, cond}
-use mathlib.Core.List.{List, [], _∷_, _++_, map}
+use mathlib.Core.List.{List, [], _∷_, map}
 use Prim.Native.Nat.{ℕ, zero, suc, _+_, _≤_, _<_}
 use native.Mathlib.Omega.{arith}
 use lib.Dec.{leb, eqb}
@@ -29,9 +29,10 @@ use Rattle.lines.specs.Values.{valueOf, isValue}
 use Rattle.lines.proofs.Alike.{same-eq}
 use Rattle.casefile.specs.declared.CaseRead.the-variants.{Case}
 use Rattle.casefile.specs.Answers.{answered, readCase, readPrices}
-use Rattle.casefile.specs.Names.{blockName, pminName, pmaxName, motName, mdtName, wasName, heldName, vecName, mlcName, sucName, startsName, hoursName, mwhName, priceName, unitNames, priceNames, once, onceEach}
-use Rattle.casefile.specs.Reading.{mostBytes, unitHead, unitRow, gap, priceHead, priceRows, isEmpty, tableFormed, formKept, namesKept, beyond, naturalOf, wholeOf, limitOf, centsOf, unitOf, unitIn, priceOf, pricesIn, textChecked}
-use Rattle.casefile.proofs.Checking.{TextPassed, text-passed, answer-read}
+use Rattle.casetext.specs.Names.{blockName, pminName, pmaxName, motName, mdtName, wasName, heldName, vecName, mlcName, sucName, startsName, hoursName, mwhName, priceName, unitNames, priceNames, once, onceEach}
+use Rattle.casetext.specs.Form.{mostBytes, unitHead, unitRow, gap, priceHead, priceRows, isEmpty, tableFormed, formKept, namesKept}
+use Rattle.casefile.specs.Reading.{beyond, wholeOf, limitOf, centsOf, unitIn, priceOf, pricesIn, textChecked}
+use Rattle.casefile.proofs.Checking.{text-passed, answer-read}
 use Rattle.writing.proofs.Places.{Written, stands}
 
 -- ---- what the sentence says

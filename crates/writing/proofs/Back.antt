@@ -1,8 +1,8 @@
 -- The way back: the text that a writer makes of any record and prices within range, its names in any sequence, is read as that record and those prices.
 use mathlib.Core.Path.{_≡_, refl, sym, ap, ap₂, _∙_}
 use mathlib.Core.Bool.{Bool, true, false, _&&_, cond}
-use mathlib.Core.List.{List, [], _∷_, _++_, map}
-use Prim.Native.Nat.{ℕ, zero, suc, _+_, _≤_, _<_, _^_}
+use mathlib.Core.List.{List, [], _∷_, map}
+use Prim.Native.Nat.{ℕ, suc, _≤_, _<_, _^_}
 use native.Mathlib.Omega.{arith}
 use lib.Dec.{leb, eqb}
 use lib.IntN.{ℤ, pos, natAbs}
@@ -13,7 +13,6 @@ use Rattle.commitment.specs.declared.Checked.the-variants.{Passed}
 use Rattle.commitment.specs.declared.Limit.{Limit}
 use Rattle.commitment.specs.declared.Limit.the-variants.{None, At}
 use Rattle.commitment.specs.declared.UnitRecord.{UnitRecord}
-use Rattle.commitment.specs.Causes.{unless, checkedThen}
 use Rattle.commitment.specs.Limits.{limitKept}
 use Rattle.commitment.specs.Ranges.{every, caseChecked}
 use Rattle.commitment.proofs.Conjunctions.{both}
@@ -23,19 +22,20 @@ use Rattle.lines.specs.declared.Class.the-variants.{Comma, LineEnd}
 use Rattle.lines.specs.declared.Value.{Value}
 use Rattle.lines.specs.declared.Value.the-variants.{Number}
 use Rattle.lines.specs.Bytes.{isOf, same}
-use Rattle.lines.specs.Pieces.{linesOf, closed, fieldsOf}
-use Rattle.lines.specs.Tables.{nameLine, valueLine, occurs, under}
+use Rattle.lines.specs.Pieces.{linesOf, fieldsOf}
+use Rattle.lines.specs.Tables.{valueLine, occurs, under}
 use Rattle.lines.specs.Values.{isName, valueOf, wellFormed, isValue}
 use Rattle.lines.proofs.Alike.{same-eq}
 use Rattle.casefile.specs.declared.CaseRead.the-variants.{Case}
 use Rattle.casefile.specs.Answers.{answered, readCase}
-use Rattle.casefile.specs.Names.{priceName, unitNames, priceNames, once, onceEach}
-use Rattle.casefile.specs.Reading.{mostBytes, isEmpty, gap, unitHead, unitRow, priceHead, priceRows, tableFormed, formKept, namesKept, wholeOf, limitOf, centsOf, unitOf, unitIn, priceOf, pricesIn, caseKept, textChecked}
+use Rattle.casetext.specs.Names.{priceName, unitNames, priceNames, once, onceEach}
+use Rattle.casetext.specs.Form.{mostBytes, isEmpty, unitHead, unitRow, priceHead, priceRows, tableFormed, formKept, namesKept}
+use Rattle.casefile.specs.Reading.{wholeOf, limitOf, centsOf, unitOf, unitIn, priceOf, pricesIn, caseKept, textChecked}
 use Rattle.casefile.proofs.Checking.{every-map}
 use Rattle.casefile.proofs.Records.{fields-alike}
-use Rattle.writing.specs.Writing.{joined, closing, shownWhole, shownPrice, shownLimit, shownField, written}
+use Rattle.writing.specs.Writing.{joined, shownWhole, shownPrice, shownLimit, shownField, written}
 use Rattle.writing.proofs.AsWritten.{limitValue}
-use Rattle.writing.proofs.Numbers.{whole-back, price-back, limit-back, Unparted, whole-unparted, price-unparted, limit-unparted}
+use Rattle.writing.proofs.Numbers.{whole-back, price-back, limit-back, whole-unparted, price-unparted, limit-unparted}
 use Rattle.writing.proofs.Pieces.{free, field-alone, fields-back, lines-back, closing-closed, joined-line}
 
 -- ---- tests of every element

@@ -3,7 +3,7 @@ use mathlib.Core.List.{List, [], _∷_, _++_, map}
 use mathlib.Core.Path.{_≡_, refl}
 use Prim.Native.Nat.{ℕ}
 use lib.IntN.{pos}
-use lib.ListN.{length, replicate}
+use lib.ListN.{replicate}
 use Rattle.commitment.specs.declared.Limit.the-variants.{None, At}
 use Rattle.commitment.specs.Causes.{checkedNumber}
 use Rattle.commitment.specs.Ranges.{rangesKept, pricesKept, caseChecked}
@@ -11,7 +11,8 @@ use Rattle.lines.specs.Bytes.{isOf}
 use Rattle.lines.specs.Values.{isName, numeral, valueOf, isValue}
 use Rattle.casefile.specs.declared.CaseRead.the-variants.{Case}
 use Rattle.casefile.specs.Answers.{readCase}
-use Rattle.casefile.specs.Reading.{formKept, namesKept, unitIn, pricesIn, caseKept, textChecked}
+use Rattle.casetext.specs.Form.{formKept, namesKept}
+use Rattle.casefile.specs.Reading.{unitIn, pricesIn, caseKept, textChecked}
 use Rattle.writing.specs.Writing.{closing}
 
 -- block,pmin,pmax,mot,mdt,was,held,vec,mlc,suc,starts,hours,mwh

@@ -1,12 +1,12 @@
 -- Numbers and limitations that are written are read back.
-use mathlib.Core.Path.{_≡_, refl, sym, ap, ap₂, _∙_}
-use mathlib.Core.Bool.{Bool, true, false, _&&_, not, cond, false≢true}
+use mathlib.Core.Path.{_≡_, refl, ap, _∙_}
+use mathlib.Core.Bool.{Bool, true, false, _&&_, not, cond}
 use mathlib.Core.List.{List, [], _∷_}
 use Prim.Native.Nat.{ℕ, zero, suc, _+_, _-_, _*_, _/_, _%_, _≤_, _<_, _^_}
 use native.Mathlib.Nat.{pow-suc}
 use native.Mathlib.Omega.{arith}
 use lib.Dec.{ltb, leb, eqb}
-use lib.IntN.{ℤ, pos, negsuc, natAbs, negℤ}
+use lib.IntN.{ℤ, pos, negsuc, natAbs}
 use lib.ListN.{length}
 use borrow.Author.Tests.{ltb-true, ltb-false, le-leb, ne-eqb, eqb-true}
 use Rattle.commitment.specs.declared.Limit.{Limit}
@@ -15,9 +15,9 @@ use Rattle.commitment.specs.Ranges.{every}
 use Rattle.commitment.proofs.Conjunctions.{both}
 use Rattle.lines.specs.declared.Class.{Class}
 use Rattle.lines.specs.declared.Class.the-variants.{Digit, Comma, LineEnd}
-use Rattle.lines.specs.declared.Value.the-variants.{WordNone, Number}
+use Rattle.lines.specs.declared.Value.the-variants.{Number}
 use Rattle.lines.specs.Bytes.{rank, classOf, isOf, same}
-use Rattle.lines.specs.Values.{decimal, leadKept, numeral, lowered, negative, noneWord, valueOf}
+use Rattle.lines.specs.Values.{decimal, leadKept, numeral, lowered, noneWord, valueOf}
 use Rattle.lines.proofs.Digits.{digit-range}
 use Rattle.writing.specs.Writing.{digitsOf, shownWhole, shownPrice, shownLimit}
 use Rattle.writing.proofs.AsWritten.{limitValue}

@@ -9,7 +9,7 @@ use Rattle.commitment.specs.declared.Limit.the-variants.{None, At}
 use Rattle.commitment.specs.declared.UnitRecord.{UnitRecord}
 use Rattle.lines.specs.Bytes.{same}
 use Rattle.lines.specs.Values.{noneWord}
-use Rattle.casefile.specs.Names.{blockName, pminName, pmaxName, motName, mdtName, wasName, heldName, vecName, mlcName, sucName, startsName, hoursName, mwhName, priceName}
+use Rattle.casetext.specs.Names.{blockName, pminName, pmaxName, motName, mdtName, wasName, heldName, vecName, mlcName, sucName, startsName, hoursName, mwhName, priceName}
 
 -- fields joined by commas
 abbrev pub joined : List (List ℕ) → List ℕ

@@ -2,7 +2,6 @@
 use mathlib.Core.Path.{sym, _∙_}
 use borrow.Author.Tests.{not-true, not-false}
 use Rattle.casefile.proofs.Checking.{wrong-form, wrong-names, values-decide}
-use Rattle.casefile.specs.declared.CaseRead.the-variants as answer
 use borrow.Author.Needs.{needs}
 use Rattle.casefile.proofs.check_text.Statement.{statement}
 use Rattle.casefile.proofs.check_text.Tie as tie

@@ -8,7 +8,6 @@ use Rattle.commitment.specs.Ranges.{rangesKept, pricesKept, shapeKept, horizonK
 use Rattle.commitment.proofs.Conjunctions.{both}
 use Rattle.casefile.specs.Reading.{unitIn, pricesIn}
 use Rattle.casefile.proofs.Checking.{wrong-range, wrong-shape, wrong-horizon, no-room, all-kept}
-use Rattle.casefile.specs.declared.CaseRead.the-variants as answer
 use borrow.Author.Needs.{needs}
 use native.Mathlib.Omega.{arith}
 use Rattle.casefile.proofs.check_values.Statement.{statement}

@@ -1,7 +1,6 @@
 -- A text that its check refuses keeps that cause; any other is taken.
 use mathlib.Core.Path.{sym, _∙_}
 use Rattle.casefile.proofs.Checking.{answer-refused}
-use Rattle.casefile.specs.declared.CaseRead.the-variants as answer
 use borrow.Author.Needs.{needs}
 use Rattle.casefile.proofs.read_into.Statement.{statement}
 use Rattle.casefile.proofs.read_into.Tie as tie

@@ -4,7 +4,6 @@ use mathlib.Core.List.{List}
 use Prim.Native.Nat.{ℕ}
 use Rattle.lines.specs.Pieces.{fieldsOf}
 use Rattle.casefile.specs.Reading.{unitOf, unitIn}
-use Rattle.casefile.specs.declared.CaseRead.the-variants as answer
 use borrow.Author.Needs.{needs}
 use Rattle.casefile.proofs.fields.unit_in.Statement.{statement}
 use Rattle.casefile.proofs.fields.unit_in.Tie as tie

@@ -5,8 +5,8 @@ use Prim.Native.Nat.{ℕ}
 use lib.ListN.{length}
 use Rattle.casefile.specs.Reading.{priceOf}
 use lib.ListN.{length-map}
-use Rattle.casefile.specs.Reading.{priceHead, priceRows, pricesIn}
-use Rattle.casefile.specs.declared.CaseRead.the-variants as answer
+use Rattle.casetext.specs.Form.{priceHead, priceRows}
+use Rattle.casefile.specs.Reading.{pricesIn}
 use borrow.Author.Needs.{needs}
 use Rattle.casefile.proofs.pricing.prices_counted.Statement.{statement}
 use Rattle.casefile.proofs.pricing.prices_counted.Tie as tie

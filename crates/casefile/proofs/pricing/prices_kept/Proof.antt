@@ -5,9 +5,9 @@ use Prim.Native.Nat.{ℕ}
 use Rattle.commitment.specs.Ranges.{every, priceKept, pricesKept}
 use Rattle.casefile.specs.Reading.{priceOf}
 use Rattle.commitment.specs.Ranges.{pricesKept}
-use Rattle.casefile.specs.Reading.{priceHead, priceRows, pricesIn}
+use Rattle.casetext.specs.Form.{priceHead, priceRows}
+use Rattle.casefile.specs.Reading.{pricesIn}
 use Rattle.casefile.proofs.Checking.{every-map}
-use Rattle.casefile.specs.declared.CaseRead.the-variants as answer
 use borrow.Author.Needs.{needs}
 use Rattle.casefile.proofs.pricing.prices_kept.Statement.{statement}
 use Rattle.casefile.proofs.pricing.prices_kept.Tie as tie

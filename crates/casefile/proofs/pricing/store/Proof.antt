@@ -1,14 +1,14 @@
 -- The lines of the second table, which are as many as the prices.
 use mathlib.Core.Path.{_≡_, sym, ap, ap₂, _∙_}
 use mathlib.Core.List.{List, _++_, map}
-use Prim.Native.Nat.{ℕ, _+_}
+use Prim.Native.Nat.{ℕ}
 use lib.IntN.{ℤ}
 use lib.ListN.{length, drop}
 use lib.IntN.{ℤ}
 use Rattle.casefile.specs.Reading.{priceOf}
 use lib.ListN.{length-map}
-use Rattle.casefile.specs.Reading.{priceHead, priceRows, pricesIn}
-use Rattle.casefile.specs.declared.CaseRead.the-variants as answer
+use Rattle.casetext.specs.Form.{priceHead, priceRows}
+use Rattle.casefile.specs.Reading.{pricesIn}
 use borrow.Author.Needs.{needs}
 use native.Mathlib.Omega.{arith}
 use Rattle.casefile.proofs.pricing.store.Statement.{statement}

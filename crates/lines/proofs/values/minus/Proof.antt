@@ -1,6 +1,6 @@
 -- Both the number and its opposite are far inside an i64.
 use mathlib.Core.Path.{_∙_}
-use Prim.Native.Nat.{ℕ, _+_, _<_}
+use Prim.Native.Nat.{ℕ, _<_}
 use lib.IntN.{pos, negℤ}
 use lib.Dec.{lit<}
 use lib.IntN.{pos, negℤ, +ℤ-idl}
