@@ -1,7 +1,7 @@
 -- The way back: the text that a writer makes of any record and prices within range, its names in any sequence, is read as that record and those prices.
 use mathlib.Core.Path.{_≡_, refl, sym, ap, ap₂, _∙_}
 use mathlib.Core.Bool.{Bool, true, false, _&&_, cond}
-use mathlib.Core.List.{List, [], _∷_, map}
+use mathlib.Core.List.{List, [], _∷_, _++_, map}
 use Prim.Native.Nat.{ℕ, suc, _≤_, _<_, _^_}
 use native.Mathlib.Omega.{arith}
 use lib.Dec.{leb, eqb}
@@ -27,11 +27,11 @@ use Rattle.lines.specs.Tables.{valueLine, occurs, under}
 use Rattle.lines.specs.Values.{isName, valueOf, wellFormed, isValue}
 use Rattle.lines.proofs.Alike.{same-eq}
 use Rattle.casefile.specs.declared.CaseRead.the-variants.{Case}
-use Rattle.casefile.specs.Answers.{answered, readCase}
+use Rattle.casefile.specs.Answers.{answered, readCase, readPrices}
 use Rattle.casetext.specs.Names.{priceName, unitNames, priceNames, once, onceEach}
 use Rattle.casetext.specs.Form.{mostBytes, isEmpty, unitHead, unitRow, priceHead, priceRows, tableFormed, formKept, namesKept}
 use Rattle.casefile.specs.Reading.{wholeOf, limitOf, centsOf, unitOf, unitIn, priceOf, pricesIn, caseKept, textChecked}
-use Rattle.casefile.proofs.Checking.{every-map}
+use Rattle.casefile.proofs.Checking.{every-map, answer-read}
 use Rattle.casefile.proofs.Records.{fields-alike}
 use Rattle.writing.specs.Writing.{joined, shownWhole, shownPrice, shownLimit, shownField, written}
 use Rattle.writing.proofs.AsWritten.{limitValue}
@@ -278,9 +278,17 @@ module _ (u : UnitRecord) (prices : List ℤ) (names : List (List ℕ))
     unfolding textChecked caseKept
     passed = rw (form, named, unit-is, prices-are, kept, le-leb (length prices) room fits)
 
-    pub read-back : readCase text room ≡ Case u (length prices)
+    case-read : readCase text room ≡ Case u (length prices)
     unfolding readCase
-    read-back = ap₂ (λ (k : Checked) (v : UnitRecord). answered k v (length (pricesIn text))) passed unit-is ∙ ap (λ (l : List ℤ). Case u (length l)) prices-are
+    case-read = ap₂ (λ (k : Checked) (v : UnitRecord). answered k v (length (pricesIn text))) passed unit-is ∙ ap (λ (l : List ℤ). Case u (length l)) prices-are
 
-    pub prices-back : pricesIn text ≡ prices
-    prices-back = prices-are
+-- what is written is read: the answer is the record, and the slice has the prices in front and behind them what was there
+pub written-read : (u : UnitRecord) (prices : List ℤ) (names : List (List ℕ)) (slice : List ℤ) → caseChecked u prices ≡ Passed
+    → every (once unitNames) names ≡ true → onceEach unitNames names ≡ true → length (written names u prices) ≤ mostBytes → length prices ≤ length slice
+    → (readCase (written names u prices) (length slice) ≡ Case u (length prices)) × (readPrices (written names u prices) slice ≡ prices ++ drop (length prices) slice)
+written-read u prices names slice kept known each short fits =
+    let room = length slice in (
+      case-read u prices names kept known each room short fits,
+      sym (answer-read (written names u prices) slice (passed u prices names kept known each room short fits) .1)
+          ∙ ap (λ (l : List ℤ). l ++ drop (length l) slice) (prices-are u prices names kept known each room short fits),
+    )
