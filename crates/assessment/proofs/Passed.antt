@@ -13,13 +13,12 @@ use Rattle.commitment.specs.declared.Cause.the-variants.{Length, NotKept}
 use Rattle.commitment.specs.declared.Checked.{Checked}
 use Rattle.commitment.specs.declared.Checked.the-variants.{Passed, Refused}
 use Rattle.commitment.specs.declared.UnitRecord.{UnitRecord}
-use Rattle.commitment.specs.Causes.{checkedThen}
 use Rattle.commitment.specs.Keeping.{startsIn, keepsStarts, keepsRuns, keepsSpells, keepsHours, keepsMwh, keepsCase}
 use Rattle.commitment.specs.Profit.{earned, earnedIn, startCost, profit}
 use Rattle.commitment.specs.Ranges.{every, caseChecked}
 use Rattle.commitment.specs.Schedule.{isOutput, isSchedule}
 use Rattle.commitment.proofs.Conjunctions.{both}
-use Rattle.commitment.proofs.Passing.{unless-passed}
+use Rattle.commitment.proofs.Passing.{unless-passed, then-passed}
 use Rattle.assessment.specs.declared.Assessed.the-variants as answer
 use Rattle.assessment.specs.Assessed.{answered, handedIn, handInChecked, assessed}
 use Rattle.assessment.proofs.Walking.{profitFrom}
@@ -40,10 +39,6 @@ pub record PassedSchedule (u : UnitRecord) (prices : List ℤ) (s : List ℕ) (p
 answered-profit : (k : Checked) (p q : ℤ) → answered k p ≡ answer.Profit q → (k ≡ Passed) × (p ≡ q)
 answered-profit Passed p q e = (refl, (cc))
 answered-profit (Refused cause) p q e = let z : _≡_ {A = ℕ} 0 1 = cc in absurd (omega arith)
-
-then-passed : (k further : Checked) → checkedThen k further ≡ Passed → (k ≡ Passed) × (further ≡ Passed)
-then-passed Passed further e = (refl, e)
-then-passed (Refused cause) further e = let z : _≡_ {A = ℕ} 0 1 = cc in absurd (omega arith)
 
 -- it keeps every rule, no other cause holds, and its profit is the one given
 pub passed-keeps : (u : UnitRecord) (prices : List ℤ) (s : List ℕ) (p : ℤ) → assessed u prices s ≡ answer.Profit p → PassedSchedule u prices s p

@@ -14,9 +14,9 @@ use Rattle.integers.proofs.Ranges.{within-signed, abs-within}
 use Rattle.commitment.specs.declared.Cause.{Cause}
 use Rattle.commitment.specs.declared.Cause.the-variants.{Range, Shape, Horizon}
 use Rattle.commitment.specs.declared.Checked.{Checked}
-use Rattle.commitment.specs.declared.Checked.the-variants.{Passed}
+use Rattle.commitment.specs.declared.Checked.the-variants.{Passed, Refused}
 use Rattle.commitment.specs.declared.UnitRecord.{UnitRecord}
-use Rattle.commitment.specs.Causes.{unless}
+use Rattle.commitment.specs.Causes.{unless, checkedThen}
 use Rattle.commitment.specs.Ranges.{every, rangesKept, shapeKept, priceKept, pricesKept, horizonKept, caseChecked}
 use Rattle.commitment.proofs.Conjunctions.{both}
 
@@ -25,7 +25,11 @@ pub unless-passed : (t : Bool) (cause : Cause) (rest : Checked) → unless t cau
 unless-passed true cause rest e = (refl, e)
 unless-passed false cause rest e = let z : _≡_ {A = ℕ} 0 1 = cc in absurd (omega arith)
 
-every-at : {A : Type 0} (test : A → Bool) (otherwise : A) (xs : List A) (i : ℕ) → every test xs ≡ true → i < length xs → test (getD xs i otherwise) ≡ true
+pub then-passed : (k further : Checked) → checkedThen k further ≡ Passed → (k ≡ Passed) × (further ≡ Passed)
+then-passed Passed further e = (refl, e)
+then-passed (Refused cause) further e = let z : _≡_ {A = ℕ} 0 1 = cc in absurd (omega arith)
+
+pub every-at : {A : Type 0} (test : A → Bool) (otherwise : A) (xs : List A) (i : ℕ) → every test xs ≡ true → i < length xs → test (getD xs i otherwise) ≡ true
 every-at test otherwise [] i e h = absurd (omega arith)
 every-at test otherwise (x ∷ xs) zero e h = both (test x) (every test xs) e .0
 every-at test otherwise (x ∷ xs) (suc i) e h = every-at test otherwise xs i (both (test x) (every test xs) e .1) (omega arith)

@@ -103,7 +103,8 @@ pub fn check_case(unit: UnitRecord, prices: &[i64]) -> Checked
 
 const MOST_INTERVALS: usize = 2976;
 
-fn horizon_kept(intervals: usize) -> bool
+// There are prices, and not too many.
+pub fn horizon_kept(intervals: usize) -> bool
     ensures { λ r. ⌜ r ≡ horizonKept intervals ⌝ }
 {
     (1 <= intervals) & (intervals <= MOST_INTERVALS)
@@ -185,7 +186,7 @@ pub fn prices_kept(prices: &[i64]) -> bool
     true
 }
 
-fn price_kept(price: i64) -> bool
+pub fn price_kept(price: i64) -> bool
     ensures { λ r. ⌜ r ≡ priceKept price ⌝ }
 {
     (-200000 <= price) & (price <= 200000)

@@ -1,0 +1,47 @@
+-- The tests in the order of their causes.
+use mathlib.Core.Path.{sym, _∙_}
+use borrow.Author.Tests.{not-true, not-false}
+use Rattle.casefile.proofs.Checking.{wrong-form, wrong-names, values-decide}
+use borrow.Author.Needs.{needs}
+use Rattle.casefile.proofs.check_text.Statement.{statement}
+use Rattle.casefile.proofs.check_text.Tie as tie
+
+form-kept-requires : tie.Need-form-kept-requires
+form-kept-requires c κs = search needs
+
+returns : tie.Need-returns
+returns c =
+    let f = c .before in
+    let a = f .before .before .args in
+    wrong-form (a .text .now) (a .room) (sym (f .form-kept .ensures) ∙ not-true _ (c .if1 .taken))
+
+names-kept-requires : tie.Need-names-kept-requires
+names-kept-requires c κs = search needs
+
+returns-2 : tie.Need-returns-2
+returns-2 c =
+    let n = c .before in
+    let f = n .before .before in
+    let a = f .before .before .args in
+    wrong-names (a .text .now) (a .room) (sym (f .form-kept .ensures) ∙ not-false _ (n .before .if1 .left)) (sym (n .names-kept .ensures) ∙ not-true _ (c .if2 .taken))
+
+check-values-requires : tie.Need-check-values-requires
+check-values-requires c κs = search needs
+
+returns-3 : tie.Need-returns-3
+returns-3 c =
+    let n = c .before .before in
+    let f = n .before .before in
+    let a = f .before .before .args in
+    c .check-values .ensures ∙ values-decide (a .text .now) (a .room) (sym (f .form-kept .ensures) ∙ not-false _ (n .before .if1 .left)) (sym (n .names-kept .ensures) ∙ not-false _ (c .before .if2 .left))
+
+pub check-text-spec : {M : Type 1} → statement M
+check-text-spec =
+    tie.close
+    (tie.spec
+    form-kept-requires
+    returns
+    names-kept-requires
+    returns-2
+    check-values-requires
+    returns-3)

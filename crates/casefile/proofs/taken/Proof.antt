@@ -1,0 +1,36 @@
+-- What passed is taken as it stands.
+use mathlib.Core.Path.{ap₂, _∙_}
+use lib.ListN.{length}
+use Rattle.casefile.proofs.Checking.{text-passed, answer-read}
+use Rattle.casefile.specs.declared.CaseRead.the-variants as answer
+use borrow.Author.Needs.{needs}
+use Rattle.casefile.proofs.taken.Statement.{statement}
+use Rattle.casefile.proofs.taken.Tie as tie
+
+unit-in-requires : tie.Need-unit-in-requires
+unit-in-requires c κs = search needs
+
+prices-counted-requires : tie.Need-prices-counted-requires
+prices-counted-requires c κs = search needs
+
+store-requires : tie.Need-store-requires
+store-requires c κs =
+    let s = c .before .before .before .before in
+    text-passed (s .args .text .now) (length (s .args .prices .now)) (s .pre) .fits
+
+same-length : tie.Need-same-length
+same-length c = search needs
+
+returns : tie.Need-returns
+returns c =
+    let w = c .before in
+    let k = w .before .before in
+    let u = k .before in
+    let s = u .before .before in
+    let e = answer-read (s .args .text .now) (s .args .prices .now) (s .pre) in
+    (ap₂ answer.Case (u .unit-in .ensures) (k .prices-counted .ensures) ∙ e .0, w .store .ensures ∙ e .1)
+
+pub taken-spec : {M : Type 1} → statement M
+taken-spec =
+    tie.close
+    (tie.spec unit-in-requires prices-counted-requires store-requires same-length returns)

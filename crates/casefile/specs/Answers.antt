@@ -1,0 +1,70 @@
+-- What reading answers and what it leaves in the price slice.
+use mathlib.Core.List.{List, [], _++_}
+use Prim.Native.Nat.{ℕ}
+use lib.IntN.{ℤ}
+use lib.ListN.{length, drop}
+use Rattle.commitment.specs.declared.Checked.{Checked}
+use Rattle.commitment.specs.declared.Checked.the-variants.{Passed}
+use Rattle.commitment.specs.declared.Checked.the-variants as checked
+use Rattle.commitment.specs.declared.Limit.the-variants.{None}
+use Rattle.commitment.specs.declared.UnitRecord.{UnitRecord}
+use Rattle.commitment.specs.Causes.{numberOf}
+use Rattle.casefile.specs.declared.CaseRead.{CaseRead}
+use Rattle.casefile.specs.declared.CaseRead.the-variants.{Case, Refused}
+use Rattle.casefile.specs.Reading.{unitIn, pricesIn, textChecked}
+
+abbrev pub answered : Checked → UnitRecord → ℕ → CaseRead
+answered Passed unit count = Case unit count
+answered (checked.Refused cause) unit count = Refused cause
+
+-- the filled part in front, and what lies past it as it was; on a refusal all as it was
+abbrev pub filled : Checked → List ℤ → List ℤ → List ℤ
+filled Passed prices slice = prices ++ drop (length prices) slice
+filled (checked.Refused cause) prices slice = slice
+
+-- "a part that comes back is empty" on a refusal
+abbrev pub frontPart : Checked → List ℤ → List ℤ
+frontPart Passed prices = prices
+frontPart (checked.Refused cause) prices = []
+
+-- of a text and a slice with room for so many prices
+unfoldable pub readCase : List ℕ → ℕ → CaseRead
+readCase text room = answered (textChecked text room) (unitIn text) (length (pricesIn text))
+
+unfoldable pub readPrices : List ℕ → List ℤ → List ℤ
+readPrices text slice = filled (textChecked text (length slice)) (pricesIn text) slice
+
+unfoldable pub readPart : List ℕ → ℕ → List ℤ
+readPart text room = frontPart (textChecked text room) (pricesIn text)
+
+-- ---- the number, the count and the record of an answer: "On a refusal every other number of the answer is 0 too, every limitation .. in it is `none`"
+
+abbrev pub noUnit : UnitRecord
+noUnit =
+    record {
+      block = 0;
+      pmin = 0;
+      pmax = 0;
+      mot = 0;
+      mdt = 0;
+      was = 0;
+      held = 0;
+      vec = 0;
+      mlc = 0;
+      suc = 0;
+      starts = None;
+      hours = None;
+      mwh = None;
+    }
+
+abbrev pub readNumber : CaseRead → ℕ
+readNumber (Case unit count) = 0
+readNumber (Refused cause) = numberOf cause
+
+abbrev pub readCount : CaseRead → ℕ
+readCount (Case unit count) = count
+readCount (Refused cause) = 0
+
+abbrev pub readUnit : CaseRead → UnitRecord
+readUnit (Case unit count) = unit
+readUnit (Refused cause) = noUnit

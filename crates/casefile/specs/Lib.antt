@@ -1,0 +1,3 @@
+-- The text of a case, and the case that it holds.
+pub mod Reading
+pub mod Answers

@@ -1,0 +1,83 @@
+// The record of a text: each field is the value under its name.
+
+use casetext::parts;
+use commitment::Limit;
+use commitment::UnitRecord;
+use lines::Value;
+use lines::tables;
+ghost use mathlib.Core.Path.{_≡_};
+ghost use Rattle.lines.specs.Pieces.{fieldsOf};
+ghost use Rattle.lines.specs.Tables.{under};
+ghost use Rattle.casefile.specs.Reading.{naturalOf, wholeOf, limitOf, unitOf, unitIn};
+
+pub fn unit_in(text: &[u8]) -> UnitRecord
+    ensures { λ r. ⌜ r ≡ unitIn (now (text .entry)) ⌝ }
+{
+    let head = parts::line(text, 0);
+    let row = parts::line(text, 1);
+    unit_under(head, row)
+}
+
+fn unit_under(names: &[u8], values: &[u8]) -> UnitRecord
+    ensures { λ r. ⌜ r ≡ unitOf (fieldsOf (now (names .entry))) (fieldsOf (now (values .entry))) ⌝ }
+{
+    UnitRecord {
+        block: whole_under(b"block", names, values),
+        pmin: whole_under(b"pmin", names, values),
+        pmax: whole_under(b"pmax", names, values),
+        mot: whole_under(b"mot", names, values),
+        mdt: whole_under(b"mdt", names, values),
+        was: whole_under(b"was", names, values),
+        held: whole_under(b"held", names, values),
+        vec: whole_under(b"vec", names, values),
+        mlc: whole_under(b"mlc", names, values),
+        suc: whole_under(b"suc", names, values),
+        starts: limit_under(b"starts", names, values),
+        hours: limit_under(b"hours", names, values),
+        mwh: limit_under(b"mwh", names, values),
+    }
+}
+
+fn whole_under(name: &[u8], names: &[u8], values: &[u8]) -> u64
+    ensures { λ r. ⌜ r ≡ wholeOf (under (now (name .entry)) (fieldsOf (now (names .entry))) (fieldsOf (now (values .entry)))) ⌝ }
+{
+    whole(tables::value_under(name, names, values))
+}
+
+fn limit_under(name: &[u8], names: &[u8], values: &[u8]) -> Limit
+    ensures { λ r. ⌜ r ≡ limitOf (under (now (name .entry)) (fieldsOf (now (names .entry))) (fieldsOf (now (values .entry)))) ⌝ }
+{
+    limit(tables::value_under(name, names, values))
+}
+
+// Above every range: what a field cannot hold.
+const BEYOND: u64 = 10000000000;
+
+fn whole(value: Value) -> u64
+    ensures { λ r. ⌜ r ≡ wholeOf value ⌝ }
+{
+    match value {
+        Value::Malformed => BEYOND,
+        Value::WordNone => BEYOND,
+        Value::Number(n) => natural(n),
+    }
+}
+
+fn limit(value: Value) -> Limit
+    ensures { λ r. ⌜ r ≡ limitOf value ⌝ }
+{
+    match value {
+        Value::Malformed => Limit::At(BEYOND),
+        Value::WordNone => Limit::None,
+        Value::Number(n) => Limit::At(natural(n)),
+    }
+}
+
+fn natural(n: i64) -> u64
+    ensures { λ r. ⌜ r ≡ naturalOf n ⌝ }
+{
+    if n < 0 {
+        return BEYOND;
+    }
+    n as u64
+}

@@ -1,0 +1,135 @@
+// Reading the text of a case: the record and the prices, or the lowest number that holds. Nothing is written before all is checked.
+
+use commitment::Cause;
+use commitment::Checked;
+use commitment::Limit;
+use commitment::UnitRecord;
+ghost use mathlib.Core.Path.{_≡_};
+ghost use lib.ListN.{length};
+ghost use denote.Ref.{ptr};
+ghost use Rattle.commitment.specs.declared.Checked.the-variants as checked;
+ghost use Rattle.casefile.specs.Answers.{readCase, readPrices, readPart, readNumber, readCount, readUnit, noUnit};
+ghost use Rattle.casefile.specs.Reading.{textChecked, caseKept};
+
+pub enum CaseRead {
+    Case { unit: UnitRecord, count: usize },
+    Refused(Cause),
+}
+
+// The case of a text, its prices into the front of the slice; or 1, 2, 3, 4, 5 or 7, and the slice is as it was.
+pub fn read_into(text: &[u8], prices: &mut [i64]) -> CaseRead
+    ensures { λ r. ⌜ (r ≡ readCase (now (text .entry)) (length (now (prices .entry)))) × (now (prices .exit) ≡ readPrices (now (text .entry)) (now (prices .entry))) ⌝ }
+{
+    let found = check_text(text, prices.len());
+    match found {
+        Checked::Refused(cause) => CaseRead::Refused(cause),
+        Checked::Passed => taken(text, prices),
+    }
+}
+
+// The same, with the filled front part of the caller's own slice as the answer, empty on a refusal, and the number beside it.
+pub fn read<'a>(text: &[u8], prices: &'a mut [i64], number: &mut u64) -> &'a mut [i64]
+    ensures { λ r. ⌜ (now r ≡ readPart (now (text .entry)) (length (now (prices .entry)))) × ((ptr r ≡ ptr (prices .entry)) × (now (number .exit) ≡ readNumber (readCase (now (text .entry)) (length (now (prices .entry)))))) ⌝ }
+{
+    let answer = read_into(text, &mut *prices);
+    *number = number_of(answer);
+    let count = count_of(answer);
+    &mut prices[..count]
+}
+
+// Of a text that passed its check.
+fn taken(text: &[u8], prices: &mut [i64]) -> CaseRead
+    requires { ⌜ textChecked (now text) (length (now prices)) ≡ checked.Passed ⌝ }
+    ensures { λ r. ⌜ (r ≡ readCase (now (text .entry)) (length (now (prices .entry)))) × (now (prices .exit) ≡ readPrices (now (text .entry)) (now (prices .entry))) ⌝ }
+{
+    let unit = fields::unit_in(text);
+    let count = pricing::prices_counted(text);
+    pricing::store(text, prices);
+    CaseRead::Case { unit, count }
+}
+
+fn check_text(text: &[u8], room: usize) -> Checked
+    ensures { λ r. ⌜ r ≡ textChecked (now (text .entry)) room ⌝ }
+{
+    if !casetext::form::form_kept(text) {
+        return Checked::Refused(Cause::Form);
+    }
+    if !casetext::naming::names_kept(text) {
+        return Checked::Refused(Cause::Name);
+    }
+    check_values(text, room)
+}
+
+// 3, 4 and 5 as for every case, then 7.
+fn check_values(text: &[u8], room: usize) -> Checked
+    ensures { λ r. ⌜ r ≡ caseKept (now (text .entry)) room ⌝ }
+{
+    let unit = fields::unit_in(text);
+    if !(commitment::ranges_kept(unit) & pricing::prices_kept(text)) {
+        return Checked::Refused(Cause::Range);
+    }
+    if !commitment::shape_kept(unit) {
+        return Checked::Refused(Cause::Shape);
+    }
+    let count = pricing::prices_counted(text);
+    if !commitment::horizon_kept(count) {
+        return Checked::Refused(Cause::Horizon);
+    }
+    if room < count {
+        return Checked::Refused(Cause::Length);
+    }
+    Checked::Passed
+}
+
+// 0, or the number of the cause.
+pub fn number_of(answer: CaseRead) -> u64
+    ensures { λ r. ⌜ r ≡ readNumber answer ⌝ }
+{
+    match answer {
+        CaseRead::Case { unit: _, count: _ } => 0,
+        CaseRead::Refused(cause) => commitment::number_of(cause),
+    }
+}
+
+// How many prices were read, 0 on a refusal.
+pub fn count_of(answer: CaseRead) -> usize
+    ensures { λ r. ⌜ r ≡ readCount answer ⌝ }
+{
+    match answer {
+        CaseRead::Case { unit: _, count } => count,
+        CaseRead::Refused(_) => 0,
+    }
+}
+
+// The record, on a refusal one of zeros with no limitation.
+pub fn unit_of(answer: CaseRead) -> UnitRecord
+    ensures { λ r. ⌜ r ≡ readUnit answer ⌝ }
+{
+    match answer {
+        CaseRead::Case { unit, count: _ } => unit,
+        CaseRead::Refused(_) => no_unit(),
+    }
+}
+
+fn no_unit() -> UnitRecord
+    ensures { λ r. ⌜ r ≡ noUnit ⌝ }
+{
+    UnitRecord {
+        block: 0,
+        pmin: 0,
+        pmax: 0,
+        mot: 0,
+        mdt: 0,
+        was: 0,
+        held: 0,
+        vec: 0,
+        mlc: 0,
+        suc: 0,
+        starts: Limit::None,
+        hours: Limit::None,
+        mwh: Limit::None,
+    }
+}
+
+mod fields;
+mod pricing;

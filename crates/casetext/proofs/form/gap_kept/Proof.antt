@@ -1,0 +1,26 @@
+-- The third line is measured.
+use mathlib.Core.Path.{_≡_, refl, ap, _∙_}
+use mathlib.Core.List.{List, [], _∷_}
+use Prim.Native.Nat.{ℕ, suc}
+use lib.Dec.{eqb}
+use lib.ListN.{length}
+use borrow.Author.Tests.{ne-eqb}
+use mathlib.Core.List.{[], _∷_}
+use Rattle.casetext.specs.Form.{isEmpty, gap}
+use borrow.Author.Needs.{needs}
+use native.Mathlib.Omega.{arith}
+use Rattle.casetext.proofs.form.gap_kept.Statement.{statement}
+use Rattle.casetext.proofs.form.gap_kept.Tie as tie
+
+measured : (s : List ℕ) → eqb (length s) 0 ≡ isEmpty s
+measured [] = refl
+measured (b ∷ bs) = ne-eqb (suc (length bs)) 0 (λ e. omega arith)
+
+line-requires : tie.Need-line-requires
+line-requires c κs = search needs
+
+returns : tie.Need-returns
+returns c = ap (λ (s : List ℕ). eqb (length s) 0) (c .line .ensures) ∙ measured (gap (c .before .before .args .text .now))
+
+pub gap-kept-spec : {M : Type 1} → statement M
+gap-kept-spec = tie.close (tie.spec line-requires returns)

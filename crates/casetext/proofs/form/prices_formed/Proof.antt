@@ -1,0 +1,48 @@
+-- The line of names, and every line below it.
+use mathlib.Core.Path.{ap, ap₂, _∙_}
+use mathlib.Core.Bool.{_&&_}
+use mathlib.Core.List.{List}
+use Prim.Native.Nat.{ℕ}
+use lib.ListN.{length}
+use Rattle.commitment.specs.Ranges.{every}
+use Rattle.lines.specs.Pieces.{fieldsOf}
+use Rattle.lines.specs.Tables.{valueLine}
+use Rattle.lines.specs.Tables.{nameLine, valueLine}
+use borrow.Author.Needs.{needs}
+use Rattle.casetext.proofs.form.prices_formed.Statement.{statement}
+use Rattle.casetext.proofs.form.prices_formed.Tie as tie
+
+line-requires : tie.Need-line-requires
+line-requires c κs = search needs
+
+lines-from-requires : tie.Need-lines-from-requires
+lines-from-requires c κs = search needs
+
+name-line-requires : tie.Need-name-line-requires
+name-line-requires c κs = search needs
+
+fields-in-requires : tie.Need-fields-in-requires
+fields-in-requires c κs = search needs
+
+rows-formed-requires : tie.Need-rows-formed-requires
+rows-formed-requires c κs = search needs
+
+returns : tie.Need-returns
+returns c =
+    let f = c .before in
+    let n = f .before in
+    let r = n .before in
+    let h = r .before in
+    ap₂ _&&_ (n .name-line .ensures ∙ ap nameLine (h .line .ensures))
+    (c .rows-formed .ensures ∙ ap₂ (λ (k : ℕ) (ls : List (List ℕ)). every (valueLine k) ls) (f .fields-in .ensures ∙ ap (λ (l : List ℕ). length (fieldsOf l)) (h .line .ensures)) (r .lines-from .ensures))
+
+pub prices-formed-spec : {M : Type 1} → statement M
+prices-formed-spec =
+    tie.close
+    (tie.spec
+    line-requires
+    lines-from-requires
+    name-line-requires
+    fields-in-requires
+    rows-formed-requires
+    returns)

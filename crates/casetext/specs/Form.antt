@@ -1,0 +1,54 @@
+-- The lines of a text, its form and its names.
+use mathlib.Core.Bool.{Bool, true, false, _&&_}
+use mathlib.Core.List.{List, [], _∷_}
+use Prim.Native.Nat.{ℕ}
+use lib.Dec.{leb}
+use lib.ListN.{length, getD, drop}
+use Rattle.commitment.specs.Ranges.{every}
+use Rattle.lines.specs.Pieces.{linesOf, closed, fieldsOf}
+use Rattle.lines.specs.Tables.{nameLine, valueLine}
+use Rattle.casetext.specs.Names.{unitNames, priceNames, onceEach}
+
+-- "A text has at most 12,288 bytes"
+abbrev pub mostBytes : ℕ
+mostBytes = 12288
+
+-- ---- the lines: the unit's names and values, an empty line, the prices' names, then a price to a line
+
+abbrev pub lineAt : ℕ → List ℕ → List ℕ
+lineAt k text = getD (linesOf text) k []
+
+abbrev pub unitHead : List ℕ → List ℕ
+unitHead text = lineAt 0 text
+
+abbrev pub unitRow : List ℕ → List ℕ
+unitRow text = lineAt 1 text
+
+abbrev pub gap : List ℕ → List ℕ
+gap text = lineAt 2 text
+
+abbrev pub priceHead : List ℕ → List ℕ
+priceHead text = lineAt 3 text
+
+abbrev pub priceRows : List ℕ → List (List ℕ)
+priceRows text = drop 4 (linesOf text)
+
+-- ---- 1: the form
+
+abbrev pub isEmpty : List ℕ → Bool
+isEmpty [] = true
+isEmpty (b ∷ bs) = false
+
+abbrev pub tableFormed : List ℕ → List (List ℕ) → Bool
+tableFormed head rows = nameLine head && every (valueLine (length (fieldsOf head))) rows
+
+unfoldable pub formKept : List ℕ → Bool
+formKept text =
+    leb (length text) mostBytes && closed text
+    && leb 4 (length (linesOf text)) && isEmpty (gap text)
+    && tableFormed (unitHead text) (unitRow text ∷ []) && tableFormed (priceHead text) (priceRows text)
+
+-- ---- 2: the names
+
+unfoldable pub namesKept : List ℕ → Bool
+namesKept text = onceEach unitNames (fieldsOf (unitHead text)) && onceEach priceNames (fieldsOf (priceHead text))

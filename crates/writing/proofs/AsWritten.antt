@@ -1,0 +1,254 @@
+-- Demand 1's sentence: in a text that is not refused each field is the value written under its name, and the prices are those of the lines in order.
+use mathlib.Core.Path.{_≡_, refl, sym, ap, ap₂, _∙_}
+use mathlib.Core.Bool.{Bool, true, false, _&&_, cond}
+use mathlib.Core.List.{List, [], _∷_, map}
+use Prim.Native.Nat.{ℕ, zero, suc, _+_, _≤_, _<_}
+use native.Mathlib.Omega.{arith}
+use lib.Dec.{leb, eqb}
+use lib.IntN.{ℤ, pos, negsuc, natAbs}
+use lib.ListN.{length, take, drop, getD, length-map}
+use lib.Seq.{take-append-seam}
+use borrow.Author.Tests.{leb-true, eqb-true}
+use Rattle.commitment.specs.declared.Checked.{Checked}
+use Rattle.commitment.specs.declared.Checked.the-variants.{Passed, Refused}
+use Rattle.commitment.specs.declared.Limit.{Limit}
+use Rattle.commitment.specs.declared.Limit.the-variants.{None, At}
+use Rattle.commitment.specs.declared.UnitRecord.{UnitRecord}
+use Rattle.commitment.specs.Limits.{limitKept}
+use Rattle.commitment.specs.Ranges.{every, caseChecked}
+use Rattle.commitment.proofs.Conjunctions.{both}
+use Rattle.commitment.proofs.Passing.{every-at, Passing, passing}
+use Rattle.commitment.proofs.Ranges.{InRange, in-range}
+use Rattle.lines.specs.declared.Class.the-variants.{Comma}
+use Rattle.lines.specs.declared.Value.{Value}
+use Rattle.lines.specs.declared.Value.the-variants.{Malformed, WordNone, Number}
+use Rattle.lines.specs.Bytes.{isOf, same}
+use Rattle.lines.specs.Pieces.{onto, linesOf, closed, fieldsOf}
+use Rattle.lines.specs.Tables.{nameLine, valueLine, occurs, under}
+use Rattle.lines.specs.Values.{valueOf, isValue}
+use Rattle.lines.proofs.Alike.{same-eq}
+use Rattle.casefile.specs.declared.CaseRead.the-variants.{Case}
+use Rattle.casefile.specs.Answers.{answered, readCase, readPrices}
+use Rattle.casetext.specs.Names.{blockName, pminName, pmaxName, motName, mdtName, wasName, heldName, vecName, mlcName, sucName, startsName, hoursName, mwhName, priceName, unitNames, priceNames, once, onceEach}
+use Rattle.casetext.specs.Form.{mostBytes, unitHead, unitRow, gap, priceHead, priceRows, isEmpty, tableFormed, formKept, namesKept}
+use Rattle.casefile.specs.Reading.{beyond, wholeOf, limitOf, centsOf, unitIn, priceOf, pricesIn, textChecked}
+use Rattle.casefile.proofs.Checking.{text-passed, answer-read}
+use Rattle.writing.proofs.Places.{Written, stands}
+
+-- ---- what the sentence says
+
+-- the value of a limitation, as it is written
+abbrev pub limitValue : Limit → Value
+limitValue None = WordNone
+limitValue (At n) = Number (pos n)
+
+pub record AsWritten (text : List ℕ) (u : UnitRecord) (prices : List ℤ) : Type 0 where
+  pub lines : linesOf text ≡ unitHead text ∷ unitRow text ∷ [] ∷ priceHead text ∷ priceRows text
+  pub block : Written (fieldsOf (unitHead text)) (fieldsOf (unitRow text)) blockName (Number (pos (u .block)))
+  pub pmin : Written (fieldsOf (unitHead text)) (fieldsOf (unitRow text)) pminName (Number (pos (u .pmin)))
+  pub pmax : Written (fieldsOf (unitHead text)) (fieldsOf (unitRow text)) pmaxName (Number (pos (u .pmax)))
+  pub mot : Written (fieldsOf (unitHead text)) (fieldsOf (unitRow text)) motName (Number (pos (u .mot)))
+  pub mdt : Written (fieldsOf (unitHead text)) (fieldsOf (unitRow text)) mdtName (Number (pos (u .mdt)))
+  pub was : Written (fieldsOf (unitHead text)) (fieldsOf (unitRow text)) wasName (Number (pos (u .was)))
+  pub held : Written (fieldsOf (unitHead text)) (fieldsOf (unitRow text)) heldName (Number (pos (u .held)))
+  pub vec : Written (fieldsOf (unitHead text)) (fieldsOf (unitRow text)) vecName (Number (pos (u .vec)))
+  pub mlc : Written (fieldsOf (unitHead text)) (fieldsOf (unitRow text)) mlcName (Number (pos (u .mlc)))
+  pub suc-cost : Written (fieldsOf (unitHead text)) (fieldsOf (unitRow text)) sucName (Number (pos (u .suc)))
+  pub starts : Written (fieldsOf (unitHead text)) (fieldsOf (unitRow text)) startsName (limitValue (u .starts))
+  pub hours : Written (fieldsOf (unitHead text)) (fieldsOf (unitRow text)) hoursName (limitValue (u .hours))
+  pub mwh : Written (fieldsOf (unitHead text)) (fieldsOf (unitRow text)) mwhName (limitValue (u .mwh))
+  pub price-name : priceHead text ≡ priceName
+  pub one-a-line : length prices ≡ length (priceRows text)
+  pub price : (i : ℕ) → i < length prices → valueOf (getD (priceRows text) i []) ≡ Number (getD prices i (pos 0))
+
+-- ---- a number in its range is the number that is written
+
+whole-is : (v : Value) → wholeOf v < beyond → v ≡ Number (pos (wholeOf v))
+whole-is Malformed h = absurd (omega (arith, h))
+whole-is WordNone h = absurd (omega (arith, h))
+whole-is (Number (pos n)) h = refl
+whole-is (Number (negsuc n)) h = absurd (omega (arith, h))
+
+limit-is : (most : ℕ) (v : Value) → most < beyond → limitKept most (limitOf v) ≡ true → v ≡ limitValue (limitOf v)
+limit-is most Malformed m h = absurd (omega (arith, leb-true beyond most h))
+limit-is most WordNone m h = refl
+limit-is most (Number (pos n)) m h = refl
+limit-is most (Number (negsuc n)) m h = absurd (omega (arith, leb-true beyond most h))
+
+cents-is : (v : Value) → natAbs (centsOf v) < beyond → v ≡ Number (centsOf v)
+cents-is Malformed h = absurd (omega (arith, h))
+cents-is WordNone h = absurd (omega (arith, h))
+cents-is (Number z) h = refl
+
+-- ---- a line of one field is that field
+
+some-field : (s : List ℕ) → 0 < length (fieldsOf s)
+some-field [] = omega arith
+some-field (b ∷ bs) = go (isOf Comma b) (fieldsOf bs)
+  where
+    go : (t : Bool) (fields : List (List ℕ)) → 0 < length (cond t ([] ∷ fields) (onto b fields))
+    go true fields = omega arith
+    go false [] = omega arith
+    go false (f ∷ fs) = omega arith
+
+one-field : (s : List ℕ) → length (fieldsOf s) ≡ 1 → fieldsOf s ≡ s ∷ []
+one-field [] h = refl
+one-field (b ∷ bs) h = go (isOf Comma b) refl (fieldsOf bs) (some-field bs) (one-field bs) h
+  where
+    go : (t : Bool) → isOf Comma b ≡ t → (fields : List (List ℕ)) → 0 < length fields → (length fields ≡ 1 → fields ≡ bs ∷ [])
+        → length (cond (isOf Comma b) ([] ∷ fields) (onto b fields)) ≡ 1 → cond (isOf Comma b) ([] ∷ fields) (onto b fields) ≡ (b ∷ bs) ∷ []
+    go true e fields some below h = absurd (omega (arith, rw e at h))
+    go false e [] some below h = absurd (omega arith)
+    go false e (f ∷ fs) some below h = let k : suc (length fs) ≡ 1 = rw e at h in rw e (ap (onto b) (below k))
+
+-- ---- the form and the names of a text that is not refused
+
+record Formed (text : List ℕ) : Type 0 where
+  four : 4 ≤ length (linesOf text)
+  gap-empty : gap text ≡ []
+  unit-table : tableFormed (unitHead text) (unitRow text ∷ []) ≡ true
+  price-table : tableFormed (priceHead text) (priceRows text) ≡ true
+
+empty-is : (s : List ℕ) → isEmpty s ≡ true → s ≡ []
+empty-is [] e = refl
+empty-is (b ∷ bs) e = let z : _≡_ {A = Bool} false true = e in let n : _≡_ {A = ℕ} 0 1 = cc in absurd (omega arith)
+
+formed-is : (text : List ℕ) → formKept text ≡ true → Formed text
+unfolding formKept
+formed-is text e =
+    let start = leb (length text) mostBytes && closed text in
+    let four = leb 4 (length (linesOf text)) in
+    let third = isEmpty (gap text) in
+    let unit = tableFormed (unitHead text) (unitRow text ∷ []) in
+    let p = both (start && four && third && unit) (tableFormed (priceHead text) (priceRows text)) e in
+    let u = both (start && four && third) unit (p .0) in
+    let g = both (start && four) third (u .0) in
+    let f = both start four (g .0) in
+    record { four = leb-true 4 (length (linesOf text)) (f .1); gap-empty = empty-is (gap text) (g .1); unit-table = u .1; price-table = p .1 }
+
+lines-are : (ls : List (List ℕ)) → 4 ≤ length ls → ls ≡ getD ls 0 [] ∷ getD ls 1 [] ∷ getD ls 2 [] ∷ getD ls 3 [] ∷ drop 4 ls
+lines-are [] h = absurd (omega arith)
+lines-are (a ∷ []) h = absurd (omega arith)
+lines-are (a ∷ b ∷ []) h = absurd (omega arith)
+lines-are (a ∷ b ∷ c ∷ []) h = absurd (omega arith)
+lines-are (a ∷ b ∷ c ∷ d ∷ ls) h = refl
+
+-- the line of values has as many fields as the line of names
+row-length : (names : ℕ) (row : List ℕ) → valueLine names row ≡ true → length (fieldsOf row) ≡ names
+row-length names row e = eqb-true (length (fieldsOf row)) names (both (eqb (length (fieldsOf row)) names) (every isValue (fieldsOf row)) e .0)
+
+-- each name of the table stands once
+name-once : (table fields : List (List ℕ)) → onceEach table fields ≡ true → (k : ℕ) → k < length table → occurs (getD table k []) fields ≡ 1
+name-once table fields e k h =
+    eqb-true (occurs (getD table k []) fields) 1 (every-at (once fields) [] table k (both (every (once fields) table) (eqb (length fields) (length table)) e .0) h)
+
+-- a line of one name, which is this one
+one-name : (name : List ℕ) (line : List ℕ) → onceEach (name ∷ []) (fieldsOf line) ≡ true → line ≡ name
+one-name name line e =
+    let l : length (fieldsOf line) ≡ 1 = eqb-true (length (fieldsOf line)) 1 (both (every (once (fieldsOf line)) (name ∷ [])) (eqb (length (fieldsOf line)) 1) e .1) in
+    let f = one-field line l in
+    let o : occurs name (line ∷ []) ≡ 1 = ap (occurs name) (sym f) ∙ name-once (name ∷ []) (fieldsOf line) e 0 (omega arith) in
+    same-eq line name (sole (same line name) o)
+  where
+    sole : (t : Bool) → cond t 1 0 + 0 ≡ 1 → t ≡ true
+    sole true h = refl
+    sole false h = absurd (omega (arith, h))
+
+getD-map : (f : List ℕ → ℤ) (rows : List (List ℕ)) (i : ℕ) → i < length rows → getD (map f rows) i (pos 0) ≡ f (getD rows i [])
+getD-map f [] i h = absurd (omega arith)
+getD-map f (row ∷ rows) zero h = refl
+getD-map f (row ∷ rows) (suc i) h = getD-map f rows i (omega arith)
+
+module _ (text : List ℕ) (form : formKept text ≡ true) (names-once : namesKept text ≡ true) (checks : caseChecked (unitIn text) (pricesIn text) ≡ Passed) where
+  formed : Formed text
+  formed = formed-is text form
+
+  both-named : (onceEach unitNames (fieldsOf (unitHead text)) ≡ true) × (onceEach priceNames (fieldsOf (priceHead text)) ≡ true)
+  unfolding namesKept
+  both-named = both (onceEach unitNames (fieldsOf (unitHead text))) (onceEach priceNames (fieldsOf (priceHead text))) names-once
+
+  -- what stands under the name at place k of the table
+  under-name : (k : ℕ) → k < 13 → Written (fieldsOf (unitHead text)) (fieldsOf (unitRow text)) (getD unitNames k []) (under (getD unitNames k []) (fieldsOf (unitHead text)) (fieldsOf (unitRow text)))
+  under-name k h =
+      let row = both (valueLine (length (fieldsOf (unitHead text))) (unitRow text)) true (both (nameLine (unitHead text)) _ (formed .unit-table) .1) in
+      stands (getD unitNames k []) (fieldsOf (unitHead text)) (fieldsOf (unitRow text)) (name-once unitNames (fieldsOf (unitHead text)) (both-named .0) k h) (row-length _ (unitRow text) (row .0))
+
+  as-value : {name : List ℕ} {v w : Value} → v ≡ w → Written (fieldsOf (unitHead text)) (fieldsOf (unitRow text)) name v → Written (fieldsOf (unitHead text)) (fieldsOf (unitRow text)) name w
+  as-value e s = record { place = s .place; within = s .within; named = s .named; holds = s .holds ∙ e; only = s .only }
+
+  whole-at : (k : ℕ) → k < 13 → let v = under (getD unitNames k []) (fieldsOf (unitHead text)) (fieldsOf (unitRow text)) in
+      wholeOf v < beyond → Written (fieldsOf (unitHead text)) (fieldsOf (unitRow text)) (getD unitNames k []) (Number (pos (wholeOf v)))
+  whole-at k h b = as-value (whole-is _ b) (under-name k h)
+
+  limit-at : (k : ℕ) → k < 13 → (most : ℕ) → most < beyond → let v = under (getD unitNames k []) (fieldsOf (unitHead text)) (fieldsOf (unitRow text)) in
+      limitKept most (limitOf v) ≡ true → Written (fieldsOf (unitHead text)) (fieldsOf (unitRow text)) (getD unitNames k []) (limitValue (limitOf v))
+  limit-at k h most m b = as-value (limit-is most _ m b) (under-name k h)
+
+  head-is : priceHead text ≡ priceName
+  head-is = one-name priceName (priceHead text) (both-named .1)
+
+  -- each line of the second table is one field, the price
+  price-at : (i : ℕ) → i < length (priceRows text) → priceOf (priceHead text) (getD (priceRows text) i []) ≡ centsOf (valueOf (getD (priceRows text) i []))
+  unfolding isOf
+  price-at i h =
+      let row = getD (priceRows text) i [] in
+      let v = every-at (valueLine (length (fieldsOf (priceHead text)))) [] (priceRows text) i (both (nameLine (priceHead text)) _ (formed .price-table) .1) h in
+      let n : length (fieldsOf (priceHead text)) ≡ 1 = ap (λ (l : List ℕ). length (fieldsOf l)) head-is in
+      ap₂ (λ (fields values : List (List ℕ)). centsOf (under priceName fields values)) (ap fieldsOf head-is) (one-field row (row-length _ row v ∙ n))
+
+  case-kept : Passing (unitIn text) (pricesIn text)
+  case-kept = passing (unitIn text) (pricesIn text) checks
+
+  in-ranges : InRange (unitIn text)
+  in-ranges = in-range (unitIn text) (case-kept .ranges)
+
+  prices-long : length (pricesIn text) ≡ length (priceRows text)
+  unfolding pricesIn
+  prices-long = length-map (priceRows text) (priceOf (priceHead text))
+
+  price-written : (i : ℕ) → i < length (pricesIn text) → valueOf (getD (priceRows text) i []) ≡ Number (getD (pricesIn text) i (pos 0))
+  unfolding pricesIn
+  price-written i h =
+      let r : i < length (priceRows text) = omega (arith, prices-long) in
+      let e : getD (pricesIn text) i (pos 0) ≡ centsOf (valueOf (getD (priceRows text) i [])) = getD-map (priceOf (priceHead text)) (priceRows text) i r ∙ price-at i r in
+      cents-is (valueOf (getD (priceRows text) i [])) (omega (arith, case-kept .price-at i h, ap natAbs e)) ∙ ap Number (sym e)
+
+  pub text-as-written : AsWritten text (unitIn text) (pricesIn text)
+  unfolding unitIn
+  text-as-written =
+      let r = in-ranges in
+      record {
+        lines = lines-are (linesOf text) (formed .four) ∙ ap (λ (third : List ℕ). unitHead text ∷ unitRow text ∷ third ∷ priceHead text ∷ priceRows text) (formed .gap-empty);
+        block = whole-at 0 (omega arith) (omega (arith, r .sizes .block-most));
+        pmin = whole-at 1 (omega arith) (omega (arith, r .sizes .pmin-most));
+        pmax = whole-at 2 (omega arith) (omega (arith, r .sizes .pmax-most));
+        mot = whole-at 3 (omega arith) (omega (arith, r .times .mot-most));
+        mdt = whole-at 4 (omega arith) (omega (arith, r .times .mdt-most));
+        was = whole-at 5 (omega arith) (omega (arith, r .times .was-most));
+        held = whole-at 6 (omega arith) (omega (arith, r .times .held-most));
+        vec = whole-at 7 (omega arith) (omega (arith, r .costs .vec-most));
+        mlc = whole-at 8 (omega arith) (omega (arith, r .costs .mlc-most));
+        suc-cost = whole-at 9 (omega arith) (omega (arith, r .costs .suc-most));
+        starts = limit-at 10 (omega arith) 2976 (omega arith) (r .limits .starts-kept);
+        hours = limit-at 11 (omega arith) 744 (omega arith) (r .limits .hours-kept);
+        mwh = limit-at 12 (omega arith) 372000 (omega arith) (r .limits .mwh-kept);
+        price-name = head-is;
+        one-a-line = prices-long;
+        price = price-written;
+      }
+
+-- ---- the sentence, of what reading answers and of what it leaves in the slice
+
+answered-case : (k : Checked) (u v : UnitRecord) (m n : ℕ) → answered k u m ≡ Case v n → (k ≡ Passed) × (u ≡ v) × (m ≡ n)
+answered-case Passed u v m n e = (refl, (cc), (cc))
+answered-case (Refused cause) u v m n e = let z : _≡_ {A = ℕ} 0 1 = cc in absurd (omega arith)
+
+pub read-as-written : (text : List ℕ) (slice : List ℤ) (u : UnitRecord) (count : ℕ) → readCase text (length slice) ≡ Case u count → AsWritten text u (take count (readPrices text slice))
+unfolding readCase
+read-as-written text slice u count e =
+    let a = answered-case (textChecked text (length slice)) (unitIn text) u (length (pricesIn text)) count e in
+    let p = text-passed text (length slice) (a .0) in
+    let w = text-as-written text (p .form) (p .names) (p .checks) in
+    let front : take count (readPrices text slice) ≡ pricesIn text =
+    ap₂ (λ (n : ℕ) (l : List ℤ). take n l) (sym (a .2)) (sym (answer-read text slice (a .0) .1)) ∙ take-append-seam (pricesIn text) (drop (length (pricesIn text)) slice) in
+    rw (front, ← a .1) w

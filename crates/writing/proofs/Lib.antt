@@ -1,0 +1,6 @@
+pub mod Places
+pub mod AsWritten
+pub mod Examples
+pub mod Pieces
+pub mod Numbers
+pub mod Back

@@ -1,0 +1,62 @@
+-- The text that a writer of the format makes of a record and prices.
+use mathlib.Core.Bool.{cond}
+use mathlib.Core.List.{List, [], _∷_, _++_, map}
+use Prim.Native.Nat.{ℕ, zero, suc, _+_, _/_, _%_}
+use lib.Dec.{ltb}
+use lib.IntN.{ℤ, pos, negsuc}
+use Rattle.commitment.specs.declared.Limit.{Limit}
+use Rattle.commitment.specs.declared.Limit.the-variants.{None, At}
+use Rattle.commitment.specs.declared.UnitRecord.{UnitRecord}
+use Rattle.lines.specs.Bytes.{same}
+use Rattle.lines.specs.Values.{noneWord}
+use Rattle.casetext.specs.Names.{blockName, pminName, pmaxName, motName, mdtName, wasName, heldName, vecName, mlcName, sucName, startsName, hoursName, mwhName, priceName}
+
+-- fields joined by commas
+abbrev pub joined : List (List ℕ) → List ℕ
+joined [] = []
+joined (field ∷ []) = field
+joined (field ∷ next ∷ fields) = field ++ 44 ∷ joined (next ∷ fields)
+
+-- lines, each closed by a line end
+abbrev pub closing : List (List ℕ) → List ℕ
+closing [] = []
+closing (line ∷ lines) = line ++ 10 ∷ closing lines
+
+-- the digits of a number in front of others, at most as many as the first argument says
+abbrev pub digitsOf : ℕ → ℕ → List ℕ → List ℕ
+digitsOf zero n others = others
+digitsOf (suc k) n others = cond (ltb n 10) ((48 + n) ∷ others) (digitsOf k (n / 10) ((48 + n % 10) ∷ others))
+
+-- a number of at most ten digits
+abbrev pub shownWhole : ℕ → List ℕ
+shownWhole n = digitsOf 10 n []
+
+abbrev pub shownPrice : ℤ → List ℕ
+shownPrice (pos n) = shownWhole n
+shownPrice (negsuc n) = 45 ∷ shownWhole (suc n)
+
+abbrev pub shownLimit : Limit → List ℕ
+shownLimit None = noneWord
+shownLimit (At n) = shownWhole n
+
+-- a field of the record, by its name
+abbrev pub shownField : UnitRecord → List ℕ → List ℕ
+shownField u name =
+    cond (same name blockName) (shownWhole (u .block))
+    (cond (same name pminName) (shownWhole (u .pmin))
+    (cond (same name pmaxName) (shownWhole (u .pmax))
+    (cond (same name motName) (shownWhole (u .mot))
+    (cond (same name mdtName) (shownWhole (u .mdt))
+    (cond (same name wasName) (shownWhole (u .was))
+    (cond (same name heldName) (shownWhole (u .held))
+    (cond (same name vecName) (shownWhole (u .vec))
+    (cond (same name mlcName) (shownWhole (u .mlc))
+    (cond (same name sucName) (shownWhole (u .suc))
+    (cond (same name startsName) (shownLimit (u .starts))
+    (cond (same name hoursName) (shownLimit (u .hours))
+    (cond (same name mwhName) (shownLimit (u .mwh))
+    []))))))))))))
+
+-- the text of a case, its names in a sequence of the writer's own
+unfoldable pub written : List (List ℕ) → UnitRecord → List ℤ → List ℕ
+written names u prices = closing (joined names ∷ joined (map (shownField u) names) ∷ [] ∷ priceName ∷ map shownPrice prices)
