@@ -88,3 +88,8 @@ answered TooLong = written.Refused Length
 
 abbrev pub bufferAfter : List ℕ → List ℕ → List ℕ
 bufferAfter text buffer = cond (leb (length text) (length buffer)) (text ++ drop (length text) buffer) buffer
+
+-- the bytes written, 0 on a refusal
+abbrev pub bytesIn : Written → ℕ
+bytesIn (written.Bytes bytes) = bytes
+bytesIn (written.Refused cause) = 0

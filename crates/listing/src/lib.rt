@@ -9,7 +9,7 @@ ghost use lib.IntN.{natAbs};
 ghost use lib.ListN.{length};
 ghost use mathlib.Core.List.{[], _∷_, _++_};
 ghost use Rattle.listing.specs.Numbers.{digit, number, signedNumber};
-ghost use Rattle.listing.specs.Listing.{outcomeText, closed, intervalLine, intervalLines, profitLine, outcomeLines, listing, refusal, fitted, answered, bufferAfter};
+ghost use Rattle.listing.specs.Listing.{outcomeText, closed, intervalLine, intervalLines, profitLine, outcomeLines, listing, refusal, fitted, answered, bufferAfter, bytesIn};
 ghost use Rattle.listing.specs.Writing.{Put, written};
 
 // What writing answers: so many bytes from the front, or 7 for a buffer too short.
@@ -51,6 +51,16 @@ pub fn write_refusal(number: u64, out: &mut [u8]) -> Written
     let end = put_number(&mut *out, value, number);
     put_byte(out, end, 10);
     Written::Bytes(bytes)
+}
+
+// The bytes written, 0 on a refusal.
+pub fn bytes_in(answer: Written) -> usize
+    ensures { λ r. ⌜ r ≡ bytesIn answer ⌝ }
+{
+    match answer {
+        Written::Bytes(bytes) => bytes,
+        Written::Refused(_) => 0,
+    }
 }
 
 // ---- leaves: each writes at a place and gives the place after it

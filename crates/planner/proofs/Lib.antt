@@ -1,4 +1,4 @@
 mod Runs
 mod Lent
 mod Worked
-mod Answers
+pub mod Answers
