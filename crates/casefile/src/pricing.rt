@@ -20,8 +20,8 @@ pub fn prices_kept(text: &[u8]) -> bool
     ensures { λ r. ⌜ r ≡ pricesKept (pricesIn (now (text .entry))) ⌝ }
 {
     let head = parts::line(text, 3);
-    let rows = parts::lines_from(text, 4);
-    rows_kept(head, rows)
+    let price_rows = parts::lines_from(text, 4);
+    rows_kept(head, price_rows)
 }
 
 pub fn prices_counted(text: &[u8]) -> usize

@@ -37,7 +37,7 @@ module _ {from : ℕ → List (List ℕ)} {test : List ℕ → Bool} {s : List �
     pub test-fails : t ≡ false → false ≡ whole
     test-fails e = sym (ap rest e) ∙ turn
 
-  pub test-ends : from at ≡ [] → true ≡ whole
+  test-ends : from at ≡ [] → true ≡ whole
   test-ends e = sym (ap (every test) e) ∙ w .left
 
 pub fields-tested : (test : List ℕ → Bool) (s : List ℕ) → Testing (fieldsFrom s) test s (every test (fieldsOf s)) 0
@@ -72,7 +72,7 @@ module _ {from : ℕ → List (List ℕ)} {test : List ℕ → Bool} {s : List �
         left = omega (arith, ap (tally test) (cut .on), w .left);
       }
 
-  pub count-ends : from at ≡ [] → count ≡ whole
+  count-ends : from at ≡ [] → count ≡ whole
   count-ends e = omega (arith, ap (tally test) e, w .left)
 
 pub fields-counted : (test : List ℕ → Bool) (s : List ℕ) → Counting (fieldsFrom s) test s (tally test (fieldsOf s)) 0 0

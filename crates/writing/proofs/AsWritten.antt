@@ -213,7 +213,7 @@ module _ (text : List ℕ) (form : formKept text ≡ true) (names-once : namesKe
       let e : getD (pricesIn text) i (pos 0) ≡ centsOf (valueOf (getD (priceRows text) i [])) = getD-map (priceOf (priceHead text)) (priceRows text) i r ∙ price-at i r in
       cents-is (valueOf (getD (priceRows text) i [])) (omega (arith, case-kept .price-at i h, ap natAbs e)) ∙ ap Number (sym e)
 
-  pub text-as-written : AsWritten text (unitIn text) (pricesIn text)
+  text-as-written : AsWritten text (unitIn text) (pricesIn text)
   unfolding unitIn
   text-as-written =
       let r = in-ranges in

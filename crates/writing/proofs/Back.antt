@@ -36,6 +36,7 @@ use Rattle.casefile.proofs.Records.{fields-alike}
 use Rattle.writing.specs.Writing.{joined, shownWhole, shownPrice, shownLimit, shownField, written}
 use Rattle.writing.proofs.AsWritten.{limitValue}
 use Rattle.writing.proofs.Numbers.{whole-back, price-back, limit-back, whole-unparted, price-unparted, limit-unparted}
+use Rattle.writing.proofs.Sequences.{no-other}
 use Rattle.writing.proofs.Pieces.{free, field-alone, fields-back, lines-back, closing-closed, joined-line}
 
 -- ---- tests of every element
@@ -284,10 +285,11 @@ module _ (u : UnitRecord) (prices : List ℤ) (names : List (List ℕ))
 
 -- what is written is read: the answer is the record, and the slice has the prices in front and behind them what was there
 pub written-read : (u : UnitRecord) (prices : List ℤ) (names : List (List ℕ)) (slice : List ℤ) → caseChecked u prices ≡ Passed
-    → every (once unitNames) names ≡ true → onceEach unitNames names ≡ true → length (written names u prices) ≤ mostBytes → length prices ≤ length slice
+    → onceEach unitNames names ≡ true → length (written names u prices) ≤ mostBytes → length prices ≤ length slice
     → (readCase (written names u prices) (length slice) ≡ Case u (length prices)) × (readPrices (written names u prices) slice ≡ prices ++ drop (length prices) slice)
-written-read u prices names slice kept known each short fits =
-    let room = length slice in (
+written-read u prices names slice kept each short fits =
+    let room = length slice in
+    let known = no-other unitNames names refl each in (
       case-read u prices names kept known each room short fits,
       sym (answer-read (written names u prices) slice (passed u prices names kept known each room short fits) .1)
           ∙ ap (λ (l : List ℤ). l ++ drop (length l) slice) (prices-are u prices names kept known each room short fits),

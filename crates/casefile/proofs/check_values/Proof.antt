@@ -3,8 +3,7 @@ use mathlib.Core.Path.{_≡_, sym, ap, ap₂, _∙_}
 use mathlib.Core.Bool.{_&&_}
 use lib.ListN.{length}
 use borrow.Author.Tests.{not-true, not-false}
-use Rattle.commitment.specs.Ranges.{pricesKept}
-use Rattle.commitment.specs.Ranges.{rangesKept, pricesKept, shapeKept, horizonKept}
+use Rattle.commitment.specs.Ranges.{pricesKept, rangesKept, shapeKept, horizonKept}
 use Rattle.commitment.proofs.Conjunctions.{both}
 use Rattle.casefile.specs.Reading.{unitIn, pricesIn}
 use Rattle.casefile.proofs.Checking.{wrong-range, wrong-shape, wrong-horizon, no-room, all-kept}

@@ -4,10 +4,8 @@ use mathlib.Core.List.{List}
 use Prim.Native.Nat.{ℕ}
 use lib.IntN.{ℤ}
 use lib.ListN.{length, take}
-use lib.IntN.{ℤ}
-use Rattle.casefile.specs.Answers.{readCount}
+use Rattle.casefile.specs.Answers.{readCount, readCase, readNumber}
 use lib.Seq.{length-take-le}
-use Rattle.casefile.specs.Answers.{readCase, readNumber, readCount}
 use Rattle.casefile.proofs.Checking.{part-fits, part-read}
 use borrow.Author.Needs.{needs}
 use native.Mathlib.Omega.{arith}

@@ -1,13 +1,11 @@
 -- By the sign.
 use mathlib.Core.Path.{_≡_, refl}
-use mathlib.Core.Bool.{true, false}
-use lib.IntN.{ℤ, pos}
+use mathlib.Core.Bool.{true, false, true≢false}
+use lib.IntN.{ℤ, pos, negsuc, natAbs}
 use native.Mathlib.Nat.{not-suc-le-zero}
 use lib.Dec.{T}
-use lib.IntN.{ℤ, pos, negsuc, natAbs}
 use lib.Signed.{ltZ, nonNeg}
 use borrow.Author.Tests.{ltb-true}
-use mathlib.Core.Bool.{true≢false}
 use Rattle.integers.proofs.Ranges.{plain-fits, fits-within, abs-within}
 use Rattle.casefile.specs.Reading.{naturalOf, beyond}
 use native.Mathlib.Omega.{arith}

@@ -2,11 +2,9 @@
 use mathlib.Core.Path.{sym, ap, _∙_}
 use mathlib.Core.List.{List}
 use Prim.Native.Nat.{ℕ}
-use lib.ListN.{length}
-use Rattle.casefile.specs.Reading.{priceOf}
-use lib.ListN.{length-map}
+use lib.ListN.{length, length-map}
+use Rattle.casefile.specs.Reading.{priceOf, pricesIn}
 use Rattle.casetext.specs.Form.{priceHead, priceRows}
-use Rattle.casefile.specs.Reading.{pricesIn}
 use borrow.Author.Needs.{needs}
 use Rattle.casefile.proofs.pricing.prices_counted.Statement.{statement}
 use Rattle.casefile.proofs.pricing.prices_counted.Tie as tie

@@ -3,10 +3,8 @@ use mathlib.Core.Path.{ap₂, _∙_}
 use mathlib.Core.List.{List}
 use Prim.Native.Nat.{ℕ}
 use Rattle.commitment.specs.Ranges.{every, priceKept, pricesKept}
-use Rattle.casefile.specs.Reading.{priceOf}
-use Rattle.commitment.specs.Ranges.{pricesKept}
+use Rattle.casefile.specs.Reading.{priceOf, pricesIn}
 use Rattle.casetext.specs.Form.{priceHead, priceRows}
-use Rattle.casefile.specs.Reading.{pricesIn}
 use Rattle.casefile.proofs.Checking.{every-map}
 use borrow.Author.Needs.{needs}
 use Rattle.casefile.proofs.pricing.prices_kept.Statement.{statement}

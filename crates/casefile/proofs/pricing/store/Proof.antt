@@ -3,12 +3,9 @@ use mathlib.Core.Path.{_≡_, sym, ap, ap₂, _∙_}
 use mathlib.Core.List.{List, _++_, map}
 use Prim.Native.Nat.{ℕ}
 use lib.IntN.{ℤ}
-use lib.ListN.{length, drop}
-use lib.IntN.{ℤ}
-use Rattle.casefile.specs.Reading.{priceOf}
-use lib.ListN.{length-map}
+use lib.ListN.{length, drop, length-map}
+use Rattle.casefile.specs.Reading.{priceOf, pricesIn}
 use Rattle.casetext.specs.Form.{priceHead, priceRows}
-use Rattle.casefile.specs.Reading.{pricesIn}
 use borrow.Author.Needs.{needs}
 use native.Mathlib.Omega.{arith}
 use Rattle.casefile.proofs.pricing.store.Statement.{statement}

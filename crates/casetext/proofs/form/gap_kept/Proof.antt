@@ -5,7 +5,6 @@ use Prim.Native.Nat.{ℕ, suc}
 use lib.Dec.{eqb}
 use lib.ListN.{length}
 use borrow.Author.Tests.{ne-eqb}
-use mathlib.Core.List.{[], _∷_}
 use Rattle.casetext.specs.Form.{isEmpty, gap}
 use borrow.Author.Needs.{needs}
 use native.Mathlib.Omega.{arith}

@@ -6,8 +6,7 @@ use Prim.Native.Nat.{ℕ}
 use lib.ListN.{length}
 use Rattle.commitment.specs.Ranges.{every}
 use Rattle.lines.specs.Pieces.{fieldsOf}
-use Rattle.lines.specs.Tables.{valueLine}
-use Rattle.lines.specs.Tables.{nameLine, valueLine}
+use Rattle.lines.specs.Tables.{valueLine, nameLine}
 use borrow.Author.Needs.{needs}
 use Rattle.casetext.proofs.form.prices_formed.Statement.{statement}
 use Rattle.casetext.proofs.form.prices_formed.Tie as tie

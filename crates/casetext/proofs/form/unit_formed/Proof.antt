@@ -5,9 +5,7 @@ use mathlib.Core.List.{List, [], _∷_}
 use Prim.Native.Nat.{ℕ}
 use lib.ListN.{length}
 use Rattle.lines.specs.Pieces.{fieldsOf}
-use Rattle.lines.specs.Tables.{valueLine}
-use mathlib.Core.List.{[], _∷_}
-use Rattle.lines.specs.Tables.{nameLine, valueLine}
+use Rattle.lines.specs.Tables.{valueLine, nameLine}
 use Rattle.casetext.specs.Form.{unitHead, unitRow, tableFormed}
 use borrow.Author.Needs.{needs}
 use Rattle.casetext.proofs.form.unit_formed.Statement.{statement}

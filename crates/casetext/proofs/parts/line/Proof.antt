@@ -8,8 +8,6 @@ use Rattle.lines.specs.declared.Class.the-variants.{LineEnd}
 use Rattle.lines.specs.Pieces.{linesOf}
 use Rattle.lines.proofs.Cuts.{end-between}
 use Rattle.casetext.proofs.Starts.{line-here}
-use mathlib.Core.List.{[]}
-use Rattle.lines.proofs.Cuts.{end-between}
 use borrow.Author.Needs.{needs}
 use native.Mathlib.Omega.{arith}
 use Rattle.casetext.proofs.parts.line.Statement.{statement}

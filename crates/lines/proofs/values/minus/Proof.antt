@@ -1,9 +1,8 @@
 -- Both the number and its opposite are far inside an i64.
 use mathlib.Core.Path.{_∙_}
 use Prim.Native.Nat.{ℕ, _<_}
-use lib.IntN.{pos, negℤ}
-use lib.Dec.{lit<}
 use lib.IntN.{pos, negℤ, +ℤ-idl}
+use lib.Dec.{lit<}
 use Rattle.integers.proofs.Ranges.{Within, within-at, within-weaken, within-diff, within-fits, plain}
 use borrow.Author.Needs.{needs}
 use native.Mathlib.Omega.{arith}
