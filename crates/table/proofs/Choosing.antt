@@ -20,12 +20,13 @@ use Rattle.optimality.specs.Machine.{after, noSchedule, earning}
 use Rattle.optimality.specs.Cells.{Sound, InTable, startTakes, startPays, gain, mayRun, onCell, rungs, planAt, valueAt, offValue, onValue}
 use Rattle.optimality.proofs.Values.{no-earning}
 use Rattle.optimality.proofs.Turns.{OffTurn, OnTurn, off-turn, on-turn, some-turn, off-in-table, on-in-table}
-use Rattle.table.specs.Layers.{swing, Holds, Layer}
-use Rattle.table.specs.Turns.{raised, offHeld, roomFor, onHeld, cellHeld, firstOn, chosen, nextCell}
-use Rattle.table.proofs.Stretches.{last-or-before}
-use Rattle.table.proofs.Raising.{raised-above, raised-reach}
-use Rattle.table.proofs.Holding.{Offers, offered, offers-best, offers-earning}
-use Rattle.table.proofs.Turning.{off-holds, on-is, on-offers}
+use Rattle.layers.specs.Layers.{swing, Holds, Layer}
+use Rattle.layers.specs.Turns.{raised, offHeld, roomFor, onHeld, cellHeld}
+use Rattle.table.specs.Reading.{firstOn, chosen, nextCell}
+use Rattle.layers.proofs.Stretches.{last-or-before}
+use Rattle.layers.proofs.Raising.{raised-above, raised-reach}
+use Rattle.layers.proofs.Holding.{Offers, offered, offers-best, offers-earning}
+use Rattle.layers.proofs.Turning.{off-holds, on-is, on-offers}
 
 -- ---- the first that reaches
 

@@ -6,8 +6,9 @@ use lib.Signed.{ltZ}
 use mir.Syntax.{w64}
 use mir.Val.{toZ, ofZ}
 use Rattle.integers.proofs.Ranges.{plain-fits}
-use Rattle.table.specs.Layers.{heldAt}
-use Rattle.table.specs.Turns.{offHeld, chosen}
+use Rattle.layers.specs.Layers.{heldAt}
+use Rattle.layers.specs.Turns.{offHeld}
+use Rattle.table.specs.Reading.{chosen}
 use Rattle.table.proofs.reading.choose.Statement.{statement}
 use Rattle.table.proofs.reading.choose.Tie as tie
 

@@ -12,11 +12,11 @@ use mir.Syntax.{w64}
 use mir.Val.{toZ, ofZ}
 use Rattle.integers.proofs.Ranges.{plain-fits}
 use Rattle.optimality.specs.Cells.{InTable, cell, afterOn, startTakes, startPays}
-use Rattle.table.specs.Layers.{width, index, heldAt}
-use Rattle.table.specs.Turns.{net}
-use Rattle.table.proofs.Numbers.{index-along, index-lt}
-use Rattle.table.proofs.Stretches.{last-or-before}
-use Rattle.table.proofs.Turning.{pays-most, pmax-most, runs}
+use Rattle.layers.specs.Layers.{width, index, heldAt}
+use Rattle.layers.specs.Turns.{net}
+use Rattle.layers.proofs.Numbers.{index-along, index-lt}
+use Rattle.layers.proofs.Stretches.{last-or-before}
+use Rattle.layers.proofs.Turning.{pays-most, pmax-most, runs}
 use Rattle.table.proofs.Choosing.{meets, first-at, first-past}
 use Rattle.table.proofs.reading.first_on.Statement.{statement}
 use Rattle.table.proofs.reading.first_on.Tie as tie

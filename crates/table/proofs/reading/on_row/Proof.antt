@@ -4,8 +4,8 @@ use Prim.Native.Nat.{ℕ, _-_}
 use native.Mathlib.Omega.{arith}
 use borrow.Author.Needs.{needs}
 use Rattle.optimality.specs.Cells.{cell}
-use Rattle.table.specs.Layers.{index}
-use Rattle.table.proofs.Turning.{Runs, runs}
+use Rattle.layers.specs.Layers.{index}
+use Rattle.layers.proofs.Turning.{Runs, runs}
 use Rattle.table.proofs.reading.on_row.Statement.{statement}
 use Rattle.table.proofs.reading.on_row.Tie as tie
 

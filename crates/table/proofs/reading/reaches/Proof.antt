@@ -12,10 +12,10 @@ use lib.Signed.{ltZ}
 use mir.Syntax.{w64}
 use mir.Val.{toZ, ofZ}
 use Rattle.integers.proofs.Ranges.{Within, within-fits, plain, plain-fits}
-use Rattle.table.specs.Layers.{swing}
-use Rattle.table.specs.Turns.{net}
-use Rattle.table.proofs.Holding.{gained-within}
-use Rattle.table.proofs.Turning.{blocks-most, net-small}
+use Rattle.layers.specs.Layers.{swing}
+use Rattle.layers.specs.Turns.{net}
+use Rattle.layers.proofs.Holding.{gained-within}
+use Rattle.layers.proofs.Turning.{blocks-most, net-small}
 use Rattle.table.proofs.reading.reaches.Statement.{statement}
 use Rattle.table.proofs.reading.reaches.Tie as tie
 
