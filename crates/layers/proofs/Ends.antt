@@ -3,7 +3,7 @@ use mathlib.Core.Path.{_≡_, refl, sym, ap, _∙_}
 use mathlib.Core.Bool.{Bool, true, false}
 use mathlib.Core.List.{List}
 use mathlib.Core.Logic.{_⊎_, ⊎-elim, inl, inr}
-use Prim.Native.Nat.{ℕ, _+_, _-_, _*_, _≤_, _<_}
+use Prim.Native.Nat.{ℕ, _+_, _-_, _*_, _≤_}
 use native.Mathlib.Nat.{mul-zero, mul-le-mul-left, mul-le-mul-right}
 use native.Mathlib.Omega.{arith}
 use borrow.Author.Tests.{ltb-true, ltb-false, le-leb}
@@ -16,7 +16,7 @@ use Rattle.integers.proofs.Linear.{up, dn, up-pos, dn-pos, zarith, zdiff, ztime
 use Rattle.integers.proofs.Order.{≤ℤ-trans, ≤ℤ-antisym, +ℤ-mono, -ℤ-mono}
 use Rattle.integers.proofs.Maximum.{max-is, max-least}
 use Rattle.optimality.specs.declared.Figures.{Figures}
-use Rattle.optimality.specs.Cells.{Sound, gain, rungs}
+use Rattle.optimality.specs.Cells.{Sound, rungs}
 use Rattle.layers.specs.Layers.{swing}
 use Rattle.layers.specs.Turns.{net, endNet, raised}
 use Rattle.layers.specs.Stretches.{bestOver}
@@ -90,7 +90,7 @@ module _ (f : Figures) (ok : Sound f) (price : ℤ) (pays : ℕ) where
       (one-way price (f .vec) (f .pmin * f .block) (f .mlc))
 
   -- of outputs that all reach the same number and their own net, the better end is the best
-  pub ends-best : (fits : ℕ → Bool) (held base : ℤ) → ((k : ℕ) → fits k ≡ true)
+  ends-best : (fits : ℕ → Bool) (held base : ℤ) → ((k : ℕ) → fits k ≡ true)
       → raised fits (λ k. held +ℤ net f price pays k) base (f .pmin) (rungs f) ≡ maxℤ base (held +ℤ endNet f price pays)
   ends-best fits held base all =
       let reach : ℕ → ℤ = λ k. held +ℤ net f price pays k in

@@ -1,8 +1,8 @@
 -- The table, layer by layer from the last: a layer made from one that holds the values behind it holds the values one interval earlier.
-use mathlib.Core.Path.{_≡_, refl, sym, ap, ap₂, subst, _∙_}
+use mathlib.Core.Path.{_≡_, refl, sym, ap, subst, _∙_}
 use mathlib.Core.Bool.{Bool, true, false}
-use mathlib.Core.List.{List, [], _∷_}
-use mathlib.Core.Logic.{_⊎_, ⊎-elim, inl, inr}
+use mathlib.Core.List.{List, _∷_}
+use mathlib.Core.Logic.{inr}
 use Prim.Native.Nat.{ℕ, zero, suc, _+_, _-_, _*_, _^_, _≤_, _<_}
 use native.Mathlib.Nat.{mul-le-mul-right}
 use native.Mathlib.Omega.{arith}
@@ -12,14 +12,12 @@ use lib.IntN.{ℤ, pos, natAbs}
 use lib.ListN.{length, getD, drop, length-drop, drop-of-length-le}
 use lib.Seq.{drop-cons}
 use Rattle.optimality.specs.declared.Figures.{Figures}
-use Rattle.optimality.specs.declared.Cell.{Cell}
-use Rattle.optimality.specs.Cells.{Sound, InTable, valueAt}
+use Rattle.optimality.specs.Cells.{Sound, valueAt}
 use Rattle.optimality.proofs.Turns.{value-end}
 use Rattle.layers.specs.Layers.{width, index, Holds, Layer, heldAt, Filled, Priced}
-use Rattle.layers.specs.Turns.{cellHeld}
-use Rattle.layers.specs.Stretches.{Apart, Small, LayerMade}
+use Rattle.layers.specs.Stretches.{Small, LayerMade}
 use Rattle.layers.proofs.Numbers.{index-lt, numbered}
-use Rattle.layers.proofs.Stretches.{last-or-before, putIn, put-inside, put-apart, same-from}
+use Rattle.layers.proofs.Stretches.{putIn, put-inside, put-apart, same-from}
 use Rattle.layers.proofs.Holding.{holds-small}
 use Rattle.layers.proofs.Turning.{cell-holds}
 
@@ -42,9 +40,9 @@ pub filled-last : (f : Figures) (prices was s : List ℤ) → (length prices + 1
 filled-last f prices was s room is =
     record {
       layers = λ j lo hi.
-      let e : j ≡ length prices = omega arith in
-      rw (e, drop-of-length-le prices {i = length prices} (omega arith), is)
-      (record { holds = λ c h. rw (value-end f c) (put-inside was (length prices * width f) (width f) (pos 0) (omega arith) (index f c) (index-lt f c h), omega arith) });
+          let e : j ≡ length prices = omega arith in
+          rw (e, drop-of-length-le prices {i = length prices} (omega arith), is)
+          (record { holds = λ c h. rw (value-end f c) (put-inside was (length prices * width f) (width f) (pos 0) (omega arith) (index f c) (index-lt f c h), omega arith) });
       beyond = λ j l. refl;
       same = refl;
     }
@@ -57,8 +55,8 @@ module _ (f : Figures) (prices was : List ℤ) where
       record {
         layers = λ j lo hi. by j lo hi (ltb t j) refl;
         beyond = λ j l.
-        let d : (t + 1) * width f ≤ (length prices + 1) * width f = mul-le-mul-right (width f) (omega arith) in
-        made .apart j (inr (omega arith)) ∙ old .beyond j l;
+            let d : (t + 1) * width f ≤ (length prices + 1) * width f = mul-le-mul-right (width f) (omega arith) in
+            made .apart j (inr (omega arith)) ∙ old .beyond j l;
         same = long ∙ old .same;
       }
     where
@@ -68,9 +66,9 @@ module _ (f : Figures) (prices was : List ℤ) where
           let d : (t + 1) * width f ≤ j * width f = mul-le-mul-right (width f) (omega arith) in
           record {
             holds = λ c h.
-            subst (λ (v : ℤ). Holds (length (drop j prices)) (valueAt f (drop j prices) c) v)
-            (sym (made .apart (j * width f + index f c) (inr (omega arith))))
-            (old .layers j lo hi .holds c h);
+                subst (λ (v : ℤ). Holds (length (drop j prices)) (valueAt f (drop j prices) c) v)
+                (sym (made .apart (j * width f + index f c) (inr (omega arith))))
+                (old .layers j lo hi .holds c h);
           }
 
       this : Layer f (drop t prices) (heldAt f cells (t * width f))
@@ -83,8 +81,8 @@ module _ (f : Figures) (prices was : List ℤ) where
           rw (drop-cons prices t (pos 0) inside)
           (record {
             holds = λ c h.
-            subst (λ (v : ℤ). Holds (suc (length rest)) (valueAt f (price ∷ rest) c) v) (sym (made .inside c h))
-            (cell-holds f ok price (priced t inside) rest few (heldAt f s (t * width f + width f)) next c h);
+                subst (λ (v : ℤ). Holds (suc (length rest)) (valueAt f (price ∷ rest) c) v) (sym (made .inside c h))
+                (cell-holds f ok price (priced t inside) rest few (heldAt f s (t * width f + width f)) next c h);
           })
 
       by : (j : ℕ) → t ≤ j → j ≤ length prices → (b : Bool) → ltb t j ≡ b → Layer f (drop j prices) (heldAt f cells (j * width f))

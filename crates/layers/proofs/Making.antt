@@ -1,20 +1,20 @@
 -- A layer by the one behind it: a state's cells with the interval off, then raised where the unit may run; state by state to the whole layer.
-use mathlib.Core.Path.{_≡_, refl, sym, ap, ap₂, _∙_}
-use mathlib.Core.Bool.{Bool, true, false, cond, _&&_}
+use mathlib.Core.Path.{_≡_, sym, ap, ap₂, _∙_}
+use mathlib.Core.Bool.{true, false, cond, _&&_}
 use mathlib.Core.List.{List}
-use mathlib.Core.Logic.{_⊎_, ⊎-elim, inl, inr}
+use mathlib.Core.Logic.{inr}
 use Prim.Native.Nat.{ℕ, _+_, _-_, _*_, _≤_, _<_}
 use native.Mathlib.Omega.{arith}
 use borrow.Author.Tests.{lt-ltb, le-ltb}
 use lib.Dec.{leb, ltb}
 use lib.IntN.{ℤ, pos, _+ℤ_}
-use lib.ListN.{length, getD, take, drop, replicate}
+use lib.ListN.{length, getD}
 use Rattle.optimality.specs.declared.Figures.{Figures}
 use Rattle.optimality.specs.declared.Cell.{Cell}
-use Rattle.optimality.specs.Cells.{InTable, cell, states, afterOff, afterOn, startTakes, startPays, mayRun, offCell, onCell, rungs}
+use Rattle.optimality.specs.Cells.{cell, states, afterOff, afterOn, startTakes, startPays, onCell, rungs}
 use Rattle.layers.specs.Layers.{row, span, part, width, index, infeasible, heldAt}
-use Rattle.layers.specs.Turns.{net, raised, offHeld, roomFor, onHeld, cellHeld}
-use Rattle.layers.specs.Stretches.{Apart, Copied, bestOver, PartRaised, OffMade, StateMade, LayerMade}
+use Rattle.layers.specs.Turns.{net, offHeld, roomFor, onHeld, cellHeld}
+use Rattle.layers.specs.Stretches.{Copied, bestOver, PartRaised, OffMade, StateMade, LayerMade}
 use Rattle.layers.proofs.Numbers.{in-part, parts-all, part-fits}
 use Rattle.layers.proofs.Raising.{raised-same}
 use Rattle.layers.proofs.Stretches.{putIn, put-inside, put-apart}
@@ -40,7 +40,7 @@ off-copied f s was cells at leads made =
     let t : ltb (afterOff f s) (states f) ≡ true = lt-ltb (afterOff f s) (states f) leads in
     record {
       inside = λ x y z i j k.
-      rw t (held-in f cells at s x y z ∙ made .inside (placeIn f x y z) (in-part f x y z i j k) ∙ sym (held-in f was (at + width f) (afterOff f s) x y z));
+          rw t (held-in f cells at s x y z ∙ made .inside (placeIn f x y z) (in-part f x y z i j k) ∙ sym (held-in f was (at + width f) (afterOff f s) x y z));
       apart = made .apart;
     }
 
@@ -51,9 +51,9 @@ off-barred f s was at barred fits =
     let t : ltb (afterOff f s) (states f) ≡ false = le-ltb (afterOff f s) (states f) barred in
     record {
       inside = λ x y z i j k.
-      rw t
-      (held-in f (putIn was (at + s * part f) (part f) infeasible) at s x y z
-      ∙ put-inside was (at + s * part f) (part f) infeasible fits (placeIn f x y z) (in-part f x y z i j k));
+          rw t
+          (held-in f (putIn was (at + s * part f) (part f) infeasible) at s x y z
+          ∙ put-inside was (at + s * part f) (part f) infeasible fits (placeIn f x y z) (in-part f x y z i j k));
       apart = put-apart was (at + s * part f) (part f) infeasible fits;
     }
 
@@ -89,20 +89,20 @@ module _ (f : Figures) (price : ℤ) (s : ℕ) (was mid : List ℤ) (at : ℕ) (
         let t : ltb (afterOn f s) (states f) ≡ true = lt-ltb (afterOn f s) (states f) leads in
         record {
           inside = λ x y z i j k.
-          let c = cell s x y z in
-          let held = heldAt f was (at + width f) in
-          let base : getD mid (at + s * part f + placeIn f x y z) (pos 0) ≡ offHeld f held c = sym (held-in f mid at s x y z) ∙ off .inside x y z i j k in
-          let over =
-          ap (bestOver f price (startPays f s) mid (source + (x - startTakes f s) * span f + (y - f .peron) * row f) z) base
-          ∙ raised-same (roomFor f held c)
-          (λ k. getD mid (source + (x - startTakes f s) * span f + (y - f .peron) * row f + (z - k * f .perblock)) (pos 0) +ℤ net f price (startPays f s) k)
-          (onHeld f held c price)
-          (offHeld f held c)
-          (f .pmin)
-          (rungs f)
-          (λ k lo hi room. ap (λ (v : ℤ). v +ℤ net f price (startPays f s) k) (reads x y z k)) in
-          rw t
-          (held-in f cells at s x y z ∙ made .inside x y z i j k ∙ ap₂ (cond (leb (startTakes f s) x && leb (f .peron) y)) over base);
+              let c = cell s x y z in
+              let held = heldAt f was (at + width f) in
+              let base : getD mid (at + s * part f + placeIn f x y z) (pos 0) ≡ offHeld f held c = sym (held-in f mid at s x y z) ∙ off .inside x y z i j k in
+              let over =
+              ap (bestOver f price (startPays f s) mid (source + (x - startTakes f s) * span f + (y - f .peron) * row f) z) base
+              ∙ raised-same (roomFor f held c)
+              (λ k. getD mid (source + (x - startTakes f s) * span f + (y - f .peron) * row f + (z - k * f .perblock)) (pos 0) +ℤ net f price (startPays f s) k)
+              (onHeld f held c price)
+              (offHeld f held c)
+              (f .pmin)
+              (rungs f)
+              (λ k lo hi room. ap (λ (v : ℤ). v +ℤ net f price (startPays f s) k) (reads x y z k)) in
+              rw t
+              (held-in f cells at s x y z ∙ made .inside x y z i j k ∙ ap₂ (cond (leb (startTakes f s) x && leb (f .peron) y)) over base);
           apart = λ j out. made .apart j out ∙ off .apart j out;
         }
 
@@ -144,12 +144,12 @@ module _ (f : Figures) (price : ℤ) (was : List ℤ) (at : ℕ) where
   states-done s old =
       record {
         inside = λ c h.
-        held-in f s at (c .state) (c .starts) (c .ons) (c .blocks) ∙ ap (λ (i : ℕ). getD s i (pos 0)) (grouped at (c .state * part f) (placeIn f (c .starts) (c .ons) (c .blocks)))
-        ∙ old .right (c .state) (h .state) (record { x = c .starts; y = c .ons; z = c .blocks; x≤ = h .starts; y≤ = h .ons; z≤ = h .blocks });
+            held-in f s at (c .state) (c .starts) (c .ons) (c .blocks) ∙ ap (λ (i : ℕ). getD s i (pos 0)) (grouped at (c .state * part f) (placeIn f (c .starts) (c .ons) (c .blocks)))
+            ∙ old .right (c .state) (h .state) (record { x = c .starts; y = c .ons; z = c .blocks; x≤ = h .starts; y≤ = h .ons; z≤ = h .blocks });
         apart =
-        done-apart (λ (p : PartPlace f). placeIn f (p .x) (p .y) (p .z)) (part f) (λ p. in-part f (p .x) (p .y) (p .z) (p .x≤) (p .y≤) (p .z≤)) was at partNow s (states f) (width f)
-        (rw (parts-all f) (omega arith))
-        old;
+            done-apart (λ (p : PartPlace f). placeIn f (p .x) (p .y) (p .z)) (part f) (λ p. in-part f (p .x) (p .y) (p .z) (p .x≤) (p .y≤) (p .z≤)) was at partNow s (states f) (width f)
+            (rw (parts-all f) (omega arith))
+            old;
       }
     where
       grouped : (a b c : ℕ) → a + b + c ≡ a + (b + c)

@@ -61,7 +61,7 @@ module _ (f : Figures) where
   unfolding part
   in-part x y z h k l = digit-lt (f .starts + 1) (span f) x (y * row f + z) (omega arith) (in-span y z k l)
 
-  pub in-layer : (s i : ℕ) → s < states f → i < part f → s * part f + i < width f
+  in-layer : (s i : ℕ) → s < states f → i < part f → s * part f + i < width f
   unfolding width
   in-layer s i h k = digit-lt (states f) (part f) s i h k
 

@@ -3,7 +3,7 @@
 use mathlib.Core.Path.{_≡_, refl, sym, ap, ap₂, _∙_}
 use mathlib.Core.Bool.{Bool, true, false, cond, _&&_}
 use mathlib.Core.List.{List}
-use mathlib.Core.Logic.{_⊎_, ⊎-elim, inl, inr}
+use mathlib.Core.Logic.{⊎-elim, inl, inr}
 use Prim.Native.Nat.{ℕ, suc, _+_, _-_, _*_, _≤_, _<_}
 use native.Mathlib.Nat.{mul-le-mul-right}
 use native.Mathlib.Numerals.{add-one}
@@ -17,7 +17,7 @@ use Rattle.optimality.specs.declared.Figures.{Figures}
 use Rattle.optimality.specs.Cells.{Sound, rungs}
 use Rattle.layers.specs.Layers.{row, span, part}
 use Rattle.layers.specs.Turns.{net, endNet, raised}
-use Rattle.layers.specs.Stretches.{Apart, Small, Raised, bestOver, RowRaised, SpanRaised, PartRaised}
+use Rattle.layers.specs.Stretches.{Apart, Raised, bestOver, RowRaised, SpanRaised, PartRaised}
 use Rattle.layers.proofs.Numbers.{row-is, in-row, in-span, rows-fit, row-fits, span-fits, rows-all, spans-all}
 use Rattle.layers.proofs.Raising.{step, raised-none, raised-next, raised-same}
 use Rattle.layers.proofs.Ends.{ends-over}
@@ -61,7 +61,7 @@ module _ (f : Figures) (price : ℤ) (pays : ℕ) (was : List ℤ) where
         record {
           left = λ z l. left-next s t k z h (once z l) (old .left z l);
           apart = λ j out.
-          new .apart j (⊎-elim (λ (o : j < to). inl (omega arith)) (λ (o : to + row f ≤ j). inr (omega arith)) out) ∙ old .apart j out;
+              new .apart j (⊎-elim (λ (o : j < to). inl (omega arith)) (λ (o : to + row f ≤ j). inr (omega arith)) out) ∙ old .apart j out;
           same = long ∙ old .same;
         }
       where
@@ -83,8 +83,8 @@ module _ (f : Figures) (price : ℤ) (pays : ℕ) (was : List ℤ) where
     row-skip s k h spent old =
         record {
           left = λ z l.
-          let e : leb (k * f .perblock) z ≡ false = lt-leb (k * f .perblock) z (omega (arith, in-row f z l)) in
-          left-next s s k z h (rw e) (old .left z l);
+              let e : leb (k * f .perblock) z ≡ false = lt-leb (k * f .perblock) z (omega (arith, in-row f z l)) in
+              left-next s s k z h (rw e) (old .left z l);
           apart = old .apart;
           same = old .same;
         }
@@ -111,7 +111,7 @@ pub record SpanPlace (f : Figures) : Type 0 where
 
 module _ (f : Figures) (price : ℤ) (pays : ℕ) where
   -- a row that is read is as it was
-  pub over-same : (was s : List ℤ) (from z : ℕ) (base : ℤ) → ((i : ℕ) → i ≤ z → getD s (from + i) (pos 0) ≡ getD was (from + i) (pos 0))
+  over-same : (was s : List ℤ) (from z : ℕ) (base : ℤ) → ((i : ℕ) → i ≤ z → getD s (from + i) (pos 0) ≡ getD was (from + i) (pos 0))
       → bestOver f price pays s from z base ≡ bestOver f price pays was from z base
   over-same was s from z base h =
       raised-same (λ k. leb (k * f .perblock) z) (λ k. getD s (from + (z - k * f .perblock)) (pos 0) +ℤ net f price pays k)
@@ -163,7 +163,7 @@ module _ (f : Figures) (price : ℤ) (pays : ℕ) where
         record {
           inside = λ y z i k. by y z i k (leb (f .peron) y) refl;
           apart = λ j out.
-          new .apart j (⊎-elim (λ (l : j < to). inl (omega arith)) (λ (l : to + span f ≤ j). inr (omega (arith, rows-fit′))) out);
+              new .apart j (⊎-elim (λ (l : j < to). inl (omega arith)) (λ (l : to + span f ≤ j). inr (omega (arith, rows-fit′))) out);
         }
       where
         rows-fit′ : f .peron * row f ≤ span f
@@ -235,5 +235,5 @@ module _ (f : Figures) (price : ℤ) (pays : ℕ) where
           record {
             inside = λ x y z i j k. old .right x (omega arith) (record { y = y; z = z; y≤ = j; z≤ = k });
             apart =
-            done-apart (λ (p : SpanPlace f). p .y * row f + p .z) (span f) (λ p. in-span f (p .y) (p .z) (p .y≤) (p .z≤)) was to spanNow s x (part f) (rw (h, spans-all f) (omega arith)) old;
+                done-apart (λ (p : SpanPlace f). p .y * row f + p .z) (span f) (λ p. in-span f (p .y) (p .z) (p .y≤) (p .z≤)) was to spanNow s x (part f) (rw (h, spans-all f) (omega arith)) old;
           }

@@ -35,12 +35,12 @@ module _ (was : List ℤ) (to : ℕ) (now : ℕ → ℤ) where
   made-next s i v fits made this =
       record {
         inside = λ j h.
-        ⊎-elim (λ (e : j ≡ i). rw e (getD-set-same s (to + i) v (pos 0) (omega (arith, made .same)) ∙ this))
-        (λ (l : j < i). getD-set-other s (to + i) (to + j) v (pos 0) (λ o. omega arith) ∙ made .inside j l)
-        (last-or-before j i h);
+            ⊎-elim (λ (e : j ≡ i). rw e (getD-set-same s (to + i) v (pos 0) (omega (arith, made .same)) ∙ this))
+            (λ (l : j < i). getD-set-other s (to + i) (to + j) v (pos 0) (λ o. omega arith) ∙ made .inside j l)
+            (last-or-before j i h);
         apart = λ j out.
-        getD-set-other s (to + i) j v (pos 0) (λ o. ⊎-elim (λ (l : j < to). omega arith) (λ (l : to + (i + 1) ≤ j). omega arith) out)
-        ∙ made .apart j (⊎-elim (λ (l : j < to). inl l) (λ (l : to + (i + 1) ≤ j). inr (omega arith)) out);
+            getD-set-other s (to + i) j v (pos 0) (λ o. ⊎-elim (λ (l : j < to). omega arith) (λ (l : to + (i + 1) ≤ j). omega arith) out)
+            ∙ made .apart j (⊎-elim (λ (l : j < to). inl l) (λ (l : to + (i + 1) ≤ j). inr (omega arith)) out);
         same = length-set s (to + i) v ∙ made .same;
       }
 

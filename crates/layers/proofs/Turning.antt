@@ -1,14 +1,14 @@
 -- A cell that is made from a layer that holds the values of its cells holds its own value, one interval earlier.
-use mathlib.Core.Path.{_≡_, refl, sym, ap, subst, _∙_}
+use mathlib.Core.Path.{_≡_, refl, subst}
 use mathlib.Core.Bool.{Bool, true, false, cond, _&&_}
 use mathlib.Core.List.{List, _∷_}
-use mathlib.Core.Logic.{_⊎_, ⊎-elim}
+use mathlib.Core.Logic.{⊎-elim}
 use Prim.Native.Nat.{ℕ, zero, suc, _+_, _*_, _≤_, _<_}
 use native.Mathlib.Nat.{mul-le-mul, mul-le-mul-left, mul-le-mul-right}
 use native.Mathlib.Omega.{arith}
 use borrow.Author.Tests.{leb-true, ltb-true}
 use lib.Dec.{leb, ltb}
-use lib.IntN.{ℤ, pos, natAbs, _+ℤ_, _-ℤ_}
+use lib.IntN.{ℤ, pos, natAbs}
 use lib.ListN.{length}
 use lib.Signed.{ltZ, _≤ℤ_, _<ℤ_}
 use Rattle.integers.specs.Maximum.{maxℤ}
@@ -19,7 +19,7 @@ use Rattle.commitment.proofs.Conjunctions.{both}
 use Rattle.commitment.proofs.Margins.{margin-within}
 use Rattle.optimality.specs.declared.Figures.{Figures}
 use Rattle.optimality.specs.declared.Cell.{Cell}
-use Rattle.optimality.specs.Machine.{go, allow, Value, noSchedule, earning, more, plus, valueAlong}
+use Rattle.optimality.specs.Machine.{go, allow, Value, noSchedule, earning, more, valueAlong}
 use Rattle.optimality.specs.Cells.{Sound, InTable, states, afterOff, afterOn, startTakes, startPays, mayRun, gain, offCell, onCell, rungs, valueAt, offValue, onValue, onBest}
 use Rattle.optimality.proofs.Turns.{value-turn, may-not-run, off-in-table, on-in-table}
 use Rattle.layers.specs.Layers.{infeasible, swing, Holds, Layer}
@@ -100,7 +100,7 @@ module _ (f : Figures) (ok : Sound f) (price : ℤ) (small : natAbs price ≤ 20
   pub output-most : (k : ℕ) → k ≤ f .pmax → k * f .block ≤ 500
   output-most k h = omega (arith, mul-le-mul-right (f .block) h, ok .top)
 
-  pub gain-within : (k : ℕ) → k ≤ f .pmax → Within 3100000000 (gain f price k)
+  gain-within : (k : ℕ) → k ≤ f .pmax → Within 3100000000 (gain f price k)
   gain-within k h =
       margin-within price (k * f .block) (f .vec) (f .pmin * f .block) (f .mlc) small (output-most k h) (ok .vec) (output-most (f .pmin) (ok .pmax)) (ok .mlc)
 

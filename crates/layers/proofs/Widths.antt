@@ -1,5 +1,5 @@
 -- A layer of the table has the cells that document 01 counts.
-use mathlib.Core.Path.{_≡_, sym, ap, _∙_}
+use mathlib.Core.Path.{_≡_, sym, _∙_}
 use Prim.Native.Nat.{ℕ, _+_, _*_}
 use native.Mathlib.Nat.{mul-assoc}
 use Rattle.commitment.specs.declared.UnitRecord.{UnitRecord}

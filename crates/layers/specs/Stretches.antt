@@ -11,7 +11,7 @@ use Rattle.integers.specs.Maximum.{maxℤ}
 use Rattle.optimality.specs.declared.Figures.{Figures}
 use Rattle.optimality.specs.declared.Cell.{Cell}
 use Rattle.optimality.specs.Cells.{InTable, cell, rungs}
-use Rattle.layers.specs.Layers.{row, span, part, width, index, heldAt}
+use Rattle.layers.specs.Layers.{row, span, part, width, heldAt}
 use Rattle.layers.specs.Turns.{net, raised, offHeld, cellHeld}
 
 -- but for the stretch, all is as it was

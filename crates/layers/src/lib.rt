@@ -4,9 +4,9 @@
 // test in the innermost loop: a cell without a schedule holds a number so low that no profit reaches it. Where MWh is not limited a cell
 // costs one sum and one maximum; where it is, one for each output.
 
-pub mod steps;
 mod rows;
 mod states;
+pub mod steps;
 
 use optimality::Figures;
 ghost use mathlib.Core.Path.{_≡_};

@@ -24,7 +24,15 @@ fn end_net(f: Figures, price: i64, pays: usize) -> i64
 }
 
 // Where MWh is not limited, all rows in one pass with the better end: what an output brings is linear in the blocks.
-fn raise_span(scratch: &mut [i64], to: usize, from: usize, f: Figures, price: i64, pays: usize, end: i64)
+fn raise_span(
+    scratch: &mut [i64],
+    to: usize,
+    from: usize,
+    f: Figures,
+    price: i64,
+    pays: usize,
+    end: i64,
+)
     requires { ⌜ (Sound f) × (natAbs price ≤ 200000) × (pays ≤ 16000000000) ⌝ }
     requires { ⌜ (to + span f ≤ from) × (from + span f ≤ length (now scratch)) × (Small (now scratch) from (span f)) ⌝ }
     requires { ⌜ end ≡ endNet f price pays ⌝ }
@@ -77,7 +85,15 @@ fn fill_off(scratch: &mut [i64], at: usize, w: usize, cells: usize, f: Figures, 
 }
 
 // The same with the better of off and on.
-fn fill_state(scratch: &mut [i64], at: usize, w: usize, cells: usize, f: Figures, price: i64, s: usize)
+fn fill_state(
+    scratch: &mut [i64],
+    at: usize,
+    w: usize,
+    cells: usize,
+    f: Figures,
+    price: i64,
+    s: usize,
+)
     requires { ⌜ (Sound f) × (s < states f) × (w ≡ width f) × (cells ≡ part f) ⌝ }
     requires { ⌜ (natAbs price ≤ 200000) × (at + w + w ≤ length (now scratch)) × (Small (now scratch) (at + w) w) ⌝ }
     ensures { λ _. ⌜ StateMade f price s (now (scratch .entry)) (now (scratch .exit)) at ⌝ }

@@ -102,10 +102,10 @@ written-next f prices from old now t c k inside room w choice =
       inside = choice .inside;
       some = rw (add-one t) (one .1);
       whole =
-      ap₂ (λ (xs : List ℕ) (j : ℕ). xs ++ scheduleOf (planAt f (drop j prices) (nextCell f c k))) (take-next now t (k * f .block) room) (add-one t)
-      ∙ append-assoc (take t now) ((k * f .block) ∷ []) (scheduleOf (planAt f rest (nextCell f c k)))
-      ∙ ap (λ (xs : List ℕ). take t now ++ xs) (sym (one .0) ∙ ap (λ (ps : List ℤ). scheduleOf (planAt f ps c)) (sym d))
-      ∙ w .whole;
+          ap₂ (λ (xs : List ℕ) (j : ℕ). xs ++ scheduleOf (planAt f (drop j prices) (nextCell f c k))) (take-next now t (k * f .block) room) (add-one t)
+          ∙ append-assoc (take t now) ((k * f .block) ∷ []) (scheduleOf (planAt f rest (nextCell f c k)))
+          ∙ ap (λ (xs : List ℕ). take t now ++ xs) (sym (one .0) ∙ ap (λ (ps : List ℤ). scheduleOf (planAt f ps c)) (sym d))
+          ∙ w .whole;
       kept = kept-next now old t (k * f .block) (w .kept);
       same = length-set now t (k * f .block) ∙ w .same;
     }

@@ -35,7 +35,14 @@ pub fn best_at(scratch: &[i64], f: Figures, prices: &[i64], at: Cell) -> Best
 }
 
 // The best plan from a cell of the first layer that has one, output by output.
-pub fn read_off(scratch: &[i64], w: usize, f: Figures, prices: &[i64], from: Cell, schedule: &mut [u64])
+pub fn read_off(
+    scratch: &[i64],
+    w: usize,
+    f: Figures,
+    prices: &[i64],
+    from: Cell,
+    schedule: &mut [u64],
+)
     requires { ⌜ (Room f (length (now prices)) (length (now scratch))) × (w ≡ width f) × (Priced (now prices)) ⌝ }
     requires { ⌜ Filled f (now prices) (now scratch) ⌝ }
     requires { ⌜ InTable f from ⌝ }

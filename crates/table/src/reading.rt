@@ -50,7 +50,16 @@ fn off_held(scratch: &[i64], at: usize, f: Figures, c: Cell) -> i64
     if f.mot + f.mdt <= s {
         return -4611686018427387904;
     }
-    let i = at + index(f, Cell { state: s, starts: c.starts, ons: c.ons, blocks: c.blocks });
+    let i = at
+        + index(
+            f,
+            Cell {
+                state: s,
+                starts: c.starts,
+                ons: c.ons,
+                blocks: c.blocks,
+            },
+        );
     scratch[i]
 }
 
@@ -81,11 +90,28 @@ fn on_row(f: Figures, c: Cell) -> usize
     let s = steps::after_on(f, c.state);
     let starts = c.starts - steps::start_takes(f, c.state);
     let ons = c.ons - f.peron;
-    index(f, Cell { state: s, starts: starts, ons: ons, blocks: 0 })
+    index(
+        f,
+        Cell {
+            state: s,
+            starts: starts,
+            ons: ons,
+            blocks: 0,
+        },
+    )
 }
 
 // Whether the blocks left allow k, and it reaches the best.
-fn reaches(scratch: &[i64], row: usize, z: usize, f: Figures, price: i64, pays: usize, k: usize, best: i64) -> bool
+fn reaches(
+    scratch: &[i64],
+    row: usize,
+    z: usize,
+    f: Figures,
+    price: i64,
+    pays: usize,
+    k: usize,
+    best: i64,
+) -> bool
     requires { ⌜ (Sound f) × (natAbs price ≤ 200000) × (pays ≤ 16000000000) × (k ≤ f .pmax) ⌝ }
     requires { ⌜ (row + z < length (now scratch)) × (Small (now scratch) row (z + 1)) ⌝ }
     ensures { λ r. ⌜ r ≡ (leb (k * f .perblock) z && not (ltZ (getD (now (scratch .entry)) (row + (z - k * f .perblock)) (pos 0) +ℤ turns.net f price pays k) best)) ⌝ }
@@ -110,7 +136,12 @@ pub fn moved(f: Figures, c: Cell, k: usize) -> Cell
 {
     if k == 0 {
         let s = steps::after_off(f, c.state);
-        return Cell { state: s, starts: c.starts, ons: c.ons, blocks: c.blocks };
+        return Cell {
+            state: s,
+            starts: c.starts,
+            ons: c.ons,
+            blocks: c.blocks,
+        };
     }
     let s = steps::after_on(f, c.state);
     let starts = c.starts - steps::start_takes(f, c.state);

@@ -1,5 +1,4 @@
 -- What `put` says, from the first cell on.
-use mathlib.Core.Path.{_≡_}
 use native.Mathlib.Nat.{zero-add}
 use borrow.Author.Needs.{needs}
 use Rattle.layers.proofs.clear.Statement.{statement}

@@ -1,12 +1,10 @@
 -- The invariant: the layers from t on are filled, and layer t stands at `at`. The layers left fall.
 use mathlib.Core.Path.{_≡_, sym, _∙_}
 use mathlib.Core.List.{List}
-use Prim.Native.Nat.{ℕ, suc, _+_, _-_, _*_, _≤_, _<_}
+use Prim.Native.Nat.{ℕ, suc, _+_, _-_, _*_, _≤_}
 use native.Mathlib.Omega.{arith}
 use lib.IntN.{ℤ, pos, natAbs}
 use lib.ListN.{length, getD, drop, length-drop}
-use mir.Syntax.{w64}
-use mir.Val.{toZ, ofZ}
 use Rattle.integers.proofs.Ranges.{plain-fits}
 use Rattle.optimality.specs.declared.Figures.{Figures}
 use Rattle.layers.specs.Layers.{width}
@@ -86,12 +84,15 @@ fill-layer-requires c κs =
     let o = c .before .before .before .before .before .before .before in
     let a = o .args in
     let l = c .before .before .before .loop in
-    let t = here (c .before .before) in
-    ((o .pre .0 .sound, rw (plain-fits (record { sfits = c .fill-layer-arg2 .given })) (t .price), o .pre .1 .0),
-    (omega (arith, t .low, t .fits),
-    rw (t .next, o .pre .1 .0)
-    (layer-small (a .f) (drop (l .t) (a .prices .now)) (l .scratch) (l .t * width (a .f)) (omega (arith, length-drop (l .t) (a .prices .now), o .pre .0 .short))
-    (l .inv .2 .layers (l .t) (omega arith) (l .inv .0)))))
+    let t = here (c .before .before) in (
+      (o .pre .0 .sound, rw (plain-fits (record { sfits = c .fill-layer-arg2 .given })) (t .price), o .pre .1 .0),
+      (
+        omega (arith, t .low, t .fits),
+        rw (t .next, o .pre .1 .0)
+            (layer-small (a .f) (drop (l .t) (a .prices .now)) (l .scratch) (l .t * width (a .f)) (omega (arith, length-drop (l .t) (a .prices .now), o .pre .0 .short))
+            (l .inv .2 .layers (l .t) (omega arith) (l .inv .0))),
+      ),
+    )
 
 loop-less : tie.Need-loop-less Inv-loop μ-loop
 loop-less c = omega (arith, c .before .before .before .before .loop-test .taken)
@@ -103,13 +104,15 @@ loop-again c =
     let l = c .before .before .before .before .before .loop in
     let t = here (c .before .before .before .before) in
     let made = rw (plain-fits (record { sfits = c .before .before .fill-layer-arg2 .given }), t .start) at (c .before .fill-layer .ensures) in
-    let old = rw (sym (t .one)) at (l .inv .2) in
-    (omega (arith, l .inv .0), t .start,
-    filled-next (a .f) (a .prices .now) (c .before .before .before .before .before .before .before .put .last .0) (o .pre .0 .sound) (o .pre .1 .1) (o .pre .0 .short) (l .scratch) (c .before .fill-layer .last .0) (l .t - 1)
-    (omega (arith, l .inv .0, c .before .before .before .before .loop-test .taken))
-    (c .before .fill-layer .kept .0)
-    old
-    made)
+    let old = rw (sym (t .one)) at (l .inv .2) in (
+      omega (arith, l .inv .0),
+      t .start,
+      filled-next (a .f) (a .prices .now) (c .before .before .before .before .before .before .before .put .last .0) (o .pre .0 .sound) (o .pre .1 .1) (o .pre .0 .short) (l .scratch) (c .before .fill-layer .last .0) (l .t - 1)
+          (omega (arith, l .inv .0, c .before .before .before .before .loop-test .taken))
+          (c .before .fill-layer .kept .0)
+          old
+          made,
+    )
 
 same-length : tie.Need-same-length Inv-loop μ-loop
 same-length c = c .before .loop .inv .2 .same ∙ c .before .before .before .put .kept .0
@@ -121,9 +124,10 @@ returns c =
     let l = c .before .loop in
     let put = c .before .before .before .put in
     let z : l .t ≡ 0 = omega (arith, c .loop-test .left) in
-    let all = rw z at (l .inv .2) in
-    (filled-done (a .f) (a .prices .now) (put .last .0) (l .scratch) all,
-    rw (o .pre .1 .0) (filled-beyond (a .f) (a .prices .now) (a .scratch .now) (put .last .0) (l .scratch) (o .pre .0 .fits) (put .kept .0) (put-is (c .before .before .before)) all))
+    let all = rw z at (l .inv .2) in (
+      filled-done (a .f) (a .prices .now) (put .last .0) (l .scratch) all,
+      rw (o .pre .1 .0) (filled-beyond (a .f) (a .prices .now) (a .scratch .now) (put .last .0) (l .scratch) (o .pre .0 .fits) (put .kept .0) (put-is (c .before .before .before)) all),
+    )
 
 pub fill-spec : {M : Type 1} → statement M
 fill-spec =

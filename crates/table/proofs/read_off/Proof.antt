@@ -1,5 +1,5 @@
 -- The invariant: t outputs are written, the rest of the plan is that of the cell reached, and layer t stands at `at`. The intervals left fall.
-use mathlib.Core.Path.{_≡_, sym, ap, subst, _∙_}
+use mathlib.Core.Path.{_≡_, ap, _∙_}
 use mathlib.Core.List.{List}
 use Prim.Native.Nat.{ℕ, suc, _+_, _-_, _*_, _≤_, _<_}
 use native.Mathlib.Nat.{mul-le-mul-right}
@@ -157,9 +157,11 @@ loop-again c =
     let lt = c .before .before .before .before .before .before .loop-test .taken in
     let t = here (c .before .before .before .before .before .before) in
     let k = c .before .before .choose .result in
-    rw (c .moved .ensures)
-    (omega (arith, lt), omega (arith, t .next),
-    written-next (a .f) (a .prices .now) (a .from) (a .schedule .now) (l .schedule) (l .t) (l .c) k lt (omega (arith, lt, l .inv .2 .same, o .pre .1 .1 .1 .0)) (l .inv .2) (plans (c .before .before)))
+    rw (c .moved .ensures) (
+      omega (arith, lt),
+      omega (arith, t .next),
+      written-next (a .f) (a .prices .now) (a .from) (a .schedule .now) (l .schedule) (l .t) (l .c) k lt (omega (arith, lt, l .inv .2 .same, o .pre .1 .1 .1 .0)) (l .inv .2) (plans (c .before .before)),
+    )
 
 same-length : tie.Need-same-length Inv-loop μ-loop
 same-length c = c .before .loop .inv .2 .same

@@ -4,7 +4,7 @@ use mathlib.Core.Logic.{inr}
 use Prim.Native.Nat.{_+_, _-_, _≤_}
 use native.Mathlib.Omega.{arith}
 use lib.IntN.{pos}
-use lib.ListN.{length, getD}
+use lib.ListN.{getD}
 use Rattle.integers.proofs.Ranges.{plain-fits}
 use Rattle.layers.proofs.Stretches.{Made, made-none, made-next}
 use Rattle.layers.proofs.rows.copy.Statement.{statement}

@@ -5,7 +5,7 @@ use Prim.Native.Nat.{_+_, _-_, _^_, _≤_}
 use native.Mathlib.Omega.{arith}
 use lib.Dec.{lit<}
 use lib.IntN.{ℤ, pos, _+ℤ_}
-use lib.ListN.{length, getD}
+use lib.ListN.{getD}
 use mir.Syntax.{w64}
 use mir.Val.{toZ, ofZ}
 use Rattle.integers.specs.Maximum.{maxℤ}
@@ -88,11 +88,12 @@ loop-again c =
     let a = o .args in
     let l = c .before .before .before .before .loop in
     let off = plain-fits (record { sfits = c .before .larger-arg .given }) ∙ l .inv .1 .apart (a .to + l .i) (inr (omega arith)) in
-    let read-on = rw (off, read (c .before .before), plain-fits (o .fits .gain), plain (gained (c .before .before)) (lit< tt)) at (c .larger .ensures) in
-    (omega arith,
-    made-next (a .scratch .now) (a .to) _ (l .scratch) (l .i) _ (omega arith) (l .inv .1)
-    (plain-fits (record { sfits = c .larger .ok }) ∙ read-on
-    ∙ ap (λ (g : ℤ). maxℤ (getD (a .scratch .now) (a .to + l .i) (pos 0)) (getD (a .scratch .now) (a .from + l .i) (pos 0) +ℤ g)) (sym (plain-fits (o .fits .gain)))))
+    let read-on = rw (off, read (c .before .before), plain-fits (o .fits .gain), plain (gained (c .before .before)) (lit< tt)) at (c .larger .ensures) in (
+      omega arith,
+      made-next (a .scratch .now) (a .to) _ (l .scratch) (l .i) _ (omega arith) (l .inv .1)
+          (plain-fits (record { sfits = c .larger .ok }) ∙ read-on
+          ∙ ap (λ (g : ℤ). maxℤ (getD (a .scratch .now) (a .to + l .i) (pos 0)) (getD (a .scratch .now) (a .from + l .i) (pos 0) +ℤ g)) (sym (plain-fits (o .fits .gain)))),
+    )
 
 same-length : tie.Need-same-length Inv-loop μ-loop
 same-length c = c .before .loop .inv .1 .same

@@ -64,10 +64,13 @@ raise-requires c κs =
     let o = c .before .before .before .before .before .before in
     let a = o .args in
     let l = c .before .before .before .before .loop in
-    let e = row-is (a .f) in
-    ((omega (arith, e, o .pre .1 .0, c .before .if1 .taken), omega (arith, e, o .pre .1 .1, l .inv .same)),
-    (λ i h. rw (l .inv .apart (a .from + i) (inr (omega (arith, o .pre .1 .0)))) (o .pre .1 .2 i (omega (arith, e))),
-    rw (brings (c .before .before)) (net-small (a .f) (o .pre .0 .0) (toZ w64 (ofZ w64 (a .price))) (price-small o) (a .pays) (l .k) (o .pre .0 .2) (c .before .before .before .loop-test .taken))))
+    let e = row-is (a .f) in (
+      (omega (arith, e, o .pre .1 .0, c .before .if1 .taken), omega (arith, e, o .pre .1 .1, l .inv .same)),
+      (
+        λ i h. rw (l .inv .apart (a .from + i) (inr (omega (arith, o .pre .1 .0)))) (o .pre .1 .2 i (omega (arith, e))),
+        rw (brings (c .before .before)) (net-small (a .f) (o .pre .0 .0) (toZ w64 (ofZ w64 (a .price))) (price-small o) (a .pays) (l .k) (o .pre .0 .2) (c .before .before .before .loop-test .taken)),
+      ),
+    )
 
 loop-less : tie.Need-loop-less Inv-loop μ-loop
 loop-less c = omega (arith, c .before .before .before .before .before .loop-test .taken)

@@ -60,11 +60,15 @@ raise-row-requires c κs =
     let o = c .before .before .before .before in
     let a = o .args in
     let l = c .before .before .loop in
-    let t = here (c .before) in
-    ((o .pre .0 .0, rw (plain-fits (o .fits .price)) (o .pre .0 .1), o .pre .0 .2),
-    (t .apart, omega (arith, t .fits, l .inv .4 .same),
-    small-within (a .scratch .now) (l .scratch) (a .from) (span (a .f)) (l .behind) (row (a .f)) (o .pre .1 .2) (t .source) (t .ends)
-    (λ j h. l .inv .4 .after j (omega (arith, t .later)))))
+    let t = here (c .before) in (
+      (o .pre .0 .0, rw (plain-fits (o .fits .price)) (o .pre .0 .1), o .pre .0 .2),
+      (
+        t .apart,
+        omega (arith, t .fits, l .inv .4 .same),
+        small-within (a .scratch .now) (l .scratch) (a .from) (span (a .f)) (l .behind) (row (a .f)) (o .pre .1 .2) (t .source) (t .ends)
+            (λ j h. l .inv .4 .after j (omega (arith, t .later))),
+      ),
+    )
 
 add-at-2 : tie.Need-add-at-2 Inv-loop μ-loop
 add-at-2 c = let t = here (c .before .before .before) in omega (arith, t .apart, t .fits, row-is (c .before .before .before .before .before .before .args .f))
@@ -85,14 +89,18 @@ loop-again c =
     let l = c .before .before .before .before .loop in
     let t = here (c .before .before .before) in
     let e = row-is (a .f) in
-    let new = rw (l .inv .2, l .inv .3) at (c .before .raise-row .ensures) in
-    (omega (arith, l .inv .0), omega (arith, c .before .before .before .loop-test .taken), omega (arith, t .at-next, e), omega (arith, t .behind-next, e),
-    rows-next (a .f) (toZ w64 (ofZ w64 (a .price))) (a .pays) (a .scratch .now) (a .to) (a .from) (l .scratch) (c .before .raise-row .last .0) (l .y) (l .inv .0)
-    (c .before .before .before .loop-test .taken)
-    (o .pre .1 .0)
-    (c .before .raise-row .kept .0)
-    (l .inv .4)
-    new)
+    let new = rw (l .inv .2, l .inv .3) at (c .before .raise-row .ensures) in (
+      omega (arith, l .inv .0),
+      omega (arith, c .before .before .before .loop-test .taken),
+      omega (arith, t .at-next, e),
+      omega (arith, t .behind-next, e),
+      rows-next (a .f) (toZ w64 (ofZ w64 (a .price))) (a .pays) (a .scratch .now) (a .to) (a .from) (l .scratch) (c .before .raise-row .last .0) (l .y) (l .inv .0)
+          (c .before .before .before .loop-test .taken)
+          (o .pre .1 .0)
+          (c .before .raise-row .kept .0)
+          (l .inv .4)
+          new,
+    )
 
 same-length : tie.Need-same-length Inv-loop μ-loop
 same-length c = c .before .loop .inv .4 .same

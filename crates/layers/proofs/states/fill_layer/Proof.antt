@@ -1,8 +1,7 @@
 -- The invariant: the states below s are done. The states left fall.
 use mathlib.Core.Path.{_≡_, sym}
-use Prim.Native.Nat.{ℕ, _+_, _-_, _*_, _≤_, _<_}
+use Prim.Native.Nat.{_+_, _-_, _*_, _≤_}
 use native.Mathlib.Omega.{arith}
-use lib.ListN.{length}
 use mir.Syntax.{w64}
 use mir.Val.{toZ, ofZ}
 use Rattle.integers.proofs.Ranges.{plain-fits}
@@ -56,11 +55,15 @@ fill-state-requires : tie.Need-fill-state-requires Inv-loop μ-loop
 fill-state-requires c κs =
     let o = c .before .before .before .before .before .before .before in
     let a = o .args in
-    let l = c .before .before .loop in
-    ((o .pre .0 .0, c .before .loop-test .taken, o .pre .0 .2, sym (part-is (a .f))),
-    (rw (plain-fits (o .fits .price)) (o .pre .0 .1), omega (arith, o .pre .1 .0, l .inv .1 .same),
-    small-within (a .scratch .now) (l .scratch) (a .at + a .w) (a .w) (a .at + a .w) (a .w) (o .pre .1 .1) (omega arith) (omega arith)
-    (λ j h. l .inv .1 .after j (omega (arith, part-fits (a .f) (l .s) (c .before .loop-test .taken), o .pre .0 .2)))))
+    let l = c .before .before .loop in (
+      (o .pre .0 .0, c .before .loop-test .taken, o .pre .0 .2, sym (part-is (a .f))),
+      (
+        rw (plain-fits (o .fits .price)) (o .pre .0 .1),
+        omega (arith, o .pre .1 .0, l .inv .1 .same),
+        small-within (a .scratch .now) (l .scratch) (a .at + a .w) (a .w) (a .at + a .w) (a .w) (o .pre .1 .1) (omega arith) (omega arith)
+            (λ j h. l .inv .1 .after j (omega (arith, part-fits (a .f) (l .s) (c .before .loop-test .taken), o .pre .0 .2))),
+      ),
+    )
 
 add-s : tie.Need-add-s Inv-loop μ-loop
 add-s c =
@@ -74,10 +77,11 @@ loop-again : tie.Need-loop-again Inv-loop μ-loop
 loop-again c =
     let a = c .before .before .before .before .before .before .before .before .before .args in
     let l = c .before .before .before .before .loop in
-    let inside = c .before .before .before .loop-test .taken in
-    (omega (arith, inside),
-    states-next (a .f) (toZ w64 (ofZ w64 (a .price))) (a .scratch .now) (a .at) (l .scratch) (c .before .fill-state .last .0) (l .s) inside (c .before .fill-state .kept .0) (l .inv .1)
-    (c .before .fill-state .ensures))
+    let inside = c .before .before .before .loop-test .taken in (
+      omega (arith, inside),
+      states-next (a .f) (toZ w64 (ofZ w64 (a .price))) (a .scratch .now) (a .at) (l .scratch) (c .before .fill-state .last .0) (l .s) inside (c .before .fill-state .kept .0) (l .inv .1)
+          (c .before .fill-state .ensures),
+    )
 
 same-length : tie.Need-same-length Inv-loop μ-loop
 same-length c = c .before .loop .inv .1 .same

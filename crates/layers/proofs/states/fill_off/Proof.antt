@@ -1,10 +1,7 @@
 -- The state's part is copied from the part of the state that off leads to; where there is none, it holds no schedule.
-use mathlib.Core.Path.{_≡_, sym, ap, _∙_}
-use Prim.Native.Nat.{ℕ, _+_, _*_, _≤_, _<_}
+use Prim.Native.Nat.{_+_, _*_, _≤_}
 use native.Mathlib.Omega.{arith}
 use borrow.Author.Needs.{needs}
-use lib.ListN.{length}
-use Rattle.optimality.specs.Cells.{states, afterOff}
 use Rattle.layers.proofs.Numbers.{state-fits}
 use Rattle.layers.proofs.Making.{off-copied, off-barred}
 use Rattle.layers.proofs.states.fill_off.Statement.{statement}

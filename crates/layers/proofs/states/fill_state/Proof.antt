@@ -1,13 +1,9 @@
 -- Off first, then the part raised from the part of the state that on leads to, which the pass for off left as it was.
-use mathlib.Core.Path.{_≡_, _∙_}
 use mathlib.Core.Logic.{inr}
-use Prim.Native.Nat.{ℕ, _+_, _*_, _≤_, _<_}
+use Prim.Native.Nat.{_+_, _*_, _≤_}
 use native.Mathlib.Omega.{arith}
 use borrow.Author.Needs.{needs}
-use lib.ListN.{length}
 use Rattle.integers.proofs.Ranges.{plain-fits}
-use Rattle.layers.specs.Layers.{part}
-use Rattle.layers.specs.Stretches.{Small}
 use Rattle.layers.proofs.Numbers.{state-fits}
 use Rattle.layers.proofs.Segments.{small-within}
 use Rattle.layers.proofs.Making.{state-off, state-raised}
@@ -56,11 +52,15 @@ raise-part-requires c κs =
     let made = c .before .before .before .before .before .fill-off in
     let on = c .before .before .before .after-on .result in
     let long = made .kept .0 in
-    rw (plain-fits (o .fits .price), ← o .pre .0 .3)
-    ((o .pre .0 .0, o .pre .1 .0),
-    (omega (arith, here o), omega (arith, there (c .before), o .pre .1 .1, long),
-    small-within (a .scratch .now) (made .last .0) (a .at + a .w) (a .w) (a .at + a .w + on * a .cells) (a .cells) (o .pre .1 .2) (omega arith) (omega (arith, there (c .before)))
-    (λ j h. made .ensures .apart j (inr (rw (← o .pre .0 .3) (omega (arith, here o)))))))
+    rw (plain-fits (o .fits .price), ← o .pre .0 .3) (
+      (o .pre .0 .0, o .pre .1 .0),
+      (
+        omega (arith, here o),
+        omega (arith, there (c .before), o .pre .1 .1, long),
+        small-within (a .scratch .now) (made .last .0) (a .at + a .w) (a .w) (a .at + a .w + on * a .cells) (a .cells) (o .pre .1 .2) (omega arith) (omega (arith, there (c .before)))
+            (λ j h. made .ensures .apart j (inr (rw (← o .pre .0 .3) (omega (arith, here o))))),
+      ),
+    )
 
 same-length : tie.Need-same-length
 same-length c = search needs

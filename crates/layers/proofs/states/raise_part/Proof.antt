@@ -1,8 +1,7 @@
 -- The invariant: the spans below x are done, and the next and its source stand where they are due. The spans left fall.
-use mathlib.Core.Path.{_≡_, sym, ap, _∙_}
+use mathlib.Core.Path.{_≡_, _∙_}
 use Prim.Native.Nat.{_+_, _-_, _*_, _≤_}
 use native.Mathlib.Omega.{arith}
-use lib.IntN.{ℤ}
 use lib.ListN.{length}
 use mir.Syntax.{w64}
 use mir.Val.{toZ, ofZ}
@@ -89,9 +88,13 @@ loop-holds c =
     let a = c .before .before .before .before .before .args in
     let e = c .start-takes .ensures in
     let n = skipped c .0 in
-    rw e
-    (omega arith, omega (arith, e, n), rw (span-is (a .f)), turn-first (a .from) (startTakes (a .f) (a .s)) (span (a .f)),
-    spans-first (a .f) (toZ w64 (ofZ w64 (a .price))) (startPays (a .f) (a .s)) (a .scratch .now) (a .to) (a .from) (startTakes (a .f) (a .s)))
+    rw e (
+      omega arith,
+      omega (arith, e, n),
+      rw (span-is (a .f)),
+      turn-first (a .from) (startTakes (a .f) (a .s)) (span (a .f)),
+      spans-first (a .f) (toZ w64 (ofZ w64 (a .price))) (startPays (a .f) (a .s)) (a .scratch .now) (a .to) (a .from) (startTakes (a .f) (a .s)),
+    )
 
 raise-span-requires : tie.Need-raise-span-requires Inv-loop μ-loop
 raise-span-requires c κs =
@@ -99,12 +102,22 @@ raise-span-requires c κs =
     let a = o .args in
     let l = c .before .before .loop in
     let t = here (c .before) in
-    let e = end-is (c .before .before .before .before .before .before) in
-    ((o .pre .0 .0, rw (plain-fits (o .fits .price)) (o .pre .0 .1),
-    rw (c .before .before .before .before .before .before .before .start-pays .ensures) (pays-most (a .f) (o .pre .0 .0) (a .s))),
-    ((t .apart, omega (arith, t .fits, l .inv .4 .same),
-    small-within (a .scratch .now) (l .scratch) (a .from) (part (a .f)) (l .behind) (span (a .f)) (o .pre .1 .2) (t .source) (t .ends)
-    (λ j h. l .inv .4 .after j (omega (arith, t .later)))), e))
+    let e = end-is (c .before .before .before .before .before .before) in (
+      (
+        o .pre .0 .0,
+        rw (plain-fits (o .fits .price)) (o .pre .0 .1),
+        rw (c .before .before .before .before .before .before .before .start-pays .ensures) (pays-most (a .f) (o .pre .0 .0) (a .s)),
+      ),
+      (
+        (
+          t .apart,
+          omega (arith, t .fits, l .inv .4 .same),
+          small-within (a .scratch .now) (l .scratch) (a .from) (part (a .f)) (l .behind) (span (a .f)) (o .pre .1 .2) (t .source) (t .ends)
+              (λ j h. l .inv .4 .after j (omega (arith, t .later))),
+        ),
+        e,
+      ),
+    )
 
 add-at-2 : tie.Need-add-at-2 Inv-loop μ-loop
 add-at-2 c =
@@ -129,14 +142,18 @@ loop-again c =
     let l = c .before .before .before .before .loop in
     let t = here (c .before .before .before) in
     let e = span-is (a .f) in
-    let new = rw (l .inv .2, l .inv .3, c .before .before .before .before .before .before .before .before .before .start-pays .ensures) at (c .before .raise-span .ensures) in
-    (omega (arith, l .inv .0), omega (arith, c .before .before .before .loop-test .taken), omega (arith, t .at-next, e), omega (arith, t .behind-next, e),
-    spans-next (a .f) (toZ w64 (ofZ w64 (a .price))) (startPays (a .f) (a .s)) (a .scratch .now) (a .to) (a .from) (startTakes (a .f) (a .s)) (l .scratch) (c .before .raise-span .last .0) (l .x) (l .inv .0)
-    (c .before .before .before .loop-test .taken)
-    (o .pre .1 .0)
-    (c .before .raise-span .kept .0)
-    (l .inv .4)
-    new)
+    let new = rw (l .inv .2, l .inv .3, c .before .before .before .before .before .before .before .before .before .start-pays .ensures) at (c .before .raise-span .ensures) in (
+      omega (arith, l .inv .0),
+      omega (arith, c .before .before .before .loop-test .taken),
+      omega (arith, t .at-next, e),
+      omega (arith, t .behind-next, e),
+      spans-next (a .f) (toZ w64 (ofZ w64 (a .price))) (startPays (a .f) (a .s)) (a .scratch .now) (a .to) (a .from) (startTakes (a .f) (a .s)) (l .scratch) (c .before .raise-span .last .0) (l .x) (l .inv .0)
+          (c .before .before .before .loop-test .taken)
+          (o .pre .1 .0)
+          (c .before .raise-span .kept .0)
+          (l .inv .4)
+          new,
+    )
 
 same-length : tie.Need-same-length Inv-loop μ-loop
 same-length c = c .before .loop .inv .4 .same

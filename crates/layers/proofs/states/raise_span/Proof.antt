@@ -1,10 +1,8 @@
 -- Where the blocks are not limited the one pass does all rows by the law of the ends; else the rows are raised one by one.
-use mathlib.Core.Path.{_≡_, sym, _∙_}
+use mathlib.Core.Path.{sym}
 use Prim.Native.Nat.{_+_, _*_, _≤_}
 use native.Mathlib.Omega.{arith}
 use borrow.Author.Needs.{needs}
-use mir.Syntax.{w64}
-use mir.Val.{toZ, ofZ}
 use Rattle.integers.proofs.Ranges.{plain-fits}
 use Rattle.layers.specs.Layers.{span}
 use Rattle.layers.proofs.Numbers.{row-is, span-is, rows-fit}
@@ -39,10 +37,13 @@ raise-requires c κs =
     let o = c .before .before .before .before .before .before in
     let a = o .args in
     let h = skipped o in
-    let e = span-is (a .f) in
-    ((omega (arith, h, e, o .pre .1 .0 .0), omega (arith, h, e, o .pre .1 .0 .1)),
-    (λ i l. o .pre .1 .0 .2 i (omega (arith, h, e)),
-    rw (plain-fits (o .fits .end), o .pre .1 .1) (end-small (a .f) (o .pre .0 .0) (a .price) (a .pays) (o .pre .0 .1) (o .pre .0 .2))))
+    let e = span-is (a .f) in (
+      (omega (arith, h, e, o .pre .1 .0 .0), omega (arith, h, e, o .pre .1 .0 .1)),
+      (
+        λ i l. o .pre .1 .0 .2 i (omega (arith, h, e)),
+        rw (plain-fits (o .fits .end), o .pre .1 .1) (end-small (a .f) (o .pre .0 .0) (a .price) (a .pays) (o .pre .0 .1) (o .pre .0 .2)),
+      ),
+    )
 
 raise-rows-requires : tie.Need-raise-rows-requires
 raise-rows-requires c κs = search needs

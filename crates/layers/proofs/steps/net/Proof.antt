@@ -1,16 +1,16 @@
 -- What `commitment::margin` says at so many blocks, less the cost; both stay far inside an i64.
-use mathlib.Core.Path.{_≡_, ap₂, _∙_}
+use mathlib.Core.Path.{_≡_, _∙_}
 use Prim.Native.Nat.{_*_, _≤_}
 use native.Mathlib.Omega.{arith}
 use borrow.Author.Needs.{needs}
 use lib.Dec.{lit<}
-use lib.IntN.{pos, _-ℤ_}
+use lib.IntN.{pos}
 use mir.Syntax.{w64}
 use mir.Val.{toZ, ofZ}
-use Rattle.integers.proofs.Ranges.{Within, within-at, within-weaken, within-fits, plain, plain-fits}
+use Rattle.integers.proofs.Ranges.{Within, within-fits, plain, plain-fits}
 use Rattle.optimality.specs.Cells.{gain}
 use Rattle.layers.specs.Turns.{net}
-use Rattle.layers.proofs.Turning.{output-most, gain-within, net-within}
+use Rattle.layers.proofs.Turning.{output-most, net-within}
 use Rattle.layers.proofs.steps.net.Statement.{statement}
 use Rattle.layers.proofs.steps.net.Tie as tie
 

@@ -1,5 +1,5 @@
 -- Each return is the clause of `chosen` that the test took.
-use mathlib.Core.Path.{_≡_, _∙_}
+use mathlib.Core.Path.{_≡_}
 use mathlib.Core.Bool.{Bool}
 use borrow.Author.Needs.{needs}
 use lib.Signed.{ltZ}

@@ -1,17 +1,17 @@
 -- The invariant: the outputs below k do not reach the best. The outputs left fall.
-use mathlib.Core.Path.{_≡_, sym, ap, ap₂, _∙_}
-use mathlib.Core.Bool.{Bool, true, false, not, _&&_}
-use mathlib.Core.Logic.{_⊎_, ⊎-elim}
-use Prim.Native.Nat.{ℕ, suc, _+_, _-_, _*_, _^_, _≤_, _<_}
+use mathlib.Core.Path.{_≡_, sym, _∙_}
+use mathlib.Core.Bool.{false, not, _&&_}
+use mathlib.Core.Logic.{⊎-elim}
+use Prim.Native.Nat.{ℕ, suc, _+_, _-_, _*_, _≤_, _<_}
 use native.Mathlib.Omega.{arith}
 use lib.Dec.{leb}
-use lib.IntN.{ℤ, pos, natAbs, _+ℤ_}
-use lib.ListN.{length, getD}
+use lib.IntN.{pos, _+ℤ_}
+use lib.ListN.{getD}
 use lib.Signed.{ltZ}
 use mir.Syntax.{w64}
 use mir.Val.{toZ, ofZ}
 use Rattle.integers.proofs.Ranges.{plain-fits}
-use Rattle.optimality.specs.Cells.{InTable, cell, afterOn, startTakes, startPays}
+use Rattle.optimality.specs.Cells.{InTable, cell, afterOn, startTakes}
 use Rattle.layers.specs.Layers.{width, index, heldAt}
 use Rattle.layers.specs.Turns.{net}
 use Rattle.layers.proofs.Numbers.{index-along, index-lt}
@@ -25,7 +25,7 @@ abbrev Inv-loop : tie.InvT-loop
 Inv-loop scratch at f price best pays row z last k₀ k =
     (f .pmin ≤ k) × (k ≤ suc (f .pmax))
     × ((j : ℕ) → f .pmin ≤ j → j < k
-        → (leb (j * f .perblock) z && not (ltZ (getD scratch (row + (z - j * f .perblock)) (pos 0) +ℤ net f (toZ w64 price) pays j) (toZ w64 best))) ≡ false)
+    → (leb (j * f .perblock) z && not (ltZ (getD scratch (row + (z - j * f .perblock)) (pos 0) +ℤ net f (toZ w64 price) pays j) (toZ w64 best))) ≡ false)
 
 abbrev μ-loop : tie.MeasureT-loop
 μ-loop scratch at f price best pays row z last k₀ k = suc (f .pmax) - k
@@ -67,12 +67,15 @@ reaches-requires : tie.Need-reaches-requires Inv-loop μ-loop
 reaches-requires c κs =
     let o = c .before .before .before .before in
     let a = o .args in
-    let e = c .before .before .on-row .ensures in
-    ((o .pre .0 .0, rw (plain-fits (o .fits .price)) (o .pre .0 .1), rw (c .before .before .before .start-pays .ensures) (pays-most (a .f) (o .pre .0 .0) (a .c .state)), c .loop-test .taken),
-    (omega (arith, e, stands o (a .c .blocks) (omega arith) .1, o .pre .1 .0),
-    λ i h.
-    let p : a .at + (number o 0 + i) ≡ a .at + c .before .before .on-row .result + i = omega (arith, e) in
-    rw p at (o .pre .1 .1 (number o 0 + i) (stands o i (omega arith) .1))))
+    let e = c .before .before .on-row .ensures in (
+      (o .pre .0 .0, rw (plain-fits (o .fits .price)) (o .pre .0 .1), rw (c .before .before .before .start-pays .ensures) (pays-most (a .f) (o .pre .0 .0) (a .c .state)), c .loop-test .taken),
+      (
+        omega (arith, e, stands o (a .c .blocks) (omega arith) .1, o .pre .1 .0),
+        λ i h.
+            let p : a .at + (number o 0 + i) ≡ a .at + c .before .before .on-row .result + i = omega (arith, e) in
+            rw p at (o .pre .1 .1 (number o 0 + i) (stands o i (omega arith) .1)),
+      ),
+    )
 
 -- the test of an output, as `firstOn` has it
 met-is : (c : tie.At-loop Inv-loop μ-loop) (j : ℕ) →
@@ -112,10 +115,12 @@ loop-less c = omega (arith, c .before .before .loop-test .taken)
 
 loop-again : tie.Need-loop-again Inv-loop μ-loop
 loop-again c =
-    let l = c .before .before .before .loop in
-    (omega (arith, l .inv .0), omega (arith, c .before .before .loop-test .taken),
-    λ j lo hi.
-    ⊎-elim (λ (e : j ≡ l .k). rw e (sym (c .before .reaches .ensures) ∙ c .if1 .left)) (λ (h : j < l .k). l .inv .2 j lo h) (last-or-before j (l .k) hi))
+    let l = c .before .before .before .loop in (
+      omega (arith, l .inv .0),
+      omega (arith, c .before .before .loop-test .taken),
+      λ j lo hi.
+          ⊎-elim (λ (e : j ≡ l .k). rw e (sym (c .before .reaches .ensures) ∙ c .if1 .left)) (λ (h : j < l .k). l .inv .2 j lo h) (last-or-before j (l .k) hi),
+    )
 
 returns-2 : tie.Need-returns-2 Inv-loop μ-loop
 returns-2 c =

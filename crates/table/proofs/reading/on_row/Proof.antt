@@ -1,5 +1,5 @@
 -- The number of the first cell of the row that an interval on leads to.
-use mathlib.Core.Path.{_≡_, ap₂, _∙_}
+use mathlib.Core.Path.{ap₂, _∙_}
 use Prim.Native.Nat.{ℕ, _-_}
 use native.Mathlib.Omega.{arith}
 use borrow.Author.Needs.{needs}
@@ -27,13 +27,15 @@ sub-ons c = omega (arith, may (c .before .before .before .before .before) .ons)
 index-requires : tie.Need-index-requires
 index-requires c κs =
     let o = c .before .before .before .before .before in
-    let h = o .pre .1 in
-    (record {
-      state = omega (arith, c .before .before .before .before .after-on .ensures, may o .leads);
-      starts = omega (arith, h .starts);
-      ons = omega (arith, h .ons);
-      blocks = omega arith;
-    }, o .pre .3)
+    let h = o .pre .1 in (
+      record {
+        state = omega (arith, c .before .before .before .before .after-on .ensures, may o .leads);
+        starts = omega (arith, h .starts);
+        ons = omega (arith, h .ons);
+        blocks = omega arith;
+      },
+      o .pre .3,
+    )
 
 returns : tie.Need-returns
 returns c =
