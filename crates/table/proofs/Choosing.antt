@@ -1,14 +1,11 @@
 -- The output that is read off a cell is the plan's: the first that reaches the cell's number is the first that reaches its value.
-use mathlib.Core.Path.{_≡_, refl, sym, ap, ap₂, subst, _∙_}
+use mathlib.Core.Path.{_≡_, refl, sym, ap, subst, _∙_}
 use mathlib.Core.Bool.{Bool, true, false, cond, not, _&&_, true≢false, false≢true}
 use mathlib.Core.List.{List, _∷_}
-use mathlib.Core.Logic.{_⊎_, ⊎-elim}
+use mathlib.Core.Logic.{⊎-elim}
 use Prim.Native.Nat.{ℕ, zero, suc, _+_, _-_, _*_, _≤_, _<_}
 use native.Mathlib.Nat.{zero-mul}
-use native.Mathlib.Numerals.{add-one}
 use native.Mathlib.Omega.{arith}
-use borrow.Author.Tests.{leb-true, ltb-true, ltb-false}
-use lib.Dec.{leb, ltb}
 use lib.IntN.{ℤ, pos, natAbs, _-ℤ_}
 use lib.ListN.{length}
 use lib.Signed.{ltZ, _≤ℤ_, ≤ℤ-refl}
@@ -16,16 +13,17 @@ use Rattle.integers.proofs.Order.{≤ℤ-antisym, ltZ-false, le-ltZ}
 use Rattle.commitment.proofs.Conjunctions.{both}
 use Rattle.optimality.specs.declared.Figures.{Figures}
 use Rattle.optimality.specs.declared.Cell.{Cell}
-use Rattle.optimality.specs.Machine.{after, noSchedule, earning}
+use Rattle.optimality.specs.Machine.{after, earning}
 use Rattle.optimality.specs.Cells.{Sound, InTable, startTakes, startPays, gain, mayRun, onCell, rungs, planAt, valueAt, offValue, onValue}
 use Rattle.optimality.proofs.Values.{no-earning}
-use Rattle.optimality.proofs.Turns.{OffTurn, OnTurn, off-turn, on-turn, some-turn, off-in-table, on-in-table}
-use Rattle.table.specs.Layers.{swing, Holds, Layer}
-use Rattle.table.specs.Turns.{raised, offHeld, roomFor, onHeld, cellHeld, firstOn, chosen, nextCell}
-use Rattle.table.proofs.Stretches.{last-or-before}
-use Rattle.table.proofs.Raising.{raised-above, raised-reach}
-use Rattle.table.proofs.Holding.{Offers, offered, offers-best, offers-earning}
-use Rattle.table.proofs.Turning.{off-holds, on-is, on-offers}
+use Rattle.optimality.proofs.Turns.{off-turn, on-turn, some-turn, off-in-table, on-in-table}
+use Rattle.layers.specs.Layers.{swing, Layer}
+use Rattle.layers.specs.Turns.{raised, offHeld, roomFor, onHeld, cellHeld}
+use Rattle.table.specs.Reading.{firstOn, chosen, nextCell}
+use Rattle.layers.proofs.Stretches.{last-or-before}
+use Rattle.layers.proofs.Raising.{raised-above, raised-reach}
+use Rattle.layers.proofs.Holding.{offered, offers-best, offers-earning}
+use Rattle.layers.proofs.Turning.{off-holds, on-is, on-offers}
 
 -- ---- the first that reaches
 

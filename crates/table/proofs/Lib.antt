@@ -1,13 +1,3 @@
-pub mod Stretches
-pub mod Segments
-pub mod Numbers
-pub mod Widths
-pub mod Raising
-pub mod Holding
-pub mod Turning
-pub mod Ends
-pub mod Passes
-pub mod Making
-pub mod Filling
+pub mod Telling
 pub mod Choosing
 pub mod Plans

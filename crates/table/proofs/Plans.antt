@@ -17,10 +17,11 @@ use Rattle.optimality.specs.Machine.{after, Value, noSchedule, earning, valueOf
 use Rattle.optimality.specs.Cells.{Sound, InTable, mayRun, planAt, valueAt}
 use Rattle.optimality.proofs.Values.{no-earning}
 use Rattle.optimality.proofs.Turns.{plan-value}
-use Rattle.table.specs.Layers.{width, swing, Holds, heldAt, Filled, Priced}
-use Rattle.table.specs.Turns.{offHeld, cellHeld, chosen, nextCell}
+use Rattle.layers.specs.Layers.{width, swing, Holds, heldAt, Filled, Priced}
+use Rattle.layers.specs.Turns.{offHeld, cellHeld}
+use Rattle.table.specs.Reading.{chosen, nextCell}
 use Rattle.table.specs.Answers.{scheduleOf}
-use Rattle.table.proofs.Turning.{cell-holds}
+use Rattle.layers.proofs.Turning.{cell-holds}
 use Rattle.table.proofs.Choosing.{Chosen, chosen-is, must-run}
 
 -- ---- one interval

@@ -1,7 +1,6 @@
 -- What is read off the table.
 use mathlib.Core.List.{List, []}
 use Prim.Native.Nat.{ℕ}
-use lib.IntN.{ℤ}
 use Rattle.commitment.specs.Best.{Plan, nothing, plan}
 use Rattle.optimality.specs.Machine.{Value, noSchedule, earning}
 use Rattle.table.specs.declared.Best.{Best}

@@ -1,5 +1,3 @@
--- The layers of cells, one topic a file.
-pub mod Layers
-pub mod Turns
-pub mod Stretches
+-- What is read off the layers, one topic a file.
+pub mod Reading
 pub mod Answers

@@ -1,6 +1,6 @@
 // Reading the table: where a cell stands in its layer, and the output that its number was made of.
 
-use crate::steps;
+use layers::steps;
 use optimality::Cell;
 use optimality::Figures;
 ghost use mathlib.Core.Path.{_≡_};
@@ -11,11 +11,12 @@ ghost use lib.IntN.{pos, natAbs, _+ℤ_};
 ghost use lib.ListN.{length, getD};
 ghost use lib.Signed.{ltZ};
 ghost use Rattle.optimality.specs.Cells.{Sound, InTable, cell, states, afterOn, startTakes, mayRun, rungs};
-ghost use Rattle.table.specs.Layers.{width, heldAt};
-ghost use Rattle.table.specs.Layers as cells;
-ghost use Rattle.table.specs.Turns.{offHeld, firstOn, chosen, nextCell};
-ghost use Rattle.table.specs.Turns as turns;
-ghost use Rattle.table.specs.Stretches.{Small};
+ghost use Rattle.layers.specs.Layers.{width, heldAt};
+ghost use Rattle.layers.specs.Layers as cells;
+ghost use Rattle.layers.specs.Turns.{offHeld};
+ghost use Rattle.table.specs.Reading.{firstOn, chosen, nextCell};
+ghost use Rattle.layers.specs.Turns as turns;
+ghost use Rattle.layers.specs.Stretches.{Small};
 
 pub fn index(f: Figures, c: Cell) -> usize
     requires { ⌜ (InTable f c) × (width f < 2 ^ 64) ⌝ }

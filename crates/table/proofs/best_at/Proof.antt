@@ -3,16 +3,15 @@ use mathlib.Core.Path.{_≡_}
 use Prim.Native.Nat.{_<_}
 use native.Mathlib.Nat.{zero-mul, zero-add}
 use native.Mathlib.Omega.{arith}
-use borrow.Author.Needs.{needs}
 use lib.IntN.{pos}
 use lib.ListN.{length, getD}
 use mir.Syntax.{w64}
 use mir.Val.{toZ, ofZ}
 use Rattle.integers.proofs.Ranges.{plain-fits}
 use Rattle.optimality.specs.Cells.{valueAt}
-use Rattle.table.specs.Layers.{width, index, Holds}
-use Rattle.table.proofs.Numbers.{index-lt}
-use Rattle.table.proofs.Holding.{told-nothing, told-profit}
+use Rattle.layers.specs.Layers.{width, index, Holds}
+use Rattle.layers.proofs.Numbers.{index-lt}
+use Rattle.table.proofs.Telling.{told-nothing, told-profit}
 use Rattle.table.proofs.best_at.Statement.{statement}
 use Rattle.table.proofs.best_at.Tie as tie
 

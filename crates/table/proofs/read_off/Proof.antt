@@ -1,5 +1,5 @@
 -- The invariant: t outputs are written, the rest of the plan is that of the cell reached, and layer t stands at `at`. The intervals left fall.
-use mathlib.Core.Path.{_≡_, sym, ap, subst, _∙_}
+use mathlib.Core.Path.{_≡_, ap, _∙_}
 use mathlib.Core.List.{List}
 use Prim.Native.Nat.{ℕ, suc, _+_, _-_, _*_, _≤_, _<_}
 use native.Mathlib.Nat.{mul-le-mul-right}
@@ -11,10 +11,10 @@ use mir.Val.{toZ, ofZ}
 use Rattle.integers.proofs.Ranges.{plain-fits}
 use Rattle.optimality.specs.declared.Figures.{Figures}
 use Rattle.optimality.specs.declared.Cell.{Cell}
-use Rattle.table.specs.Layers.{width, index, heldAt}
-use Rattle.table.specs.Stretches.{Small}
-use Rattle.table.proofs.Numbers.{index-lt}
-use Rattle.table.proofs.Filling.{layer-small}
+use Rattle.layers.specs.Layers.{width, index, heldAt}
+use Rattle.layers.specs.Stretches.{Small}
+use Rattle.layers.proofs.Numbers.{index-lt}
+use Rattle.layers.proofs.Filling.{layer-small}
 use Rattle.table.proofs.Choosing.{Chosen}
 use Rattle.table.proofs.Plans.{ReadTurn, read-turn, Written, written-none, written-next, written-all}
 use Rattle.table.proofs.read_off.Statement.{statement}

@@ -1,22 +1,22 @@
 -- The invariant: the outputs below k do not reach the best. The outputs left fall.
-use mathlib.Core.Path.{_≡_, sym, ap, ap₂, _∙_}
-use mathlib.Core.Bool.{Bool, true, false, not, _&&_}
-use mathlib.Core.Logic.{_⊎_, ⊎-elim}
-use Prim.Native.Nat.{ℕ, suc, _+_, _-_, _*_, _^_, _≤_, _<_}
+use mathlib.Core.Path.{_≡_, sym, _∙_}
+use mathlib.Core.Bool.{false, not, _&&_}
+use mathlib.Core.Logic.{⊎-elim}
+use Prim.Native.Nat.{ℕ, suc, _+_, _-_, _*_, _≤_, _<_}
 use native.Mathlib.Omega.{arith}
 use lib.Dec.{leb}
-use lib.IntN.{ℤ, pos, natAbs, _+ℤ_}
-use lib.ListN.{length, getD}
+use lib.IntN.{pos, _+ℤ_}
+use lib.ListN.{getD}
 use lib.Signed.{ltZ}
 use mir.Syntax.{w64}
 use mir.Val.{toZ, ofZ}
 use Rattle.integers.proofs.Ranges.{plain-fits}
-use Rattle.optimality.specs.Cells.{InTable, cell, afterOn, startTakes, startPays}
-use Rattle.table.specs.Layers.{width, index, heldAt}
-use Rattle.table.specs.Turns.{net}
-use Rattle.table.proofs.Numbers.{index-along, index-lt}
-use Rattle.table.proofs.Stretches.{last-or-before}
-use Rattle.table.proofs.Turning.{pays-most, pmax-most, runs}
+use Rattle.optimality.specs.Cells.{InTable, cell, afterOn, startTakes}
+use Rattle.layers.specs.Layers.{width, index, heldAt}
+use Rattle.layers.specs.Turns.{net}
+use Rattle.layers.proofs.Numbers.{index-along, index-lt}
+use Rattle.layers.proofs.Stretches.{last-or-before}
+use Rattle.layers.proofs.Turning.{pays-most, pmax-most, runs}
 use Rattle.table.proofs.Choosing.{meets, first-at, first-past}
 use Rattle.table.proofs.reading.first_on.Statement.{statement}
 use Rattle.table.proofs.reading.first_on.Tie as tie

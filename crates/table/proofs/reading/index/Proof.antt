@@ -2,7 +2,7 @@
 use mathlib.Core.Path.{sym}
 use Prim.Native.Nat.{_+_, _*_, _<_, _^_}
 use native.Mathlib.Omega.{arith}
-use Rattle.table.proofs.Numbers.{row-is, span-is, part-is, index-is, index-lt, ons-fit, starts-fit, row-fits, span-fits, part-fits}
+use Rattle.layers.proofs.Numbers.{row-is, span-is, part-is, index-is, index-lt, ons-fit, starts-fit, row-fits, span-fits, part-fits}
 use Rattle.table.proofs.reading.index.Statement.{statement}
 use Rattle.table.proofs.reading.index.Tie as tie
 

@@ -6,7 +6,7 @@ use borrow.Author.Needs.{needs}
 use Rattle.optimality.specs.declared.Figures.{Figures}
 use Rattle.optimality.specs.declared.Cell.{Cell}
 use Rattle.optimality.specs.Cells.{cell, offCell, onCell}
-use Rattle.table.specs.Turns.{nextCell}
+use Rattle.table.specs.Reading.{nextCell}
 use Rattle.table.proofs.reading.moved.Statement.{statement}
 use Rattle.table.proofs.reading.moved.Tie as tie
 

@@ -7,11 +7,11 @@ use borrow.Author.Tests.{lt-ltb, le-ltb}
 use lib.IntN.{pos}
 use lib.ListN.{length, getD}
 use Rattle.integers.proofs.Ranges.{plain-fits}
-use Rattle.optimality.specs.Cells.{InTable, cell, states, afterOff, offCell}
+use Rattle.optimality.specs.Cells.{cell, states, afterOff, offCell}
 use Rattle.optimality.proofs.Turns.{off-in-table}
-use Rattle.table.specs.Layers.{width, index}
-use Rattle.table.specs.Turns.{offHeld}
-use Rattle.table.proofs.Numbers.{index-lt}
+use Rattle.layers.specs.Layers.{index}
+use Rattle.layers.specs.Turns.{offHeld}
+use Rattle.layers.proofs.Numbers.{index-lt}
 use Rattle.table.proofs.reading.off_held.Statement.{statement}
 use Rattle.table.proofs.reading.off_held.Tie as tie
 

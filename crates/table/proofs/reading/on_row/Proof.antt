@@ -1,11 +1,11 @@
 -- The number of the first cell of the row that an interval on leads to.
-use mathlib.Core.Path.{_≡_, ap₂, _∙_}
+use mathlib.Core.Path.{ap₂, _∙_}
 use Prim.Native.Nat.{ℕ, _-_}
 use native.Mathlib.Omega.{arith}
 use borrow.Author.Needs.{needs}
 use Rattle.optimality.specs.Cells.{cell}
-use Rattle.table.specs.Layers.{index}
-use Rattle.table.proofs.Turning.{Runs, runs}
+use Rattle.layers.specs.Layers.{index}
+use Rattle.layers.proofs.Turning.{Runs, runs}
 use Rattle.table.proofs.reading.on_row.Statement.{statement}
 use Rattle.table.proofs.reading.on_row.Tie as tie
 

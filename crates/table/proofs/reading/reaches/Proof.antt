@@ -1,6 +1,5 @@
 -- Each return is the test that the branch took; the sum stays inside an i64.
 use mathlib.Core.Path.{_≡_, _∙_}
-use mathlib.Core.Bool.{true, false}
 use Prim.Native.Nat.{_+_, _-_, _*_, _^_}
 use native.Mathlib.Omega.{arith}
 use borrow.Author.Needs.{needs}
@@ -8,14 +7,13 @@ use borrow.Author.Tests.{le-leb, lt-leb}
 use lib.Dec.{lit<}
 use lib.IntN.{pos, _+ℤ_}
 use lib.ListN.{getD}
-use lib.Signed.{ltZ}
 use mir.Syntax.{w64}
 use mir.Val.{toZ, ofZ}
 use Rattle.integers.proofs.Ranges.{Within, within-fits, plain, plain-fits}
-use Rattle.table.specs.Layers.{swing}
-use Rattle.table.specs.Turns.{net}
-use Rattle.table.proofs.Holding.{gained-within}
-use Rattle.table.proofs.Turning.{blocks-most, net-small}
+use Rattle.layers.specs.Layers.{swing}
+use Rattle.layers.specs.Turns.{net}
+use Rattle.layers.proofs.Holding.{gained-within}
+use Rattle.layers.proofs.Turning.{blocks-most, net-small}
 use Rattle.table.proofs.reading.reaches.Statement.{statement}
 use Rattle.table.proofs.reading.reaches.Tie as tie
 

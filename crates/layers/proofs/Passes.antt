@@ -1,0 +1,239 @@
+-- The passes over the stretches of a state, from the inside out: output by output over a row, row by row over a span, span by span over
+-- a state. Each level's record says what is done, and that all else is as it was.
+use mathlib.Core.Path.{_≡_, refl, sym, ap, ap₂, _∙_}
+use mathlib.Core.Bool.{Bool, true, false, cond, _&&_}
+use mathlib.Core.List.{List}
+use mathlib.Core.Logic.{⊎-elim, inl, inr}
+use Prim.Native.Nat.{ℕ, suc, _+_, _-_, _*_, _≤_, _<_}
+use native.Mathlib.Nat.{mul-le-mul-right}
+use native.Mathlib.Numerals.{add-one}
+use native.Mathlib.Omega.{arith}
+use borrow.Author.Tests.{leb-true, leb-false, le-leb, lt-leb}
+use lib.Dec.{leb}
+use lib.IntN.{ℤ, pos, _+ℤ_}
+use lib.ListN.{length, getD}
+use Rattle.integers.specs.Maximum.{maxℤ}
+use Rattle.optimality.specs.declared.Figures.{Figures}
+use Rattle.optimality.specs.Cells.{Sound, rungs}
+use Rattle.layers.specs.Layers.{row, span, part}
+use Rattle.layers.specs.Turns.{net, endNet, raised}
+use Rattle.layers.specs.Stretches.{Apart, Raised, bestOver, RowRaised, SpanRaised, PartRaised}
+use Rattle.layers.proofs.Numbers.{row-is, in-row, in-span, rows-fit, row-fits, span-fits, rows-all, spans-all}
+use Rattle.layers.proofs.Raising.{step, raised-none, raised-next, raised-same}
+use Rattle.layers.proofs.Ends.{ends-over}
+use Rattle.layers.proofs.Segments.{Done, done-first, done-next, done-apart}
+
+module _ (f : Figures) (price : ℤ) (pays : ℕ) (was : List ℤ) where
+  -- ---- a row, output by output
+
+  module _ (to from : ℕ) where
+    -- whether z blocks left allow an output, and what it reaches
+    abbrev pub fits : ℕ → ℕ → Bool
+    fits z k = leb (k * f .perblock) z
+
+    abbrev pub reach : ℕ → ℕ → ℤ
+    reach z k = getD was (from + (z - k * f .perblock)) (pos 0) +ℤ net f price pays k
+
+    -- the outputs from k on are left
+    pub record RowFrom (s : List ℤ) (k : ℕ) : Type 0 where
+      pub left : (z : ℕ) → z ≤ f .blocks
+          → raised (fits z) (reach z) (getD s (to + z) (pos 0)) k (suc (f .pmax) - k) ≡ bestOver f price pays was from z (getD was (to + z) (pos 0))
+      pub apart : Apart was s to (row f)
+      pub same : length s ≡ length was
+
+    pub row-first : RowFrom was (f .pmin)
+    row-first = record { left = λ z h. refl; apart = λ j out. refl; same = refl }
+
+    -- one output done, whose cells stand so many blocks further down
+    left-next : (s t : List ℤ) (k z : ℕ) → k ≤ f .pmax → getD t (to + z) (pos 0) ≡ step (fits z) (reach z) (getD s (to + z) (pos 0)) k
+        → raised (fits z) (reach z) (getD s (to + z) (pos 0)) k (suc (f .pmax) - k) ≡ bestOver f price pays was from z (getD was (to + z) (pos 0))
+        → raised (fits z) (reach z) (getD t (to + z) (pos 0)) (k + 1) (suc (f .pmax) - (k + 1)) ≡ bestOver f price pays was from z (getD was (to + z) (pos 0))
+    left-next s t k z h e old =
+        let n : suc (f .pmax) - k ≡ suc (suc (f .pmax) - (k + 1)) = omega arith in
+        ap₂ (λ (x : ℤ) (j : ℕ). raised (fits z) (reach z) x j (suc (f .pmax) - (k + 1))) e (add-one k)
+        ∙ sym (raised-next (fits z) (reach z) (getD s (to + z) (pos 0)) k (suc (f .pmax) - (k + 1)))
+        ∙ ap (raised (fits z) (reach z) (getD s (to + z) (pos 0)) k) (sym n)
+        ∙ old
+
+    pub row-next : (s t : List ℤ) (k : ℕ) → k ≤ f .pmax → k * f .perblock < row f → to + row f ≤ from → length t ≡ length s → RowFrom s k
+        → Raised s t (to + k * f .perblock) from (row f - k * f .perblock) (net f price pays k) → RowFrom t (k + 1)
+    row-next s t k h spent behind long old new =
+        record {
+          left = λ z l. left-next s t k z h (once z l) (old .left z l);
+          apart = λ j out.
+              new .apart j (⊎-elim (λ (o : j < to). inl (omega arith)) (λ (o : to + row f ≤ j). inr (omega arith)) out) ∙ old .apart j out;
+          same = long ∙ old .same;
+        }
+      where
+        once : (z : ℕ) → z ≤ f .blocks → getD t (to + z) (pos 0) ≡ step (fits z) (reach z) (getD s (to + z) (pos 0)) k
+        once z l = by (fits z k) refl
+          where
+            by : (b : Bool) → fits z k ≡ b → getD t (to + z) (pos 0) ≡ cond b (maxℤ (getD s (to + z) (pos 0)) (reach z k)) (getD s (to + z) (pos 0))
+            by true e =
+                let r = leb-true (k * f .perblock) z e in
+                let i = z - k * f .perblock in
+                let p : to + k * f .perblock + i ≡ to + z = omega arith in
+                let q : i < row f - k * f .perblock = omega (arith, in-row f z l) in
+                let b = old .apart (from + i) (inr (omega arith)) in
+                rw (p, b) at (new .inside i q)
+            by false e = let r = leb-false (k * f .perblock) z e in new .apart (to + z) (inl (omega arith))
+
+    -- an output that no cell of the row allows
+    pub row-skip : (s : List ℤ) (k : ℕ) → k ≤ f .pmax → row f ≤ k * f .perblock → RowFrom s k → RowFrom s (k + 1)
+    row-skip s k h spent old =
+        record {
+          left = λ z l.
+              let e : leb (k * f .perblock) z ≡ false = lt-leb (k * f .perblock) z (omega (arith, in-row f z l)) in
+              left-next s s k z h (rw e) (old .left z l);
+          apart = old .apart;
+          same = old .same;
+        }
+
+    pub row-done : (s : List ℤ) (k : ℕ) → f .pmax < k → RowFrom s k → RowRaised f price pays was s to from
+    row-done s k h old =
+        let n : suc (f .pmax) - k ≡ 0 = omega arith in
+        record {
+          inside = λ z l. sym (raised-none (fits z) (reach z) (getD s (to + z) (pos 0)) k) ∙ ap (raised (fits z) (reach z) (getD s (to + z) (pos 0)) k) (sym n) ∙ old .left z l;
+          apart = old .apart;
+        }
+
+-- ---- a span, row by row
+
+pub record RowPlace (f : Figures) : Type 0 where
+  pub z : ℕ
+  pub z≤ : z ≤ f .blocks
+
+pub record SpanPlace (f : Figures) : Type 0 where
+  pub y : ℕ
+  pub z : ℕ
+  pub y≤ : y ≤ f .ons
+  pub z≤ : z ≤ f .blocks
+
+module _ (f : Figures) (price : ℤ) (pays : ℕ) where
+  -- a row that is read is as it was
+  over-same : (was s : List ℤ) (from z : ℕ) (base : ℤ) → ((i : ℕ) → i ≤ z → getD s (from + i) (pos 0) ≡ getD was (from + i) (pos 0))
+      → bestOver f price pays s from z base ≡ bestOver f price pays was from z base
+  over-same was s from z base h =
+      raised-same (λ k. leb (k * f .perblock) z) (λ k. getD s (from + (z - k * f .perblock)) (pos 0) +ℤ net f price pays k)
+      (λ k. getD was (from + (z - k * f .perblock)) (pos 0) +ℤ net f price pays k)
+      base
+      (f .pmin)
+      (rungs f)
+      (λ k lo hi fits. ap (λ (x : ℤ). x +ℤ net f price pays k) (h (z - k * f .perblock) (omega arith)))
+
+  module _ (was : List ℤ) (to from : ℕ) where
+    abbrev pub rowNow : ℕ → RowPlace f → ℤ
+    rowNow y p =
+        cond (leb (f .peron) y) (bestOver f price pays was (from + (y - f .peron) * row f) (p .z) (getD was (to + (y * row f + p .z)) (pos 0)))
+        (getD was (to + (y * row f + p .z)) (pos 0))
+
+    abbrev pub RowsDone : List ℤ → ℕ → Type 0
+    RowsDone = Done (λ (p : RowPlace f). p .z) (row f) (λ p. in-row f (p .z) (p .z≤)) was to rowNow
+
+    pub rows-first : RowsDone was (f .peron)
+    rows-first =
+        done-first (λ (p : RowPlace f). p .z) (row f) (λ p. in-row f (p .z) (p .z≤)) was to rowNow (f .peron)
+        (λ y h p. let e : leb (f .peron) y ≡ false = lt-leb (f .peron) y h in rw e)
+
+    pub rows-next : (s t : List ℤ) (y : ℕ) → f .peron ≤ y → y ≤ f .ons → to + span f ≤ from → length t ≡ length s → RowsDone s y
+        → RowRaised f price pays s t (to + y * row f) (from + (y - f .peron) * row f) → RowsDone t (y + 1)
+    rows-next s t y lo hi behind long old new =
+        done-next (λ (p : RowPlace f). p .z) (row f) (λ p. in-row f (p .z) (p .z≤)) was to rowNow s t y old long (new .apart)
+        (λ p.
+        let e : leb (f .peron) y ≡ true = le-leb (f .peron) y lo in
+        let near : to + y * row f + p .z ≡ to + (y * row f + p .z) = omega arith in
+        let base = old .after (to + y * row f + p .z) (omega arith) ∙ ap (λ (j : ℕ). getD was j (pos 0)) near in
+        let source = from + (y - f .peron) * row f in
+        rw e
+        (new .inside (p .z) (p .z≤)
+        ∙ over-same was s source (p .z) (getD s (to + y * row f + p .z) (pos 0)) (λ i l. old .after (source + i) (omega (arith, row-fits f y hi)))
+        ∙ ap (bestOver f price pays was source (p .z)) base))
+
+    pub rows-done : (s : List ℤ) (y : ℕ) → y ≡ f .ons + 1 → RowsDone s y → SpanRaised f price pays was s to from
+    rows-done s y h old =
+        record {
+          inside = λ y z i k. old .right y (omega arith) (record { z = z; z≤ = k });
+          apart = done-apart (λ (p : RowPlace f). p .z) (row f) (λ p. in-row f (p .z) (p .z≤)) was to rowNow s y (span f) (rw (h, rows-all f) (omega arith)) old;
+        }
+
+    -- all rows at once where the blocks are not limited
+    pub rows-by-ends : Sound f → f .perblock ≡ 0 → (s : List ℤ) → Raised was s (to + f .peron * row f) from (span f - f .peron * row f) (endNet f price pays)
+        → SpanRaised f price pays was s to from
+    rows-by-ends ok free s new =
+        record {
+          inside = λ y z i k. by y z i k (leb (f .peron) y) refl;
+          apart = λ j out.
+              new .apart j (⊎-elim (λ (l : j < to). inl (omega arith)) (λ (l : to + span f ≤ j). inr (omega (arith, rows-fit′))) out);
+        }
+      where
+        rows-fit′ : f .peron * row f ≤ span f
+        rows-fit′ = rw (row-is f) (rows-fit f (f .peron) (omega (arith, ok .peron)))
+
+        -- a row below another
+        joined : (p y size : ℕ) → p ≤ y → p * size + (y - p) * size ≡ y * size
+        joined p y size h = sym (spread p (y - p) size) ∙ ap (λ (n : ℕ). n * size) (whole p y h)
+          where
+            spread : (a b m : ℕ) → (a + b) * m ≡ a * m + b * m
+            spread a b m = omega arith
+
+            whole : (p y : ℕ) → p ≤ y → p + (y - p) ≡ y
+            whole p y h = omega arith
+
+        by : (y z : ℕ) → y ≤ f .ons → z ≤ f .blocks → (t : Bool) → leb (f .peron) y ≡ t
+            → getD s (to + (y * row f + z)) (pos 0)
+            ≡ cond t (bestOver f price pays was (from + (y - f .peron) * row f) z (getD was (to + (y * row f + z)) (pos 0))) (getD was (to + (y * row f + z)) (pos 0))
+        by y z i k true e =
+            let lo = leb-true (f .peron) y e in
+            let j = joined (f .peron) y (row f) lo in
+            let p : to + f .peron * row f + ((y - f .peron) * row f + z) ≡ to + (y * row f + z) = omega (arith, j) in
+            let q : from + ((y - f .peron) * row f + z) ≡ from + (y - f .peron) * row f + z = omega arith in
+            let r : (y - f .peron) * row f + z < span f - f .peron * row f = omega (arith, j, in-span f y z i k) in
+            (rw (p, q) at (new .inside ((y - f .peron) * row f + z) r))
+            ∙ sym (ends-over f ok price pays free was (from + (y - f .peron) * row f) z (getD was (to + (y * row f + z)) (pos 0)))
+        by y z i k false e =
+            let l = leb-false (f .peron) y e in
+            let d : (y + 1) * row f ≤ f .peron * row f = mul-le-mul-right (row f) (omega arith) in
+            let m : to + (y * row f + z) < to + f .peron * row f = omega (arith, in-row f z k) in
+            new .apart (to + (y * row f + z)) (inl m)
+
+    -- ---- a state, span by span
+
+    module _ (takes : ℕ) where
+      abbrev pub spanNow : ℕ → SpanPlace f → ℤ
+      spanNow x p =
+          cond (leb takes x && leb (f .peron) (p .y))
+          (bestOver f price pays was (from + (x - takes) * span f + (p .y - f .peron) * row f) (p .z) (getD was (to + (x * span f + (p .y * row f + p .z))) (pos 0)))
+          (getD was (to + (x * span f + (p .y * row f + p .z))) (pos 0))
+
+      abbrev pub SpansDone : List ℤ → ℕ → Type 0
+      SpansDone = Done (λ (p : SpanPlace f). p .y * row f + p .z) (span f) (λ p. in-span f (p .y) (p .z) (p .y≤) (p .z≤)) was to spanNow
+
+      pub spans-first : SpansDone was takes
+      spans-first =
+          done-first (λ (p : SpanPlace f). p .y * row f + p .z) (span f) (λ p. in-span f (p .y) (p .z) (p .y≤) (p .z≤)) was to spanNow takes
+          (λ x h p. let e : leb takes x ≡ false = lt-leb takes x h in rw e)
+
+      pub spans-next : (s t : List ℤ) (x : ℕ) → takes ≤ x → x ≤ f .starts → to + part f ≤ from → length t ≡ length s → SpansDone s x
+          → SpanRaised f price pays s t (to + x * span f) (from + (x - takes) * span f) → SpansDone t (x + 1)
+      spans-next s t x lo hi behind long old new =
+          done-next (λ (p : SpanPlace f). p .y * row f + p .z) (span f) (λ p. in-span f (p .y) (p .z) (p .y≤) (p .z≤)) was to spanNow s t x old long (new .apart)
+          (λ p.
+          let e : leb takes x ≡ true = le-leb takes x lo in
+          let at = p .y * row f + p .z in
+          let near : to + x * span f + at ≡ to + (x * span f + at) = omega arith in
+          let base = old .after (to + x * span f + at) (omega arith) ∙ ap (λ (j : ℕ). getD was j (pos 0)) near in
+          let source = from + (x - takes) * span f + (p .y - f .peron) * row f in
+          rw e
+          (new .inside (p .y) (p .z) (p .y≤) (p .z≤)
+          ∙ ap₂ (cond (leb (f .peron) (p .y)))
+          (over-same was s source (p .z) (getD s (to + x * span f + at) (pos 0)) (λ i l. old .after (source + i) (omega (arith, span-fits f x hi)))
+          ∙ ap (bestOver f price pays was source (p .z)) base)
+          base))
+
+      pub spans-done : (s : List ℤ) (x : ℕ) → x ≡ f .starts + 1 → SpansDone s x → PartRaised f price pays takes was s to from
+      spans-done s x h old =
+          record {
+            inside = λ x y z i j k. old .right x (omega arith) (record { y = y; z = z; y≤ = j; z≤ = k });
+            apart =
+                done-apart (λ (p : SpanPlace f). p .y * row f + p .z) (span f) (λ p. in-span f (p .y) (p .z) (p .y≤) (p .z≤)) was to spanNow s x (part f) (rw (h, spans-all f) (omega arith)) old;
+          }

@@ -1,0 +1,4 @@
+-- The layers of cells, one topic a file.
+pub mod Layers
+pub mod Turns
+pub mod Stretches

@@ -1,0 +1,44 @@
+// The table of document 01's cells in a scratch that is lent: layer t holds, for every cell, the best profit from interval t + 1 on. Cells go
+// by what is left of the limitations, so the first layer has the best profit of every smaller limitation too: one fill serves the plan and all
+// runs of valuing. Layers are filled from the last to the first, stretch by stretch over cells that stand side by side, with no division and no
+// test in the innermost loop: a cell without a schedule holds a number so low that no profit reaches it. Where MWh is not limited a cell
+// costs one sum and one maximum; where it is, one for each output.
+
+mod rows;
+mod states;
+pub mod steps;
+
+use optimality::Figures;
+ghost use mathlib.Core.Path.{_≡_};
+ghost use mathlib.Core.List.{_++_};
+ghost use Prim.Native.Nat.{_+_, _*_, _≤_};
+ghost use lib.IntN.{pos};
+ghost use lib.ListN.{length, drop, replicate};
+ghost use Rattle.layers.specs.Layers.{width, Filled, Priced, Room};
+
+// Every layer, from the last to the first. `w` is the cells of one.
+pub fn fill(scratch: &mut [i64], w: usize, f: Figures, prices: &[i64])
+    requires { ⌜ Room f (length (now prices)) (length (now scratch)) ⌝ }
+    requires { ⌜ w ≡ width f ⌝ }
+    requires { ⌜ Priced (now prices) ⌝ }
+    ensures { λ _. ⌜ Filled f (now (prices .entry)) (now (scratch .exit)) ⌝ }
+    ensures { λ _. ⌜ drop ((length (now (prices .entry)) + 1) * w) (now (scratch .exit)) ≡ drop ((length (now (prices .entry)) + 1) * w) (now (scratch .entry)) ⌝ }
+{
+    let n = prices.len();
+    let mut at = n * w;
+    rows::put(scratch, at, w, 0);
+    let mut t = n;
+    while 0 < t {
+        t -= 1;
+        at -= w;
+        states::fill_layer(scratch, at, w, f, prices[t]);
+    }
+}
+
+// The first n cells back to 0.
+pub fn clear(scratch: &mut [i64], n: usize)
+    requires { ⌜ n ≤ length (now scratch) ⌝ }
+    ensures { λ _. ⌜ now (scratch .exit) ≡ replicate n (pos 0) ++ drop n (now (scratch .entry)) ⌝ }
+{
+    rows::put(scratch, 0, n, 0);
+}

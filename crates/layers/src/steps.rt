@@ -1,0 +1,72 @@
+// One interval of the cells' machine: the states that it leads to, what a start takes and costs, what an output brings.
+
+use optimality::Figures;
+ghost use mathlib.Core.Path.{_≡_};
+ghost use Prim.Native.Nat.{_≤_, _<_};
+ghost use lib.IntN.{natAbs};
+ghost use Rattle.optimality.specs.Cells.{Sound, states, afterOff, afterOn, startTakes, startPays};
+ghost use Rattle.layers.specs.Turns as turns;
+
+// The state after an interval off; past the last where the run is too short to end.
+pub fn after_off(f: Figures, s: usize) -> usize
+    requires { ⌜ (Sound f) × (s < states f) ⌝ }
+    ensures { λ r. ⌜ r ≡ afterOff f s ⌝ }
+{
+    if s < f.mot {
+        if s + 1 == f.mot {
+            return f.mot;
+        }
+        return f.mot + f.mdt;
+    }
+    let last = f.mot + f.mdt - 1;
+    if s < last {
+        return s + 1;
+    }
+    last
+}
+
+// The state after an interval on; past the last where the spell is too short for a start.
+pub fn after_on(f: Figures, s: usize) -> usize
+    requires { ⌜ (Sound f) × (s < states f) ⌝ }
+    ensures { λ r. ⌜ r ≡ afterOn f s ⌝ }
+{
+    if s < f.mot {
+        let last = f.mot - 1;
+        if s < last {
+            return s + 1;
+        }
+        return last;
+    }
+    if s + 1 == f.mot + f.mdt {
+        return 0;
+    }
+    f.mot + f.mdt
+}
+
+pub fn start_takes(f: Figures, s: usize) -> usize
+    ensures { λ r. ⌜ r ≡ startTakes f s ⌝ }
+{
+    if s < f.mot { 0 } else { f.perstart }
+}
+
+pub fn start_pays(f: Figures, s: usize) -> usize
+    requires { ⌜ Sound f ⌝ }
+    ensures { λ r. ⌜ r ≡ startPays f s ⌝ }
+{
+    if s < f.mot { 0 } else { 4 * f.suc }
+}
+
+// What an interval on with k blocks brings, less what its start costs.
+pub fn net(f: Figures, price: i64, pays: usize, k: usize) -> i64
+    requires { ⌜ (Sound f) × (natAbs price ≤ 200000) × (pays ≤ 16000000000) × (k ≤ f .pmax) ⌝ }
+    ensures { λ r. ⌜ r ≡ turns.net f price pays k ⌝ }
+{
+    let brings = commitment::margin(
+        price,
+        (k * f.block) as u64,
+        f.vec as u64,
+        (f.pmin * f.block) as u64,
+        f.mlc as u64,
+    );
+    brings - integers::signed(pays as u64)
+}
