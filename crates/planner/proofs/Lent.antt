@@ -19,8 +19,8 @@ use Rattle.optimality.specs.declared.Figures.{Figures}
 use Rattle.optimality.specs.Cells.{Sound, states, figuresOf}
 use Rattle.optimality.proofs.Opening.{figures-sound}
 use Rattle.optimality.proofs.Ranges.{ranged}
-use Rattle.table.specs.Layers.{Room, Filled, width}
-use Rattle.table.proofs.Widths.{width-is}
+use Rattle.layers.specs.Layers.{Room, Filled, width}
+use Rattle.layers.proofs.Widths.{width-is}
 use Rattle.planner.specs.Tables.{Worked}
 use Rattle.planner.specs.Planning.{scratchChecked, lentChecked, planLent}
 use Rattle.planner.specs.Valuing.{valueLent}

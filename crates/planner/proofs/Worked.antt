@@ -24,8 +24,8 @@ use Rattle.optimality.proofs.Ranges.{Ranged, ranged}
 use Rattle.optimality.proofs.Turns.{plan-value}
 use Rattle.table.specs.declared.Best.the-variants.{Profit, Nothing}
 use Rattle.table.specs.Answers.{bestOf}
-use Rattle.table.specs.Layers.{Room, Holds}
-use Rattle.table.proofs.Widths.{width-is}
+use Rattle.layers.specs.Layers.{Room, Holds}
+use Rattle.layers.proofs.Widths.{width-is}
 use Rattle.planner.specs.declared.Reported.{Reported}
 use Rattle.planner.specs.declared.Reported.the-variants.{Report as Given}
 use Rattle.planner.specs.Tables.{Worked, profitIn, gapOf}

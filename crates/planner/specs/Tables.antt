@@ -11,7 +11,7 @@ use Rattle.commitment.specs.declared.UnitRecord.{UnitRecord}
 use Rattle.commitment.specs.Cells.{cellsNeeded}
 use Rattle.commitment.specs.Ranges.{rangesKept, shapeKept}
 use Rattle.optimality.specs.Cells.{figuresOf}
-use Rattle.table.specs.Layers.{Filled, Priced}
+use Rattle.layers.specs.Layers.{Filled, Priced}
 use Rattle.table.specs.declared.Best.{Best}
 use Rattle.table.specs.declared.Best.the-variants.{Profit, Nothing}
 

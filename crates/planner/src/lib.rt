@@ -23,7 +23,7 @@ ghost use Rattle.commitment.specs.Ranges.{rangesKept, shapeKept};
 ghost use Rattle.commitment.specs.Valuing.{outcomesOf};
 ghost use Rattle.optimality.specs.Cells.{figuresOf, opening, valueAt};
 ghost use Rattle.optimality.specs.Runs.{AtMost, outcomeAt};
-ghost use Rattle.table.specs.Layers.{width};
+ghost use Rattle.layers.specs.Layers.{width};
 ghost use Rattle.planner.specs.Planning.{scratchChecked, lentChecked, planLent, scheduleChecked, planChecked, planned, scheduleAfter, scratchAfter, plannedNumber, plannedProfit, plannedCount, plannedPart};
 ghost use Rattle.planner.specs.Reporting.{reportedBy, reported, planIn};
 ghost use Rattle.planner.specs.Tables.{Worked, profitIn, gapOf};
@@ -278,9 +278,9 @@ fn report_case(
     let n = prices.len();
     let f = budgets::figures_of(unit, n);
     let w = budgets::layer_cells(f);
-    table::fill(&mut *scratch, w, f, prices);
+    layers::fill(&mut *scratch, w, f, prices);
     let answer = read_report(unit, f, w, prices, &scratch[..], schedule);
-    table::clear(scratch, (n + 1) * w);
+    layers::clear(scratch, (n + 1) * w);
     answer
 }
 
@@ -292,9 +292,9 @@ fn value_case(unit: UnitRecord, prices: &[i64], scratch: &mut [i64]) -> Valued
     let n = prices.len();
     let f = budgets::figures_of(unit, n);
     let w = budgets::layer_cells(f);
-    table::fill(&mut *scratch, w, f, prices);
+    layers::fill(&mut *scratch, w, f, prices);
     let answer = read_outcomes(unit, f, prices, &scratch[..]);
-    table::clear(scratch, (n + 1) * w);
+    layers::clear(scratch, (n + 1) * w);
     answer
 }
 

@@ -1,26 +1,30 @@
+-- What was written fits the buffer.
+use mathlib.Core.Path.{ap, _∙_}
+use native.Mathlib.Omega.{arith}
+use lib.ListN.{length}
+use mir.Syntax.{w64}
+use mir.Val.{toZ, ofZ}
+use Rattle.listing.specs.Listing.{listing, bytesIn}
+use Rattle.listing.proofs.Fitting.{bytes-fit}
 use borrow.Author.Needs.{needs}
 use Rattle.plan.proofs.list.Statement.{statement}
 use Rattle.plan.proofs.list.Tie as tie
-use Rattle.plan.proofs.list.Reads as reads
-use Rattle.plan.proofs.list.Lts as lts
-use Rattle.listing.proofs.bytes_in.Reads as bytes-in-reads
-use Rattle.listing.proofs.write_listing.Reads as write-listing-reads
 
--- src/main.rt:54:23
 write-listing-requires : tie.Need-write-listing-requires
 write-listing-requires c κs = search needs
 
--- src/main.rt:54:5
 bytes-in-requires : tie.Need-bytes-in-requires
 bytes-in-requires c κs = search needs
 
--- src/main.rt:51:1
 same-length : tie.Need-same-length
 same-length c = search needs
 
--- src/main.rt:51:1
 returns : tie.Need-returns
-returns c = ?
+returns c = 
+    let s = c .before .before .before .before .before .before .before in
+    let call = c .before .before .before .write-listing in
+    omega
+    (arith, c .bytes-in .ensures ∙ ap bytesIn (call .ensures .0), bytes-fit (length (listing (s .args .schedule .now) (toZ w64 (ofZ w64 (s .args .profit))) (s .args .outcomes))) (length (s .args .out .now)), call .kept .1 .1 .1 .0)
 
 pub list-spec : {M : Type 1} → statement M
 list-spec = tie.close (tie.spec write-listing-requires bytes-in-requires same-length returns)

@@ -10,7 +10,7 @@ use Rattle.optimality.specs.Machine.{Value}
 use Rattle.optimality.specs.Cells.{InTable, valueAt}
 use Rattle.table.specs.declared.Best.{Best}
 use Rattle.table.specs.Answers.{bestOf}
-use Rattle.table.specs.Layers.{Room, Filled}
+use Rattle.layers.specs.Layers.{Room, Filled}
 use Rattle.planner.specs.Tables.{profitIn, gapOf}
 use Rattle.planner.specs.Valuing.{limitOf, runCell}
 use borrow.Author.Needs.{needs}
