@@ -18,7 +18,7 @@ same-length : tie.Need-same-length
 same-length c = search needs
 
 returns : tie.Need-returns
-returns c = 
+returns c =
     let s = c .before .before .before .before .before .before in
     let call = c .before .before .before .write-refusal in
     omega (arith, c .bytes-in .ensures ∙ ap bytesIn (call .ensures .0), bytes-fit (length (refusal (s .args .number))) (length (s .args .out .now)), call .kept .1 .0)
