@@ -1,0 +1,1 @@
+// What the contracts of the calls say together. The theorems stand in proofs/.
