@@ -9,3 +9,4 @@ pub mod Ends
 pub mod Passes
 pub mod Making
 pub mod Filling
+mod Lending

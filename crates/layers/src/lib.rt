@@ -12,8 +12,10 @@ use optimality::Figures;
 ghost use mathlib.Core.Path.{_≡_};
 ghost use mathlib.Core.List.{_++_};
 ghost use Prim.Native.Nat.{_+_, _*_, _≤_};
-ghost use lib.IntN.{pos};
+ghost use lib.IntN.{pos, natAbs};
 ghost use lib.ListN.{length, drop, replicate};
+ghost use Rattle.optimality.specs.Cells.{Sound};
+ghost use Rattle.layers.specs.Stretches.{Small, LayerMade};
 ghost use Rattle.layers.specs.Layers.{width, Filled, Priced, Room};
 
 // Every layer, from the last to the first. `w` is the cells of one.
@@ -31,8 +33,17 @@ pub fn fill(scratch: &mut [i64], w: usize, f: Figures, prices: &[i64])
     while 0 < t {
         t -= 1;
         at -= w;
-        states::fill_layer(scratch, at, w, f, prices[t]);
+        fill_layer(scratch, at, w, f, prices[t]);
     }
+}
+
+// A layer's cells are a part of the scratch of its own: the part from its start on is lent to be filled, by the layer that stands behind it.
+fn fill_layer(scratch: &mut [i64], at: usize, w: usize, f: Figures, price: i64)
+    requires { ⌜ (Sound f) × (natAbs price ≤ 200000) × (w ≡ width f) ⌝ }
+    requires { ⌜ (at + w + w ≤ length (now scratch)) × (Small (now scratch) (at + w) w) ⌝ }
+    ensures { λ _. ⌜ LayerMade f price (now (scratch .entry)) (now (scratch .exit)) at ⌝ }
+{
+    states::fill_layer(&mut scratch[at..], 0, w, f, price);
 }
 
 // The first n cells back to 0.
