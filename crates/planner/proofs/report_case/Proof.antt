@@ -1,38 +1,50 @@
--- The table is filled once, read, and cleared.
-use mathlib.Core.Path.{ap, _∙_}
-use mathlib.Core.List.{List, _++_}
-use Prim.Native.Nat.{ℕ, _+_, _*_}
+-- The table is filled once, read, and cleared: what fits is said once, where figures and layers are known.
+use Prim.Native.Nat.{_+_, _*_}
 use native.Mathlib.Nat.{lt-of-le-of-lt}
-use lib.IntN.{ℤ, pos}
-use lib.ListN.{length, drop, replicate}
 use borrow.Author.Needs.{needs}
-use Rattle.planner.proofs.Lent.{ValueLent, plan-lent, lent-sound, lent-room, layer-width, layers-are, worked}
+use mathlib.Core.Path.{_∙_}
+use lib.ListN.{length}
+use Rattle.planner.proofs.Lent.{ValueLent, plan-lent, Fitted, lent-sound, fitted, cleared}
 use Rattle.planner.proofs.report_case.Statement.{statement}
 use Rattle.planner.proofs.report_case.Tie as tie
 
 lent : (c : tie.Start) → ValueLent (c .args .unit) (c .args .prices .now) (length (c .args .scratch .now))
 lent c = plan-lent (c .args .unit) (c .args .prices .now) (length (c .args .scratch .now)) (length (c .args .schedule .now)) (c .pre) .value
 
+fit : (c : tie.After-layer-cells) →
+    let s = c .before .before .before in
+    Fitted (s .args .unit) (s .args .prices .now) (length (s .args .scratch .now)) (c .before .figures-of .result) (c .layer-cells .result)
+fit c =
+    let s = c .before .before .before in
+    fitted (s .args .unit) (s .args .prices .now) (length (s .args .scratch .now)) (lent s) (c .before .figures-of .result) (c .before .figures-of .ensures) (c .layer-cells .result) (c .layer-cells .ensures)
+
 figures-of-requires : tie.Need-figures-of-requires
 figures-of-requires c κs = let h = lent (c .before) .case in (h .ranges, h .shape, h .most-prices)
 
 layer-cells-requires : tie.Need-layer-cells-requires
-layer-cells-requires c κs = lent-sound (c .before .before .args .unit) (c .before .before .args .prices .now) (length (c .before .before .args .scratch .now)) (lent (c .before .before)) (c .figures-of .result) (c .figures-of .ensures)
+layer-cells-requires c κs =
+    let s = c .before .before in
+    lent-sound (s .args .unit) (s .args .prices .now) (length (s .args .scratch .now)) (lent s) (c .figures-of .result) (c .figures-of .ensures)
 
 fill-requires : tie.Need-fill-requires
-fill-requires c κs = (lent-room (c .before .before .before .before .args .unit) (c .before .before .before .before .args .prices .now) (length (c .before .before .before .before .args .scratch .now)) (lent (c .before .before .before .before)) (c .before .before .figures-of .result) (c .before .before .figures-of .ensures), (layer-width (c .before .before .before .before .args .unit) (c .before .before .before .before .args .prices .now) (length (c .before .before .before .before .args .scratch .now)) (lent (c .before .before .before .before)) (c .before .before .figures-of .result) (c .before .before .figures-of .ensures) (c .before .layer-cells .result) (c .before .layer-cells .ensures), lent (c .before .before .before .before) .case .price-at))
+fill-requires c κs = let t = fit (c .before) in (t .room, (t .wide, t .priced))
 
 read-report-requires : tie.Need-read-report-requires
-read-report-requires c κs = (worked (c .before .before .before .before .before .before .before .before .args .unit) (c .before .before .before .before .before .before .before .before .args .prices .now) (length (c .before .before .before .before .before .before .before .before .args .scratch .now)) (lent (c .before .before .before .before .before .before .before .before)) (c .before .before .before .before .before .before .figures-of .result) (c .before .before .before .before .before .before .figures-of .ensures) (c .before .before .before .fill .last .0) (c .before .before .before .fill .kept .0) (c .before .before .before .fill .ensures .0), (c .before .before .before .before .before .before .figures-of .ensures, layer-width (c .before .before .before .before .before .before .before .before .args .unit) (c .before .before .before .before .before .before .before .before .args .prices .now) (length (c .before .before .before .before .before .before .before .before .args .scratch .now)) (lent (c .before .before .before .before .before .before .before .before)) (c .before .before .before .before .before .before .figures-of .result) (c .before .before .before .before .before .before .figures-of .ensures) (c .before .before .before .before .before .layer-cells .result) (c .before .before .before .before .before .layer-cells .ensures), plan-lent (c .before .before .before .before .before .before .before .before .args .unit) (c .before .before .before .before .before .before .before .before .args .prices .now) (length (c .before .before .before .before .before .before .before .before .args .scratch .now)) (length (c .before .before .before .before .before .before .before .before .args .schedule .now)) (c .before .before .before .before .before .before .before .before .pre) .entries))
+read-report-requires c κs =
+    let s = c .before .before .before .before .before .before .before .before in
+    let t = fit (c .before .before .before .before .before) in
+    let fill = c .before .before .before .fill in
+    let lent = plan-lent (s .args .unit) (s .args .prices .now) (length (s .args .scratch .now)) (length (s .args .schedule .now)) (s .pre) in
+    (t .worked (fill .last .0) (fill .kept .0) (fill .ensures .0), (c .before .before .before .before .before .before .figures-of .ensures, t .wide, lent .entries))
 
 add-clear : tie.Need-add-clear
 add-clear c = search needs
 
 mul-clear : tie.Need-mul-clear
-mul-clear c = record { fits = lt-of-le-of-lt (rw (layers-are (c .before .before .before .before .before .before .before .before .before .before .before .before .args .unit) (c .before .before .before .before .before .before .before .before .before .before .before .before .args .prices .now) (length (c .before .before .before .before .before .before .before .before .before .before .before .before .args .scratch .now)) (lent (c .before .before .before .before .before .before .before .before .before .before .before .before)) (c .before .before .before .before .before .before .before .before .before .before .figures-of .result) (c .before .before .before .before .before .before .before .before .before .before .figures-of .ensures) (c .before .before .before .before .before .before .before .before .before .layer-cells .result) (c .before .before .before .before .before .before .before .before .before .layer-cells .ensures)) (lent (c .before .before .before .before .before .before .before .before .before .before .before .before) .cells)) (c .before .before .before .before .before .before .before .before .before .before .before .before .good .1 .1 .0 .0) }
+mul-clear c = record { fits = lt-of-le-of-lt (fit (c .before .before .before .before .before .before .before .before .before) .most) (c .before .before .before .before .before .before .before .before .before .before .before .before .good .1 .1 .0 .0) }
 
 clear-requires : tie.Need-clear-requires
-clear-requires c κs = rw (layers-are (c .before .before .before .before .before .before .before .before .before .before .before .before .args .unit) (c .before .before .before .before .before .before .before .before .before .before .before .before .args .prices .now) (length (c .before .before .before .before .before .before .before .before .before .before .before .before .args .scratch .now)) (lent (c .before .before .before .before .before .before .before .before .before .before .before .before)) (c .before .before .before .before .before .before .before .before .before .before .figures-of .result) (c .before .before .before .before .before .before .before .before .before .before .figures-of .ensures) (c .before .before .before .before .before .before .before .before .before .layer-cells .result) (c .before .before .before .before .before .before .before .before .before .layer-cells .ensures), c .before .before .before .before .before .before .before .fill .kept .0) (lent (c .before .before .before .before .before .before .before .before .before .before .before .before) .cells)
+clear-requires c κs = rw (c .before .before .before .before .before .before .before .fill .kept .0) (fit (c .before .before .before .before .before .before .before .before .before) .most)
 
 same-length : tie.Need-same-length
 same-length c = search needs
@@ -42,15 +54,12 @@ same-length-2 c = search needs
 
 returns : tie.Need-returns
 returns c =
-    let s = c .before .before .before .before .before .before .before .before .before .before .before .before .before .before in (
-      c .before .before .before .before .before .read-report .ensures .0,
-      (
-        c .before .before .before .before .before .read-report .ensures .1,
-        c .before .clear .ensures
-            ∙ ap (λ (rest : List ℤ). replicate ((length (s .args .prices .now) + 1) * c .before .before .before .before .before .before .before .before .before .before .before .layer-cells .result) (pos 0) ++ rest) (c .before .before .before .before .before .before .before .before .before .fill .ensures .1)
-            ∙ ap (λ (k : ℕ). replicate k (pos 0) ++ drop k (s .args .scratch .now)) (layers-are (c .before .before .before .before .before .before .before .before .before .before .before .before .before .before .args .unit) (c .before .before .before .before .before .before .before .before .before .before .before .before .before .before .args .prices .now) (length (c .before .before .before .before .before .before .before .before .before .before .before .before .before .before .args .scratch .now)) (lent (c .before .before .before .before .before .before .before .before .before .before .before .before .before .before)) (c .before .before .before .before .before .before .before .before .before .before .before .before .figures-of .result) (c .before .before .before .before .before .before .before .before .before .before .before .before .figures-of .ensures) (c .before .before .before .before .before .before .before .before .before .before .before .layer-cells .result) (c .before .before .before .before .before .before .before .before .before .before .before .layer-cells .ensures)),
-      ),
-    )
+    let s = c .before .before .before .before .before .before .before .before .before .before .before .before .before .before in
+    let fill = c .before .before .before .before .before .before .before .before .before .fill in
+    let t = fit (c .before .before .before .before .before .before .before .before .before .before .before) in
+    let answer = c .before .before .before .before .before .read-report .ensures in
+    let scratch = c .before .clear .ensures ∙ cleared (s .args .unit) (s .args .prices .now) ((length (s .args .prices .now) + 1) * c .before .before .before .before .before .before .before .before .before .before .before .layer-cells .result) (s .args .scratch .now) (fill .last .0) (t .all) (fill .ensures .1) in
+    (answer .0, (answer .1, scratch))
 
 pub report-case-spec : {M : Type 1} → statement M
 report-case-spec =
