@@ -66,7 +66,8 @@ pub struct Outcomes {
     pub mwh: Outcome,
 }
 
-// The inputs of the cost figures but for the segments, which are two lists.
+// The inputs of the cost figures but for the segments, which are two lists. Laid out as in C, so that a host hands it over as it is.
+#[repr(C)]
 pub struct CostInputs {
     pub block: u64,
     pub pmin: u64,

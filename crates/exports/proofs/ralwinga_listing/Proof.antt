@@ -1,0 +1,35 @@
+-- The answer of `write_listing` in numbers.
+use borrow.Author.Needs.{needs}
+use Rattle.exports.proofs.ralwinga_listing.Statement.{statement}
+use Rattle.exports.proofs.ralwinga_listing.Tie as tie
+use mathlib.Core.Path.{ap, _∙_}
+use Rattle.integers.proofs.Ranges.{plain-fits}
+use Rattle.exports.specs.Answers.{writtenNumbers}
+
+outcomes-from-requires : tie.Need-outcomes-from-requires
+outcomes-from-requires c κs = search needs
+
+write-listing-requires : tie.Need-write-listing-requires
+write-listing-requires c κs = search needs
+
+of-written-requires : tie.Need-of-written-requires
+of-written-requires c κs = search needs
+
+same-length : tie.Need-same-length
+same-length c = search needs
+
+returns : tie.Need-returns
+returns c =
+    let w = c .before .before .before in
+    let made = rw (w .before .before .outcomes-from .ensures, plain-fits (w .before .before .before .before .before .fits .profit)) at (w .write-listing .ensures) in
+    (c .of-written .ensures ∙ ap writtenNumbers (made .0), made .1)
+
+pub ralwinga-listing-spec : {M : Type 1} → statement M
+ralwinga-listing-spec =
+    tie.close
+    (tie.spec
+    outcomes-from-requires
+    write-listing-requires
+    of-written-requires
+    same-length
+    returns)

@@ -1,0 +1,81 @@
+-- The answers of the calls in numbers: that of the cause, or 0, and the values; on a refusal every other number is 0, and limitations and outcomes are none.
+use Prim.Native.Nat.{ℕ}
+use Rattle.assessment.specs.declared.Assessed.{Assessed}
+use Rattle.assessment.specs.Assessed.{assessedNumber, assessedProfit}
+use Rattle.casefile.specs.declared.CaseRead.{CaseRead}
+use Rattle.casefile.specs.Answers.{readNumber, readCount, readUnit}
+use Rattle.commitment.specs.declared.Cause.the-variants.{Range, Shape, Horizon}
+use Rattle.commitment.specs.declared.Checked.{Checked}
+use Rattle.commitment.specs.declared.Checked.the-variants.{Passed, Refused}
+use Rattle.commitment.specs.declared.UnitRecord.{UnitRecord}
+use Rattle.commitment.specs.Causes.{numberOf, unless}
+use Rattle.commitment.specs.Ranges.{rangesKept, shapeKept, horizonKept}
+use Rattle.commitment.specs.Valuing.{noOutcomes}
+use Rattle.costs.specs.declared.Costed.{Costed}
+use Rattle.costs.specs.Answers.{costedNumber, costedVec, costedSuc, costedMlc}
+use Rattle.listing.specs.declared.Written.{Written}
+use Rattle.listing.specs.declared.Written.the-variants as written
+use Rattle.listing.specs.Listing.{bytesIn}
+use Rattle.planner.specs.declared.Planned.{Planned}
+use Rattle.planner.specs.declared.Reported.{Reported}
+use Rattle.planner.specs.declared.Valued.{Valued}
+use Rattle.planner.specs.Planning.{plannedNumber, plannedCount, plannedProfit}
+use Rattle.planner.specs.Reporting.{reportedNumber, reportedCount, reportedProfit, reportedOutcomes}
+use Rattle.planner.specs.Valuing.{valuedNumber, valuedOutcomes}
+use Rattle.exports.specs.declared.numbers.AssessNumbers.{AssessNumbers}
+use Rattle.exports.specs.declared.numbers.CaseNumbers.{CaseNumbers}
+use Rattle.exports.specs.declared.numbers.CellsNumbers.{CellsNumbers}
+use Rattle.exports.specs.declared.numbers.FiguresNumbers.{FiguresNumbers}
+use Rattle.exports.specs.declared.numbers.OutcomesNumbers.{OutcomesNumbers}
+use Rattle.exports.specs.declared.numbers.PlanNumbers.{PlanNumbers}
+use Rattle.exports.specs.declared.numbers.ReportNumbers.{ReportNumbers}
+use Rattle.exports.specs.declared.numbers.ValueNumbers.{ValueNumbers}
+use Rattle.exports.specs.declared.numbers.WrittenNumbers.{WrittenNumbers}
+use Rattle.exports.specs.Records.{unitNumbers, outcomesNumbers}
+
+abbrev pub caseNumbers : CaseRead → CaseNumbers
+caseNumbers answer = record { number = readNumber answer; count = readCount answer; unit = unitNumbers (readUnit answer) }
+
+abbrev pub figuresNumbers : Costed → FiguresNumbers
+figuresNumbers answer =
+    record { number = costedNumber answer; vec = costedVec answer; suc = costedSuc answer; mlc = costedMlc answer }
+
+abbrev pub assessNumbers : Assessed → AssessNumbers
+assessNumbers answer = record { number = assessedNumber answer; profit = assessedProfit answer }
+
+abbrev pub planNumbers : Planned → PlanNumbers
+planNumbers answer =
+    record { number = plannedNumber answer; count = plannedCount answer; profit = plannedProfit answer }
+
+abbrev pub noneNumbers : OutcomesNumbers
+noneNumbers = outcomesNumbers noOutcomes
+
+abbrev pub valueNumbers : Valued → ValueNumbers
+valueNumbers answer = record { number = valuedNumber answer; outcomes = outcomesNumbers (valuedOutcomes answer) }
+
+abbrev pub reportNumbers : Reported → ReportNumbers
+reportNumbers answer =
+    record {
+      number = reportedNumber answer;
+      count = reportedCount answer;
+      profit = reportedProfit answer;
+      outcomes = outcomesNumbers (reportedOutcomes answer);
+    }
+
+-- ---- the cells that a case of so many intervals needs: the causes of its record and of their number, 3, 4 and 5
+
+abbrev pub cellsChecked : UnitRecord → ℕ → Checked
+cellsChecked u n = unless (rangesKept u) Range (unless (shapeKept u) Shape (unless (horizonKept n) Horizon Passed))
+
+abbrev pub cellsNumbers : Checked → ℕ → CellsNumbers
+cellsNumbers Passed needed = record { number = 0; cells = needed }
+cellsNumbers (Refused cause) needed = record { number = numberOf cause; cells = 0 }
+
+-- ---- a text written into a buffer
+
+abbrev pub writtenNumber : Written → ℕ
+writtenNumber (written.Bytes bytes) = 0
+writtenNumber (written.Refused cause) = numberOf cause
+
+abbrev pub writtenNumbers : Written → WrittenNumbers
+writtenNumbers answer = record { number = writtenNumber answer; bytes = bytesIn answer }

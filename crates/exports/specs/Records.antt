@@ -1,0 +1,89 @@
+-- The unit record and the outcomes in numbers.
+use mathlib.Core.Bool.{cond}
+use Prim.Native.Nat.{ℕ}
+use lib.Dec.{eqb}
+use lib.IntN.{ℤ, pos}
+use Rattle.commitment.specs.declared.Limit.{Limit}
+use Rattle.commitment.specs.declared.Limit.the-variants as limit
+use Rattle.commitment.specs.declared.Outcome.{Outcome}
+use Rattle.commitment.specs.declared.Outcome.the-variants as outcome
+use Rattle.commitment.specs.declared.Outcomes.{Outcomes}
+use Rattle.commitment.specs.declared.UnitRecord.{UnitRecord}
+use Rattle.exports.specs.declared.numbers.UnitNumbers.{UnitNumbers}
+use Rattle.exports.specs.declared.numbers.OutcomeNumbers.{OutcomeNumbers}
+use Rattle.exports.specs.declared.numbers.OutcomesNumbers.{OutcomesNumbers}
+
+-- ---- limitations: `none` is the largest number of 64 bits
+
+abbrev pub none : ℕ
+none = 18446744073709551615
+
+abbrev pub limitFrom : ℕ → Limit
+limitFrom number = cond (eqb number none) limit.None (limit.At number)
+
+abbrev pub limitNumber : Limit → ℕ
+limitNumber limit.None = none
+limitNumber (limit.At number) = number
+
+-- ---- the record
+
+abbrev pub recordOf : UnitNumbers → UnitRecord
+recordOf u =
+    record {
+      block = u .block;
+      pmin = u .pmin;
+      pmax = u .pmax;
+      mot = u .mot;
+      mdt = u .mdt;
+      was = u .was;
+      held = u .held;
+      vec = u .vec;
+      mlc = u .mlc;
+      suc = u .suc;
+      starts = limitFrom (u .starts);
+      hours = limitFrom (u .hours);
+      mwh = limitFrom (u .mwh);
+    }
+
+abbrev pub unitNumbers : UnitRecord → UnitNumbers
+unitNumbers u =
+    record {
+      block = u .block;
+      pmin = u .pmin;
+      pmax = u .pmax;
+      mot = u .mot;
+      mdt = u .mdt;
+      was = u .was;
+      held = u .held;
+      vec = u .vec;
+      mlc = u .mlc;
+      suc = u .suc;
+      starts = limitNumber (u .starts);
+      hours = limitNumber (u .hours);
+      mwh = limitNumber (u .mwh);
+    }
+
+-- ---- outcomes: 0 none, 1 empty, 2 never, 3 a gap
+
+abbrev pub outcomeNumbers : Outcome → OutcomeNumbers
+outcomeNumbers outcome.None = record { kind = 0; gap = pos 0 }
+outcomeNumbers outcome.Empty = record { kind = 1; gap = pos 0 }
+outcomeNumbers outcome.Never = record { kind = 2; gap = pos 0 }
+outcomeNumbers (outcome.Gap gap) = record { kind = 3; gap = gap }
+
+-- any other kind is none
+abbrev pub outcomeFrom : ℕ → ℤ → Outcome
+outcomeFrom kind gap =
+    cond (eqb kind 1) outcome.Empty (cond (eqb kind 2) outcome.Never (cond (eqb kind 3) (outcome.Gap gap) outcome.None))
+
+abbrev pub outcomesNumbers : Outcomes → OutcomesNumbers
+outcomesNumbers o =
+    record { starts = outcomeNumbers (o .starts); hours = outcomeNumbers (o .hours); mwh = outcomeNumbers (o .mwh) }
+
+abbrev pub outcomesFrom : OutcomesNumbers → Outcomes
+outcomesFrom o =
+    record {
+      starts = outcomeFrom (o .starts .kind) (o .starts .gap);
+      hours = outcomeFrom (o .hours .kind) (o .hours .gap);
+      mwh = outcomeFrom (o .mwh .kind) (o .mwh .gap);
+    }

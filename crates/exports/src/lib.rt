@@ -1,0 +1,165 @@
+// The C interface for hosts: numbers, slices and structs of numbers. A slice is a pointer and a length, in this order. Each call is the
+// Rattle call of the same name with its record and its answer in numbers; none has a `requires`.
+
+mod numbers;
+
+use commitment::Cause;
+use commitment::Checked;
+use commitment::CostInputs;
+use commitment::UnitRecord;
+use numbers::AssessNumbers;
+use numbers::CaseNumbers;
+use numbers::CellsNumbers;
+use numbers::FiguresNumbers;
+use numbers::OutcomesNumbers;
+use numbers::PlanNumbers;
+use numbers::ReportNumbers;
+use numbers::UnitNumbers;
+use numbers::ValueNumbers;
+use numbers::WrittenNumbers;
+ghost use mathlib.Core.Path.{_≡_};
+ghost use lib.ListN.{length};
+ghost use Rattle.commitment.specs.Best.{best};
+ghost use Rattle.commitment.specs.Cells.{cellsNeeded};
+ghost use Rattle.assessment.specs.Assessed.{assessed};
+ghost use Rattle.casefile.specs.Answers.{readCase, readPrices};
+ghost use Rattle.costs.specs.Answers.{costed};
+ghost use Rattle.listing.specs.Listing.{listing, refusal, fitted, answered, bufferAfter};
+ghost use Rattle.planner.specs.Planning.{planLent, planChecked, planned, scheduleAfter, scratchAfter};
+ghost use Rattle.planner.specs.Reporting.{reported};
+ghost use Rattle.planner.specs.Valuing.{valueLent, valued};
+ghost use Rattle.exports.specs.Records.{recordOf, outcomesFrom};
+ghost use Rattle.exports.specs.Answers.{assessNumbers, caseNumbers, cellsChecked, cellsNumbers, figuresNumbers, planNumbers, reportNumbers, valueNumbers, writtenNumbers};
+
+// The text of a case into its record, its prices into the front of the slice.
+#[no_mangle]
+pub extern "C" fn ralwinga_read(text: &[u8], prices: &mut [i64]) -> CaseNumbers
+    ensures { λ r. ⌜ r ≡ caseNumbers (readCase (now (text .entry)) (length (now (prices .entry)))) ⌝ }
+    ensures { λ _. ⌜ now (prices .exit) ≡ readPrices (now (text .entry)) (now (prices .entry)) ⌝ }
+{
+    numbers::of_case(casefile::read_into(text, prices))
+}
+
+// vec, suc and mlc.
+#[no_mangle]
+pub extern "C" fn ralwinga_figures(inputs: CostInputs, mws: &[u64], heats: &[u64]) -> FiguresNumbers
+    ensures { λ r. ⌜ r ≡ figuresNumbers (costed inputs (now (mws .entry)) (now (heats .entry))) ⌝ }
+{
+    numbers::of_figures(costs::figures(inputs, mws, heats))
+}
+
+// The profit of a schedule handed in.
+#[no_mangle]
+pub extern "C" fn ralwinga_assess(
+    unit: UnitNumbers,
+    prices: &[i64],
+    schedule: &[u64],
+) -> AssessNumbers
+    ensures { λ r. ⌜ r ≡ assessNumbers (assessed (recordOf unit) (now (prices .entry)) (now (schedule .entry))) ⌝ }
+{
+    numbers::of_assessment(assessment::assess(numbers::record_of(unit), prices, schedule))
+}
+
+// The cells that a case of so many intervals needs; or 3, 4 or 5.
+#[no_mangle]
+pub extern "C" fn ralwinga_cells(unit: UnitNumbers, intervals: usize) -> CellsNumbers
+    ensures { λ r. ⌜ r ≡ cellsNumbers (cellsChecked (recordOf unit) intervals) (cellsNeeded (recordOf unit) intervals) ⌝ }
+{
+    let record = numbers::record_of(unit);
+    match check_cells(record, intervals) {
+        Checked::Passed => CellsNumbers {
+            number: 0,
+            cells: budgets::cells_needed(record, intervals),
+        },
+        Checked::Refused(cause) => CellsNumbers {
+            number: commitment::number_of(cause),
+            cells: 0,
+        },
+    }
+}
+
+fn check_cells(unit: UnitRecord, intervals: usize) -> Checked
+    ensures { λ r. ⌜ r ≡ cellsChecked unit intervals ⌝ }
+{
+    if !commitment::ranges_kept(unit) {
+        return Checked::Refused(Cause::Range);
+    }
+    if !commitment::shape_kept(unit) {
+        return Checked::Refused(Cause::Shape);
+    }
+    if !commitment::horizon_kept(intervals) {
+        return Checked::Refused(Cause::Horizon);
+    }
+    Checked::Passed
+}
+
+// The best plan into the front of the schedule slice.
+#[no_mangle]
+pub extern "C" fn ralwinga_plan(
+    unit: UnitNumbers,
+    prices: &[i64],
+    scratch: &mut [i64],
+    schedule: &mut [u64],
+) -> PlanNumbers
+    ensures { λ r. ⌜ r ≡ planNumbers (planned (recordOf unit) (now (prices .entry)) (length (now (scratch .entry))) (length (now (schedule .entry)))) ⌝ }
+    ensures { λ _. ⌜ now (schedule .exit) ≡ scheduleAfter (planChecked (recordOf unit) (now (prices .entry)) (length (now (scratch .entry))) (length (now (schedule .entry)))) (best (recordOf unit) (now (prices .entry))) (now (schedule .entry)) ⌝ }
+    ensures { λ _. ⌜ now (scratch .exit) ≡ scratchAfter (planLent (recordOf unit) (now (prices .entry)) (length (now (scratch .entry))) (length (now (schedule .entry)))) (cellsNeeded (recordOf unit) (length (now (prices .entry)))) (now (scratch .entry)) ⌝ }
+{
+    numbers::of_plan(planner::plan_into(numbers::record_of(unit), prices, scratch, schedule))
+}
+
+// The three outcomes.
+#[no_mangle]
+pub extern "C" fn ralwinga_value(
+    unit: UnitNumbers,
+    prices: &[i64],
+    scratch: &mut [i64],
+) -> ValueNumbers
+    ensures { λ r. ⌜ r ≡ valueNumbers (valued (recordOf unit) (now (prices .entry)) (length (now (scratch .entry)))) ⌝ }
+    ensures { λ _. ⌜ now (scratch .exit) ≡ scratchAfter (valueLent (recordOf unit) (now (prices .entry)) (length (now (scratch .entry)))) (cellsNeeded (recordOf unit) (length (now (prices .entry)))) (now (scratch .entry)) ⌝ }
+{
+    numbers::of_value(planner::value(numbers::record_of(unit), prices, scratch))
+}
+
+// Plan and outcomes from one fill of the table.
+#[no_mangle]
+pub extern "C" fn ralwinga_report(
+    unit: UnitNumbers,
+    prices: &[i64],
+    scratch: &mut [i64],
+    schedule: &mut [u64],
+) -> ReportNumbers
+    ensures { λ r. ⌜ r ≡ reportNumbers (reported (recordOf unit) (now (prices .entry)) (length (now (scratch .entry))) (length (now (schedule .entry)))) ⌝ }
+    ensures { λ _. ⌜ now (schedule .exit) ≡ scheduleAfter (planChecked (recordOf unit) (now (prices .entry)) (length (now (scratch .entry))) (length (now (schedule .entry)))) (best (recordOf unit) (now (prices .entry))) (now (schedule .entry)) ⌝ }
+    ensures { λ _. ⌜ now (scratch .exit) ≡ scratchAfter (planLent (recordOf unit) (now (prices .entry)) (length (now (scratch .entry))) (length (now (schedule .entry)))) (cellsNeeded (recordOf unit) (length (now (prices .entry)))) (now (scratch .entry)) ⌝ }
+{
+    numbers::of_report(planner::report_into(numbers::record_of(unit), prices, scratch, schedule))
+}
+
+// The listing of a plan into the front of the buffer.
+#[no_mangle]
+pub extern "C" fn ralwinga_listing(
+    schedule: &[u64],
+    profit: i64,
+    outcomes: OutcomesNumbers,
+    out: &mut [u8],
+) -> WrittenNumbers
+    ensures { λ r. ⌜ r ≡ writtenNumbers (answered (fitted (length (listing (now (schedule .entry)) profit (outcomesFrom outcomes))) (length (now (out .entry))))) ⌝ }
+    ensures { λ _. ⌜ now (out .exit) ≡ bufferAfter (listing (now (schedule .entry)) profit (outcomesFrom outcomes)) (now (out .entry)) ⌝ }
+{
+    numbers::of_written(listing::write_listing(
+        schedule,
+        profit,
+        numbers::outcomes_from(outcomes),
+        out,
+    ))
+}
+
+// The line of a refusal into the front of the buffer.
+#[no_mangle]
+pub extern "C" fn ralwinga_refusal(number: u64, out: &mut [u8]) -> WrittenNumbers
+    ensures { λ r. ⌜ r ≡ writtenNumbers (answered (fitted (length (refusal number)) (length (now (out .entry))))) ⌝ }
+    ensures { λ _. ⌜ now (out .exit) ≡ bufferAfter (refusal number) (now (out .entry)) ⌝ }
+{
+    numbers::of_written(listing::write_refusal(number, out))
+}

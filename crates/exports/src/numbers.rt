@@ -1,0 +1,326 @@
+// Records and answers as structs of numbers, laid out as in C, and the way between them and the types of the calls.
+
+use assessment::Assessed;
+use casefile::CaseRead;
+use commitment::Limit;
+use commitment::Outcome;
+use commitment::Outcomes;
+use commitment::UnitRecord;
+use costs::Costed;
+use listing::Written;
+use planner::Planned;
+use planner::Reported;
+use planner::Valued;
+ghost use mathlib.Core.Path.{_≡_};
+ghost use Rattle.exports.specs.Records as records;
+ghost use Rattle.exports.specs.Answers as answers;
+
+// `none` as the number of a limitation.
+pub const NONE: u64 = 18446744073709551615;
+
+// The unit record, in document 01's order.
+#[repr(C)]
+pub struct UnitNumbers {
+    pub block: u64,
+    pub pmin: u64,
+    pub pmax: u64,
+    pub mot: u64,
+    pub mdt: u64,
+    pub was: u64,
+    pub held: u64,
+    pub vec: u64,
+    pub mlc: u64,
+    pub suc: u64,
+    pub starts: u64,
+    pub hours: u64,
+    pub mwh: u64,
+}
+
+// An outcome: 0 none, 1 empty, 2 never, 3 a gap; `gap` is 0 but for the last.
+#[repr(C)]
+pub struct OutcomeNumbers {
+    pub kind: u64,
+    pub gap: i64,
+}
+
+#[repr(C)]
+pub struct OutcomesNumbers {
+    pub starts: OutcomeNumbers,
+    pub hours: OutcomeNumbers,
+    pub mwh: OutcomeNumbers,
+}
+
+// Answers: `number` is 0, or that of the cause.
+#[repr(C)]
+pub struct CaseNumbers {
+    pub number: u64,
+    pub count: usize,
+    pub unit: UnitNumbers,
+}
+
+#[repr(C)]
+pub struct FiguresNumbers {
+    pub number: u64,
+    pub vec: u64,
+    pub suc: u64,
+    pub mlc: u64,
+}
+
+#[repr(C)]
+pub struct AssessNumbers {
+    pub number: u64,
+    pub profit: i64,
+}
+
+#[repr(C)]
+pub struct CellsNumbers {
+    pub number: u64,
+    pub cells: usize,
+}
+
+#[repr(C)]
+pub struct PlanNumbers {
+    pub number: u64,
+    pub count: usize,
+    pub profit: i64,
+}
+
+#[repr(C)]
+pub struct ValueNumbers {
+    pub number: u64,
+    pub outcomes: OutcomesNumbers,
+}
+
+#[repr(C)]
+pub struct ReportNumbers {
+    pub number: u64,
+    pub count: usize,
+    pub profit: i64,
+    pub outcomes: OutcomesNumbers,
+}
+
+#[repr(C)]
+pub struct WrittenNumbers {
+    pub number: u64,
+    pub bytes: usize,
+}
+
+// ---- records
+
+fn limit_from(number: u64) -> Limit
+    ensures { λ r. ⌜ r ≡ records.limitFrom number ⌝ }
+{
+    if number == NONE {
+        Limit::None
+    } else {
+        Limit::At(number)
+    }
+}
+
+fn limit_number(limit: Limit) -> u64
+    ensures { λ r. ⌜ r ≡ records.limitNumber limit ⌝ }
+{
+    match limit {
+        Limit::None => NONE,
+        Limit::At(number) => number,
+    }
+}
+
+pub fn record_of(unit: UnitNumbers) -> UnitRecord
+    ensures { λ r. ⌜ r ≡ records.recordOf unit ⌝ }
+{
+    UnitRecord {
+        block: unit.block,
+        pmin: unit.pmin,
+        pmax: unit.pmax,
+        mot: unit.mot,
+        mdt: unit.mdt,
+        was: unit.was,
+        held: unit.held,
+        vec: unit.vec,
+        mlc: unit.mlc,
+        suc: unit.suc,
+        starts: limit_from(unit.starts),
+        hours: limit_from(unit.hours),
+        mwh: limit_from(unit.mwh),
+    }
+}
+
+fn unit_numbers(unit: UnitRecord) -> UnitNumbers
+    ensures { λ r. ⌜ r ≡ records.unitNumbers unit ⌝ }
+{
+    let starts = unit.starts;
+    let hours = unit.hours;
+    let mwh = unit.mwh;
+    UnitNumbers {
+        block: unit.block,
+        pmin: unit.pmin,
+        pmax: unit.pmax,
+        mot: unit.mot,
+        mdt: unit.mdt,
+        was: unit.was,
+        held: unit.held,
+        vec: unit.vec,
+        mlc: unit.mlc,
+        suc: unit.suc,
+        starts: limit_number(starts),
+        hours: limit_number(hours),
+        mwh: limit_number(mwh),
+    }
+}
+
+// ---- outcomes
+
+fn outcome_from(kind: u64, gap: i64) -> Outcome
+    ensures { λ r. ⌜ r ≡ records.outcomeFrom kind gap ⌝ }
+{
+    match kind {
+        1 => Outcome::Empty,
+        2 => Outcome::Never,
+        3 => Outcome::Gap(gap),
+        _ => Outcome::None,
+    }
+}
+
+fn outcome_numbers(outcome: Outcome) -> OutcomeNumbers
+    ensures { λ r. ⌜ r ≡ records.outcomeNumbers outcome ⌝ }
+{
+    match outcome {
+        Outcome::None => OutcomeNumbers { kind: 0, gap: 0 },
+        Outcome::Empty => OutcomeNumbers { kind: 1, gap: 0 },
+        Outcome::Never => OutcomeNumbers { kind: 2, gap: 0 },
+        Outcome::Gap(gap) => OutcomeNumbers { kind: 3, gap },
+    }
+}
+
+pub fn outcomes_from(outcomes: OutcomesNumbers) -> Outcomes
+    ensures { λ r. ⌜ r ≡ records.outcomesFrom outcomes ⌝ }
+{
+    let starts = outcomes.starts;
+    let hours = outcomes.hours;
+    let mwh = outcomes.mwh;
+    Outcomes {
+        starts: outcome_from(starts.kind, starts.gap),
+        hours: outcome_from(hours.kind, hours.gap),
+        mwh: outcome_from(mwh.kind, mwh.gap),
+    }
+}
+
+fn outcomes_numbers(outcomes: Outcomes) -> OutcomesNumbers
+    ensures { λ r. ⌜ r ≡ records.outcomesNumbers outcomes ⌝ }
+{
+    let starts = outcomes.starts;
+    let hours = outcomes.hours;
+    let mwh = outcomes.mwh;
+    OutcomesNumbers {
+        starts: outcome_numbers(starts),
+        hours: outcome_numbers(hours),
+        mwh: outcome_numbers(mwh),
+    }
+}
+
+// ---- answers
+
+pub fn of_case(answer: CaseRead) -> CaseNumbers
+    ensures { λ r. ⌜ r ≡ answers.caseNumbers answer ⌝ }
+{
+    CaseNumbers {
+        number: casefile::number_of(answer),
+        count: casefile::count_of(answer),
+        unit: unit_numbers(casefile::unit_of(answer)),
+    }
+}
+
+pub fn of_figures(answer: Costed) -> FiguresNumbers
+    ensures { λ r. ⌜ r ≡ answers.figuresNumbers answer ⌝ }
+{
+    match answer {
+        Costed::Figures(figures) => FiguresNumbers {
+            number: 0,
+            vec: figures.vec,
+            suc: figures.suc,
+            mlc: figures.mlc,
+        },
+        Costed::Refused(cause) => FiguresNumbers {
+            number: commitment::number_of(cause),
+            vec: 0,
+            suc: 0,
+            mlc: 0,
+        },
+    }
+}
+
+pub fn of_assessment(answer: Assessed) -> AssessNumbers
+    ensures { λ r. ⌜ r ≡ answers.assessNumbers answer ⌝ }
+{
+    AssessNumbers {
+        number: assessment::number_of(answer),
+        profit: assessment::profit_of(answer),
+    }
+}
+
+pub fn of_plan(answer: Planned) -> PlanNumbers
+    ensures { λ r. ⌜ r ≡ answers.planNumbers answer ⌝ }
+{
+    PlanNumbers {
+        number: planner::planned_number(answer),
+        count: planner::planned_count(answer),
+        profit: planner::planned_profit(answer),
+    }
+}
+
+pub fn of_value(answer: Valued) -> ValueNumbers
+    ensures { λ r. ⌜ r ≡ answers.valueNumbers answer ⌝ }
+{
+    match answer {
+        Valued::Outcomes(outcomes) => ValueNumbers {
+            number: 0,
+            outcomes: outcomes_numbers(outcomes),
+        },
+        Valued::Refused(cause) => ValueNumbers {
+            number: commitment::number_of(cause),
+            outcomes: no_outcomes(),
+        },
+    }
+}
+
+pub fn of_report(answer: Reported) -> ReportNumbers
+    ensures { λ r. ⌜ r ≡ answers.reportNumbers answer ⌝ }
+{
+    match answer {
+        Reported::Report(report) => ReportNumbers {
+            number: 0,
+            count: report.count,
+            profit: report.profit,
+            outcomes: outcomes_numbers(report.outcomes),
+        },
+        Reported::Refused(cause) => ReportNumbers {
+            number: commitment::number_of(cause),
+            count: 0,
+            profit: 0,
+            outcomes: no_outcomes(),
+        },
+    }
+}
+
+fn no_outcomes() -> OutcomesNumbers
+    ensures { λ r. ⌜ r ≡ answers.noneNumbers ⌝ }
+{
+    OutcomesNumbers {
+        starts: OutcomeNumbers { kind: 0, gap: 0 },
+        hours: OutcomeNumbers { kind: 0, gap: 0 },
+        mwh: OutcomeNumbers { kind: 0, gap: 0 },
+    }
+}
+
+pub fn of_written(answer: Written) -> WrittenNumbers
+    ensures { λ r. ⌜ r ≡ answers.writtenNumbers answer ⌝ }
+{
+    match answer {
+        Written::Bytes(bytes) => WrittenNumbers { number: 0, bytes },
+        Written::Refused(cause) => WrittenNumbers {
+            number: commitment::number_of(cause),
+            bytes: 0,
+        },
+    }
+}
