@@ -1,0 +1,180 @@
+//! Months on the library and on the same algorithm in plain Rust, alternating in one run over the same scratch. Prints ns per cell, the ratio of
+//! the two, and the floor: each cell written, read and cleared once.
+
+mod plain;
+
+use ralwinga::{cells_needed, plan_into, report_into, Unit};
+use std::hint::black_box;
+use std::time::Instant;
+
+const INTERVALS: usize = 2976;
+const ROUNDS: usize = 5;
+
+/// A month of prices: a daily wave with noise, below vec at night and above it by day, some negative.
+fn month() -> Vec<i64> {
+    let mut seed: u64 = 20_071_231;
+    (0..INTERVALS)
+        .map(|t| {
+            seed = seed
+                .wrapping_mul(6364136223846793005)
+                .wrapping_add(1442695040888963407);
+            let noise = (seed >> 33) as i64 % 3001 - 1500;
+            let hour = (t / 4) % 24;
+            let wave = if (7..22).contains(&hour) { 2200 } else { -1800 };
+            3000 + wave + noise
+        })
+        .collect()
+}
+
+/// 50 MW: block 5, pmin 4, pmax 10; an hour on and an hour off at least.
+fn unit() -> Unit {
+    Unit {
+        block: 5,
+        pmin: 4,
+        pmax: 10,
+        mot: 4,
+        mdt: 4,
+        was: 0,
+        held: 4,
+        vec: 3000,
+        mlc: 20_000,
+        suc: 50_000,
+        starts: None,
+        hours: None,
+        mwh: None,
+    }
+}
+
+fn cases() -> Vec<(&'static str, Unit)> {
+    let u = unit();
+    // 4,001 rungs of MWh left, as the 50 MW unit has at 5,000 MWh, in blocks of 1 MW
+    let narrow = Unit {
+        block: 1,
+        mwh: Some(1000),
+        ..u
+    };
+    vec![
+        (
+            "starts 30",
+            Unit {
+                starts: Some(30),
+                ..u
+            },
+        ),
+        (
+            "hours 200",
+            Unit {
+                hours: Some(200),
+                ..u
+            },
+        ),
+        (
+            "starts 30, hours 200",
+            Unit {
+                starts: Some(30),
+                hours: Some(200),
+                ..u
+            },
+        ),
+        (
+            "mwh 5000, 7 outputs",
+            Unit {
+                mwh: Some(5000),
+                ..u
+            },
+        ),
+        ("mwh 1000, 31 outputs", Unit { pmax: 34, ..narrow }),
+        (
+            "mwh 1000, 101 outputs",
+            Unit {
+                pmax: 104,
+                ..narrow
+            },
+        ),
+    ]
+}
+
+fn timed<T>(work: impl FnOnce() -> T) -> (f64, T) {
+    let began = Instant::now();
+    let answer = work();
+    (began.elapsed().as_secs_f64(), answer)
+}
+
+/// Each cell written, read and cleared once.
+fn floor(scratch: &mut [i64]) -> f64 {
+    timed(|| {
+        scratch.fill(1);
+        let sum: i64 = black_box(&*scratch).iter().sum();
+        black_box(sum);
+        scratch.fill(0);
+        black_box(&*scratch);
+    })
+    .0
+}
+
+struct Times {
+    library: f64,
+    plain: f64,
+    plan: f64,
+    floor: f64,
+}
+
+/// The least of several rounds, the contestants taking turns.
+fn measure(unit: Unit, prices: &[i64], scratch: &mut [i64]) -> Times {
+    let mut least = Times {
+        library: f64::MAX,
+        plain: f64::MAX,
+        plan: f64::MAX,
+        floor: f64::MAX,
+    };
+    let mut ours = vec![0; prices.len()];
+    let mut theirs = vec![0; prices.len()];
+    for _ in 0..ROUNDS {
+        let (library, answer) = timed(|| report_into(unit, prices, scratch, &mut ours));
+        let (plain, expected) = timed(|| plain::report_into(unit, prices, scratch, &mut theirs));
+        let (plan, planned) = timed(|| plan_into(unit, prices, scratch, &mut ours));
+        assert_eq!(answer, Ok(expected));
+        assert_eq!(planned, Ok((expected.count, expected.profit)));
+        assert_eq!(ours, theirs);
+        least.library = least.library.min(library);
+        least.plain = least.plain.min(plain);
+        least.plan = least.plan.min(plan);
+        least.floor = least.floor.min(floor(scratch));
+    }
+    least
+}
+
+fn main() {
+    // cargo hands on `--bench`; any other word picks the cases that have it in their name
+    let wanted = std::env::args().skip(1).find(|word| !word.starts_with('-'));
+    let prices = month();
+    println!("{INTERVALS} intervals, least of {ROUNDS} rounds; ns per cell");
+    println!(
+        "{:<24}{:>13}{:>9}{:>9}{:>9}{:>9}{:>9}{:>12}",
+        "case", "cells", "library", "plain", "ratio", "plan", "floor", "report/plan"
+    );
+    for (name, unit) in cases() {
+        if wanted
+            .as_ref()
+            .is_some_and(|word| !name.contains(word.as_str()))
+        {
+            continue;
+        }
+        let cells = cells_needed(unit, prices.len()).expect("a case in order");
+        // touched, so that no page is new to a contestant
+        let mut scratch = vec![1i64; cells];
+        let times = measure(unit, &prices, &mut scratch);
+        let each = |seconds: f64| seconds * 1e9 / cells as f64;
+        println!(
+            "{:<24}{:>13}{:>9.2}{:>9.2}{:>9.2}{:>9.2}{:>9.2}{:>12.2}",
+            name,
+            cells,
+            each(times.library),
+            each(times.plain),
+            times.library / times.plain,
+            each(times.plan),
+            each(times.floor),
+            times.library / times.plan,
+        );
+    }
+}

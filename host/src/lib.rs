@@ -1,0 +1,402 @@
+//! A safe wrapper over the proved static library: types, the refusals with their meaning, and the calls over slices.
+//!
+//! The calls are proved to meet their contracts for any record and any slices. What is not proved is this crate: the
+//! wrapper, the reader of long texts (`reader`), the command and the drawing.
+
+mod ffi;
+pub mod reader;
+pub mod svg;
+
+use std::fmt;
+
+/// A limitation of the permit: `None` where the unit is not limited.
+pub type Limit = Option<u64>;
+
+/// The unit record of the specification.
+#[derive(Clone, Copy, Debug, PartialEq, Eq)]
+pub struct Unit {
+    /// MW in one block.
+    pub block: u64,
+    /// Lowest output when on, in blocks.
+    pub pmin: u64,
+    /// Highest output when on, in blocks.
+    pub pmax: u64,
+    /// Minimum on time, in intervals.
+    pub mot: u64,
+    /// Minimum down time, in intervals.
+    pub mdt: u64,
+    /// State before interval 1: 0 off, 1 on.
+    pub was: u64,
+    /// Intervals spent in that state.
+    pub held: u64,
+    /// Variable energy cost, cents per MWh.
+    pub vec: u64,
+    /// Minimum load cost, cents per hour.
+    pub mlc: u64,
+    /// Start-up cost, cents.
+    pub suc: u64,
+    pub starts: Limit,
+    pub hours: Limit,
+    pub mwh: Limit,
+}
+
+/// The inputs of the cost figures but for the segments. Laid out as the library takes it.
+#[repr(C)]
+#[derive(Clone, Copy, Debug, PartialEq, Eq)]
+pub struct CostInputs {
+    pub block: u64,
+    pub pmin: u64,
+    pub pmax: u64,
+    pub gas: u64,
+    pub transport: u64,
+    pub allowance: u64,
+    pub om: u64,
+    pub gmc: u64,
+    pub rate: u64,
+    pub min_heat: u64,
+    pub fuel: u64,
+    pub aux: u64,
+    pub minutes: u64,
+    pub start_adder: u64,
+    pub load_adder: u64,
+}
+
+/// vec, suc and mlc in whole cents.
+#[derive(Clone, Copy, Debug, PartialEq, Eq)]
+pub struct CostFigures {
+    pub vec: u64,
+    pub suc: u64,
+    pub mlc: u64,
+}
+
+/// What valuing a limitation comes to.
+#[derive(Clone, Copy, Debug, PartialEq, Eq)]
+pub enum Outcome {
+    /// Not limited.
+    None,
+    /// Nine tenths of the limitation round to 0.
+    Empty,
+    /// No schedule keeps the figure one unit less.
+    Never,
+    /// What one more unit is worth, in quarter-cents.
+    Gap(i64),
+}
+
+#[derive(Clone, Copy, Debug, PartialEq, Eq)]
+pub struct Outcomes {
+    pub starts: Outcome,
+    pub hours: Outcome,
+    pub mwh: Outcome,
+}
+
+/// A plan's length and profit, and the three outcomes.
+#[derive(Clone, Copy, Debug, PartialEq, Eq)]
+pub struct Report {
+    pub count: usize,
+    pub profit: i64,
+    pub outcomes: Outcomes,
+}
+
+/// Why a call refuses, by the specification's numbers.
+#[derive(Clone, Copy, Debug, PartialEq, Eq)]
+pub enum Refusal {
+    Form = 1,
+    Name = 2,
+    Range = 3,
+    Shape = 4,
+    Horizon = 5,
+    Segments = 6,
+    Length = 7,
+    Scratch = 8,
+    NoSchedule = 9,
+    NotKept = 10,
+}
+
+impl Refusal {
+    pub const ALL: [Refusal; 10] = [
+        Refusal::Form,
+        Refusal::Name,
+        Refusal::Range,
+        Refusal::Shape,
+        Refusal::Horizon,
+        Refusal::Segments,
+        Refusal::Length,
+        Refusal::Scratch,
+        Refusal::NoSchedule,
+        Refusal::NotKept,
+    ];
+
+    pub fn number(self) -> u64 {
+        self as u64
+    }
+
+    fn from_number(number: u64) -> Refusal {
+        *Refusal::ALL
+            .iter()
+            .find(|refusal| refusal.number() == number)
+            .expect("the library gives numbers from 1 to 10")
+    }
+
+    pub fn meaning(self) -> &'static str {
+        match self {
+            Refusal::Form => "the text is too long, or a line is not of the form",
+            Refusal::Name => "a name is unknown, repeated or missing",
+            Refusal::Range => "a value or a count of entries is outside its range",
+            Refusal::Shape => "pmin is over pmax, or pmax times block is over 500 MW",
+            Refusal::Horizon => "there are no prices, or more than 2,976",
+            Refusal::Segments => "the segments' MW do not add up",
+            Refusal::Length => "a slice is too short, or a schedule is of another length",
+            Refusal::Scratch => "the scratch is shorter than the case needs",
+            Refusal::NoSchedule => "no schedule keeps the case",
+            Refusal::NotKept => "the schedule handed in does not keep the case",
+        }
+    }
+}
+
+impl fmt::Display for Refusal {
+    fn fmt(&self, f: &mut fmt::Formatter) -> fmt::Result {
+        write!(f, "refused, {}: {}", self.number(), self.meaning())
+    }
+}
+
+impl std::error::Error for Refusal {}
+
+/// 0 is no refusal.
+fn unless_refused<T>(number: u64, answer: T) -> Result<T, Refusal> {
+    match number {
+        0 => Ok(answer),
+        _ => Err(Refusal::from_number(number)),
+    }
+}
+
+/// The figure that stands for `none` is itself out of every range, and so is the one below it, which is handed over in its place.
+fn limit_number(limit: Limit) -> u64 {
+    limit.map_or(ffi::NONE, |figure| figure.min(ffi::NONE - 1))
+}
+
+fn limit_from(number: u64) -> Limit {
+    match number {
+        ffi::NONE => None,
+        figure => Some(figure),
+    }
+}
+
+impl Unit {
+    fn numbers(self) -> ffi::UnitNumbers {
+        ffi::UnitNumbers {
+            block: self.block,
+            pmin: self.pmin,
+            pmax: self.pmax,
+            mot: self.mot,
+            mdt: self.mdt,
+            was: self.was,
+            held: self.held,
+            vec: self.vec,
+            mlc: self.mlc,
+            suc: self.suc,
+            starts: limit_number(self.starts),
+            hours: limit_number(self.hours),
+            mwh: limit_number(self.mwh),
+        }
+    }
+
+    fn from_numbers(unit: ffi::UnitNumbers) -> Unit {
+        Unit {
+            block: unit.block,
+            pmin: unit.pmin,
+            pmax: unit.pmax,
+            mot: unit.mot,
+            mdt: unit.mdt,
+            was: unit.was,
+            held: unit.held,
+            vec: unit.vec,
+            mlc: unit.mlc,
+            suc: unit.suc,
+            starts: limit_from(unit.starts),
+            hours: limit_from(unit.hours),
+            mwh: limit_from(unit.mwh),
+        }
+    }
+}
+
+impl Outcome {
+    fn numbers(self) -> ffi::OutcomeNumbers {
+        let (kind, gap) = match self {
+            Outcome::None => (0, 0),
+            Outcome::Empty => (1, 0),
+            Outcome::Never => (2, 0),
+            Outcome::Gap(gap) => (3, gap),
+        };
+        ffi::OutcomeNumbers { kind, gap }
+    }
+
+    fn from_numbers(outcome: ffi::OutcomeNumbers) -> Outcome {
+        match outcome.kind {
+            1 => Outcome::Empty,
+            2 => Outcome::Never,
+            3 => Outcome::Gap(outcome.gap),
+            _ => Outcome::None,
+        }
+    }
+}
+
+impl Outcomes {
+    fn numbers(self) -> ffi::OutcomesNumbers {
+        ffi::OutcomesNumbers {
+            starts: self.starts.numbers(),
+            hours: self.hours.numbers(),
+            mwh: self.mwh.numbers(),
+        }
+    }
+
+    fn from_numbers(outcomes: ffi::OutcomesNumbers) -> Outcomes {
+        Outcomes {
+            starts: Outcome::from_numbers(outcomes.starts),
+            hours: Outcome::from_numbers(outcomes.hours),
+            mwh: Outcome::from_numbers(outcomes.mwh),
+        }
+    }
+}
+
+/// The record of a text and how many prices it has, which go into the front of `prices`.
+pub fn read_into(text: &[u8], prices: &mut [i64]) -> Result<(Unit, usize), Refusal> {
+    // Sound: the pointers and lengths are those of slices that live through the call; the library keeps neither.
+    let answer =
+        unsafe { ffi::ralwinga_read(text.as_ptr(), text.len(), prices.as_mut_ptr(), prices.len()) };
+    unless_refused(
+        answer.number,
+        (Unit::from_numbers(answer.unit), answer.count),
+    )
+}
+
+/// The three cost figures of a unit with these segments.
+pub fn figures(inputs: CostInputs, mws: &[u64], heats: &[u64]) -> Result<CostFigures, Refusal> {
+    // Sound: as in `read_into`.
+    let answer = unsafe {
+        ffi::ralwinga_figures(inputs, mws.as_ptr(), mws.len(), heats.as_ptr(), heats.len())
+    };
+    unless_refused(
+        answer.number,
+        CostFigures {
+            vec: answer.vec,
+            suc: answer.suc,
+            mlc: answer.mlc,
+        },
+    )
+}
+
+/// The profit of a schedule handed in, in quarter-cents.
+pub fn assess(unit: Unit, prices: &[i64], schedule: &[u64]) -> Result<i64, Refusal> {
+    // Sound: as in `read_into`.
+    let answer = unsafe {
+        ffi::ralwinga_assess(
+            unit.numbers(),
+            prices.as_ptr(),
+            prices.len(),
+            schedule.as_ptr(),
+            schedule.len(),
+        )
+    };
+    unless_refused(answer.number, answer.profit)
+}
+
+/// The cells of scratch that a case of so many intervals needs.
+pub fn cells_needed(unit: Unit, intervals: usize) -> Result<usize, Refusal> {
+    // Sound: only numbers go over.
+    let answer = unsafe { ffi::ralwinga_cells(unit.numbers(), intervals) };
+    unless_refused(answer.number, answer.cells)
+}
+
+/// The best plan into the front of `schedule`: its length and profit.
+pub fn plan_into(
+    unit: Unit,
+    prices: &[i64],
+    scratch: &mut [i64],
+    schedule: &mut [u64],
+) -> Result<(usize, i64), Refusal> {
+    // Sound: as in `read_into`; the two slices that are written are borrowed by themselves.
+    let answer = unsafe {
+        ffi::ralwinga_plan(
+            unit.numbers(),
+            prices.as_ptr(),
+            prices.len(),
+            scratch.as_mut_ptr(),
+            scratch.len(),
+            schedule.as_mut_ptr(),
+            schedule.len(),
+        )
+    };
+    unless_refused(answer.number, (answer.count, answer.profit))
+}
+
+/// What one more start, hour and MWh is worth.
+pub fn value(unit: Unit, prices: &[i64], scratch: &mut [i64]) -> Result<Outcomes, Refusal> {
+    // Sound: as in `read_into`.
+    let answer = unsafe {
+        ffi::ralwinga_value(
+            unit.numbers(),
+            prices.as_ptr(),
+            prices.len(),
+            scratch.as_mut_ptr(),
+            scratch.len(),
+        )
+    };
+    unless_refused(answer.number, Outcomes::from_numbers(answer.outcomes))
+}
+
+/// Plan and outcomes from one fill of the table.
+pub fn report_into(
+    unit: Unit,
+    prices: &[i64],
+    scratch: &mut [i64],
+    schedule: &mut [u64],
+) -> Result<Report, Refusal> {
+    // Sound: as in `plan_into`.
+    let answer = unsafe {
+        ffi::ralwinga_report(
+            unit.numbers(),
+            prices.as_ptr(),
+            prices.len(),
+            scratch.as_mut_ptr(),
+            scratch.len(),
+            schedule.as_mut_ptr(),
+            schedule.len(),
+        )
+    };
+    unless_refused(
+        answer.number,
+        Report {
+            count: answer.count,
+            profit: answer.profit,
+            outcomes: Outcomes::from_numbers(answer.outcomes),
+        },
+    )
+}
+
+/// The listing of a plan into the front of `out`: its bytes.
+pub fn write_listing(
+    schedule: &[u64],
+    profit: i64,
+    outcomes: Outcomes,
+    out: &mut [u8],
+) -> Result<usize, Refusal> {
+    // Sound: as in `read_into`.
+    let answer = unsafe {
+        ffi::ralwinga_listing(
+            schedule.as_ptr(),
+            schedule.len(),
+            profit,
+            outcomes.numbers(),
+            out.as_mut_ptr(),
+            out.len(),
+        )
+    };
+    unless_refused(answer.number, answer.bytes)
+}
+
+/// The line of a refusal into the front of `out`: its bytes.
+pub fn write_refusal(refusal: Refusal, out: &mut [u8]) -> Result<usize, Refusal> {
+    // Sound: as in `read_into`.
+    let answer = unsafe { ffi::ralwinga_refusal(refusal.number(), out.as_mut_ptr(), out.len()) };
+    unless_refused(answer.number, answer.bytes)
+}

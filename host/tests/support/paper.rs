@@ -1,0 +1,226 @@
+//! The specification once more in plain Rust, by enumeration: every list of outputs is tried. It shares no code with the library or the wrapper
+//! but the types.
+
+use ralwinga::{CostFigures, CostInputs, Outcome, Outcomes, Unit};
+
+type Refused = u64;
+
+fn in_range(limit: Option<u64>, most: u64) -> bool {
+    limit.is_none_or(|figure| figure <= most)
+}
+
+/// 3, 4 or 5 of a record and its prices.
+pub fn judge_case(u: &Unit, prices: &[i64]) -> Result<(), Refused> {
+    let ranges = (1..=500).contains(&u.block)
+        && (1..=500).contains(&u.pmin)
+        && (1..=500).contains(&u.pmax)
+        && (1..=96).contains(&u.mot)
+        && (1..=96).contains(&u.mdt)
+        && u.was <= 1
+        && (1..=9999).contains(&u.held)
+        && u.vec <= 2_000_000
+        && u.mlc <= 1_000_000_000
+        && u.suc <= 4_000_000_000
+        && in_range(u.starts, 2976)
+        && in_range(u.hours, 744)
+        && in_range(u.mwh, 372_000);
+    if !ranges || prices.iter().any(|p| !(-200_000..=200_000).contains(p)) {
+        return Err(3);
+    }
+    if u.pmin > u.pmax || u.pmax * u.block > 500 {
+        return Err(4);
+    }
+    if prices.is_empty() || prices.len() > 2976 {
+        return Err(5);
+    }
+    Ok(())
+}
+
+fn is_output(u: &Unit, mw: u64) -> bool {
+    mw == 0 || mw.is_multiple_of(u.block) && (u.pmin * u.block..=u.pmax * u.block).contains(&mw)
+}
+
+/// The spells of a schedule, the one before interval 1 first: on or off, and its length.
+fn spells(u: &Unit, schedule: &[u64]) -> Vec<(bool, u64)> {
+    let mut spells = vec![(u.was == 1, u.held)];
+    for mw in schedule {
+        let on = *mw > 0;
+        match spells.last_mut() {
+            Some((state, length)) if *state == on => *length += 1,
+            _ => spells.push((on, 1)),
+        }
+    }
+    spells
+}
+
+pub fn keeps(u: &Unit, schedule: &[u64]) -> bool {
+    let spells = spells(u, schedule);
+    let starts = spells[1..].iter().filter(|(on, _)| *on).count() as u64;
+    let ended = &spells[..spells.len() - 1];
+    let on_intervals = schedule.iter().filter(|mw| **mw > 0).count() as u64;
+    schedule.iter().all(|mw| is_output(u, *mw))
+        && ended
+            .iter()
+            .all(|(on, length)| *length >= if *on { u.mot } else { u.mdt })
+        && u.starts.is_none_or(|most| starts <= most)
+        && u.hours.is_none_or(|most| on_intervals <= 4 * most)
+        && u.mwh.is_none_or(|most| {
+            schedule.iter().map(|mw| u128::from(*mw)).sum::<u128>() <= 4 * u128::from(most)
+        })
+}
+
+pub fn profit(u: &Unit, prices: &[i64], schedule: &[u64]) -> i128 {
+    let mut was_on = u.was == 1;
+    let mut total = 0;
+    for (price, mw) in prices.iter().zip(schedule) {
+        if *mw > 0 {
+            let above = i128::from(*mw) - i128::from(u.pmin * u.block);
+            total += i128::from(*price) * i128::from(*mw)
+                - i128::from(u.vec) * above
+                - i128::from(u.mlc);
+            if !was_on {
+                total -= 4 * i128::from(u.suc);
+            }
+        }
+        was_on = *mw > 0;
+    }
+    total
+}
+
+/// Tries every list in the paper's order; the first of the best stays.
+pub fn best(u: &Unit, prices: &[i64]) -> Option<(i128, Vec<u64>)> {
+    fn extend(u: &Unit, prices: &[i64], list: &mut Vec<u64>, found: &mut Option<(i128, Vec<u64>)>) {
+        if list.len() == prices.len() {
+            if keeps(u, list) {
+                let earned = profit(u, prices, list);
+                if found.as_ref().is_none_or(|(most, _)| earned > *most) {
+                    *found = Some((earned, list.clone()));
+                }
+            }
+            return;
+        }
+        for output in std::iter::once(0).chain((u.pmin..=u.pmax).map(|k| k * u.block)) {
+            list.push(output);
+            extend(u, prices, list, found);
+            list.pop();
+        }
+    }
+    let mut found = None;
+    extend(u, prices, &mut Vec::new(), &mut found);
+    found
+}
+
+fn outcome(limit: Option<u64>, best_at: impl Fn(u64) -> Option<i128>) -> Outcome {
+    let Some(whole) = limit else {
+        return Outcome::None;
+    };
+    match 9 * whole / 10 {
+        0 => Outcome::Empty,
+        figure => match best_at(figure - 1) {
+            None => Outcome::Never,
+            Some(lower) => {
+                let first = best_at(figure).expect("what keeps less keeps more");
+                Outcome::Gap((first - lower) as i64)
+            }
+        },
+    }
+}
+
+pub fn outcomes(u: &Unit, prices: &[i64]) -> Outcomes {
+    let earned = |unit: Unit| best(&unit, prices).map(|(earned, _)| earned);
+    Outcomes {
+        starts: outcome(u.starts, |k| {
+            earned(Unit {
+                starts: Some(k),
+                ..*u
+            })
+        }),
+        hours: outcome(u.hours, |k| {
+            earned(Unit {
+                hours: Some(k),
+                ..*u
+            })
+        }),
+        mwh: outcome(u.mwh, |k| earned(Unit { mwh: Some(k), ..*u })),
+    }
+}
+
+pub fn cells(u: &Unit, n: usize) -> usize {
+    let n = n as u64;
+    let count = |limit: Option<u64>, most: u64| limit.map_or(0, |figure| figure.min(most));
+    let a = count(u.starts, n);
+    let b = count(u.hours.map(|h| 4 * h), n);
+    let c = count(u.mwh.map(|m| 4 * m / u.block), n * u.pmax);
+    ((n + 1) * (u.mot + u.mdt) * (a + 1) * (b + 1) * (c + 1)) as usize
+}
+
+/// A fraction rounded to a whole number, a half going up.
+fn rounded(numerator: i128, denominator: i128) -> u64 {
+    ((2 * numerator + denominator).div_euclid(2 * denominator)) as u64
+}
+
+pub fn figures(k: &CostInputs, mws: &[u64], heats: &[u64]) -> Result<CostFigures, Refused> {
+    let prices = [k.gas, k.transport, k.allowance, k.om, k.gmc];
+    let ranges = [k.block, k.pmin, k.pmax]
+        .iter()
+        .all(|x| (1..=500).contains(x))
+        && prices.iter().all(|x| *x <= 10_000)
+        && k.rate <= 1_000_000
+        && (1..=50_000).contains(&k.min_heat)
+        && k.fuel <= 100_000
+        && k.aux <= 1000
+        && k.minutes <= 1440
+        && k.start_adder <= 10_000_000
+        && k.load_adder <= 10_000_000
+        && mws.len() <= 10
+        && heats.len() <= 10
+        && mws.iter().all(|x| (1..=500).contains(x))
+        && heats.iter().all(|x| (1..=50_000).contains(x));
+    if !ranges {
+        return Err(3);
+    }
+    if k.pmin > k.pmax || k.pmax * k.block > 500 {
+        return Err(4);
+    }
+    let total: u64 = mws.iter().sum();
+    if total != (k.pmax - k.pmin) * k.block {
+        return Err(6);
+    }
+    if mws.len() != heats.len() {
+        return Err(7);
+    }
+    let int = |x: u64| i128::from(x);
+    let (gas, transport, om, gmc) = (int(k.gas), int(k.transport), int(k.om), int(k.gmc));
+    let (allowance, rate) = (int(k.allowance), int(k.rate));
+    let scale = 10_000_000;
+    let pmin_mw = int(k.pmin * k.block);
+    // (1), over 1000 x 10^7 x total
+    let weighted: i128 = mws
+        .iter()
+        .zip(heats)
+        .map(|(mw, heat)| int(*mw) * int(*heat))
+        .sum();
+    let vec = match int(total) {
+        0 => 0,
+        total => rounded(
+            weighted * ((gas + transport) * scale + allowance * rate) + om * 1000 * scale * total,
+            1000 * scale * total,
+        ),
+    };
+    // (2), over 120 x 10^7
+    let (fuel, aux, minutes) = (int(k.fuel), int(k.aux), int(k.minutes));
+    let whole = fuel * (gas + transport) + aux * 10 * gas + int(k.start_adder);
+    let suc = rounded(
+        whole * 120 * scale + fuel * allowance * rate * 120 + pmin_mw * minutes * gmc * scale,
+        120 * scale,
+    );
+    // (3), over 1000 x 10^7
+    let heat = int(k.min_heat);
+    let mlc = rounded(
+        heat * pmin_mw * (gas + transport) * scale
+            + allowance * rate * heat
+            + (om * pmin_mw + int(k.load_adder) + gmc * pmin_mw) * 1000 * scale,
+        1000 * scale,
+    );
+    Ok(CostFigures { vec, suc, mlc })
+}
