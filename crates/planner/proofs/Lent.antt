@@ -8,13 +8,11 @@ use lib.Dec.{leb}
 use lib.IntN.{ℤ, pos}
 use lib.ListN.{length, drop, replicate}
 use Rattle.commitment.specs.declared.Cause.the-variants.{Length, Scratch}
-use Rattle.commitment.specs.declared.Checked.{Checked}
-use Rattle.commitment.specs.declared.Checked.the-variants.{Passed, Refused}
+use Rattle.commitment.specs.declared.Checked.the-variants.{Passed}
 use Rattle.commitment.specs.declared.UnitRecord.{UnitRecord}
-use Rattle.commitment.specs.Causes.{checkedThen}
 use Rattle.commitment.specs.Cells.{layerCells, cellsNeeded}
 use Rattle.commitment.specs.Ranges.{caseChecked}
-use Rattle.commitment.proofs.Passing.{Passing, passing, unless-passed}
+use Rattle.commitment.proofs.Passing.{Passing, passing, unless-passed, then-passed}
 use Rattle.optimality.specs.declared.Figures.{Figures}
 use Rattle.optimality.specs.Cells.{Sound, states, figuresOf}
 use Rattle.optimality.proofs.Opening.{figures-sound}
@@ -24,10 +22,6 @@ use Rattle.layers.proofs.Widths.{width-is}
 use Rattle.planner.specs.Tables.{Worked}
 use Rattle.planner.specs.Planning.{scratchChecked, lentChecked, planLent, scratchAfter}
 use Rattle.planner.specs.Valuing.{valueLent}
-
-pub then-passed : (a b : Checked) → checkedThen a b ≡ Passed → (a ≡ Passed) × (b ≡ Passed)
-then-passed Passed b e = (refl, e)
-then-passed (Refused cause) b e = let z : _≡_ {A = ℕ} 0 1 = cc in absurd (omega arith)
 
 scratch-fits : (u : UnitRecord) (n scratch : ℕ) → scratchChecked u n scratch ≡ Passed → cellsNeeded u n ≤ scratch
 scratch-fits u n scratch e = leb-true (cellsNeeded u n) scratch (unless-passed (leb (cellsNeeded u n) scratch) Scratch Passed e .0)
