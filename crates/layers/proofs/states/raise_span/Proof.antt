@@ -46,7 +46,9 @@ raise-requires c κs =
     )
 
 raise-rows-requires : tie.Need-raise-rows-requires
-raise-rows-requires c κs = search needs
+raise-rows-requires c κs =
+    let o = c .before .before .before in
+    ((o .pre .0 .0, rw (plain-fits (o .fits .price)) (o .pre .0 .1), o .pre .0 .2, omega (arith, c .before .if1 .left, o .pre .0 .0 .perblock)), o .pre .1 .0)
 
 same-length : tie.Need-same-length
 same-length c = search needs
