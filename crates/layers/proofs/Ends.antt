@@ -99,8 +99,20 @@ margin-more price vec least mlc m n =
         → up c + o ≡ dn c + q
         → x -ℤ a -ℤ pos mlc ≡ (y -ℤ b -ℤ pos mlc) +ℤ (z -ℤ c -ℤ pos 0)
     added x y z a b c l o p q = λ none h i j k m.
-        omega (zarith, zdiff x a, zdiff (x -ℤ a) (pos mlc), zdiff y b, zdiff (y -ℤ b) (pos mlc), zdiff z c, zdiff (z -ℤ c) (pos 0),
-        zsum (y -ℤ b -ℤ pos mlc) (z -ℤ c -ℤ pos 0), up-pos mlc, dn-pos mlc, up-pos 0, dn-pos 0)
+        omega (
+          zarith,
+          zdiff x a,
+          zdiff (x -ℤ a) (pos mlc),
+          zdiff y b,
+          zdiff (y -ℤ b) (pos mlc),
+          zdiff z c,
+          zdiff (z -ℤ c) (pos 0),
+          zsum (y -ℤ b -ℤ pos mlc) (z -ℤ c -ℤ pos 0),
+          up-pos mlc,
+          dn-pos mlc,
+          up-pos 0,
+          dn-pos 0,
+        )
 
 -- so one block more adds the slope
 pub net-next : (f : Figures) (price : ℤ) (pays k : ℕ) → net f price pays (suc k) ≡ net f price pays k +ℤ slope f price

@@ -13,7 +13,7 @@ use Rattle.integers.proofs.Maximum.{max-is, max-least}
 use Rattle.layers.specs.Turns.{raised}
 
 -- one output of the fold
-abbrev pub step : (ℕ → Bool) → (ℕ → ℤ) → ℤ → ℕ → ℤ
+abbrev step : (ℕ → Bool) → (ℕ → ℤ) → ℤ → ℕ → ℤ
 step fits reach base k = cond (fits k) (maxℤ base (reach k)) base
 
 module _ (fits : ℕ → Bool) (reach : ℕ → ℤ) where

@@ -1,6 +1,6 @@
 -- A row raised by going up and down its sources in chunks as long as there are outputs: what one more block brings is always the same, so the
 -- best source so far is carried from place to place.
-use mathlib.Core.Path.{_≡_, refl, sym, ap, ap₂, _∙_}
+use mathlib.Core.Path.{_≡_, refl, sym, ap, _∙_}
 use mathlib.Core.Bool.{Bool, true, false}
 use mathlib.Core.List.{List}
 use mathlib.Core.Logic.{_⊎_, ⊎-elim, inl, inr}
@@ -10,20 +10,20 @@ use native.Mathlib.Numerals.{add-one}
 use native.Mathlib.Omega.{arith}
 use borrow.Author.Tests.{ltb-true, ltb-false, leb-true, le-leb}
 use lib.Dec.{ltb, leb}
-use lib.IntN.{ℤ, pos, negℤ, natAbs, _+ℤ_, _-ℤ_, _*ℤ_}
+use lib.IntN.{ℤ, pos, negℤ, natAbs, _+ℤ_}
 use lib.ListN.{getD}
 use lib.Signed.{_≤ℤ_, ≤ℤ-refl}
 use Rattle.integers.specs.Maximum.{maxℤ}
-use Rattle.integers.proofs.Linear.{up, dn, up-pos, dn-pos, up-neg, dn-neg, zarith, zsum, zdiff, ztimes, zmul}
+use Rattle.integers.proofs.Linear.{up-neg, dn-neg, zarith, zsum}
 use Rattle.integers.proofs.Order.{≤ℤ-trans, ≤ℤ-antisym, +ℤ-mono}
 use Rattle.integers.proofs.Ranges.{Within, within-abs, within-weaken, within-sum}
 use Rattle.integers.proofs.Maximum.{Max, max-is, max-least}
 use Rattle.optimality.specs.declared.Figures.{Figures}
-use Rattle.optimality.specs.Cells.{Sound, rungs}
+use Rattle.optimality.specs.Cells.{rungs}
 use Rattle.layers.specs.Layers.{row, swing}
-use Rattle.layers.specs.Turns.{net, slope, raised}
+use Rattle.layers.specs.Turns.{net, slope}
 use Rattle.layers.specs.Stretches.{Apart, bestSoFar, Climbed, Descended, Between, Past, bestOver, Reached, RowRaised}
-use Rattle.layers.proofs.Numbers.{row-is, in-row}
+use Rattle.layers.proofs.Numbers.{row-is}
 use Rattle.layers.proofs.Raising.{raised-above, raised-reach, raised-least}
 use Rattle.layers.proofs.Ends.{net-next}
 

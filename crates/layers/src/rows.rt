@@ -87,7 +87,15 @@ fn smaller(a: usize, b: usize) -> usize
 
 // A chunk of sources, from a on as many as there are outputs. A cell's sources are the last of one chunk and the first of the next, so going up
 // and going down each chunk counts them all; down only from where the highest output stays in the row.
-fn raise_chunk(scratch: &mut [i64], to: usize, from: usize, f: Figures, price: i64, pays: usize, a: usize)
+fn raise_chunk(
+    scratch: &mut [i64],
+    to: usize,
+    from: usize,
+    f: Figures,
+    price: i64,
+    pays: usize,
+    a: usize,
+)
     requires { ⌜ (Sound f) × (natAbs price ≤ 200000) × (pays ≤ 16000000000) × (f .perblock ≡ 1) × (a + f .pmax ≤ f .blocks) ⌝ }
     requires { ⌜ (to + row f ≤ from) × (from + row f ≤ length (now scratch)) × (Small (now scratch) from (row f)) ⌝ }
     ensures { λ _. ⌜ Reached f price pays (Between f a (a + rungs f)) (now (scratch .entry)) (now (scratch .exit)) to from ⌝ }
@@ -115,7 +123,14 @@ fn raise_last(scratch: &mut [i64], to: usize, from: usize, f: Figures, price: i6
     if a + low < cells {
         let rise = steps::slope(f, price);
         let least = steps::net(f, price, pays, low);
-        climb(scratch, to + (a + low), from + a, cells - (a + low), least, rise);
+        climb(
+            scratch,
+            to + (a + low),
+            from + a,
+            cells - (a + low),
+            least,
+            rise,
+        );
     }
 }
 

@@ -1,5 +1,5 @@
 -- The invariant: the best is carried to place i, the numbers before it are raised, and all else is as it was. The turns left fall.
-use mathlib.Core.Path.{_≡_, refl, sym, ap, _∙_}
+use mathlib.Core.Path.{_≡_, sym, ap, _∙_}
 use mathlib.Core.Logic.{inr}
 use Prim.Native.Nat.{ℕ, _+_, _-_, _*_, _^_, _≤_, _<_}
 use native.Mathlib.Nat.{add-zero}
@@ -19,9 +19,6 @@ use Rattle.layers.proofs.Stretches.{Made, made-none, made-next}
 use Rattle.layers.proofs.Windows.{Carried, carried-first, carried-next, carried-risen, carried-gained}
 use Rattle.layers.proofs.rows.climb.Statement.{statement}
 use Rattle.layers.proofs.rows.climb.Tie as tie
-use Rattle.layers.proofs.rows.climb.Reads as reads
-use Rattle.layers.proofs.rows.climb.Lts as lts
-use Rattle.integers.proofs.larger.Reads as larger-reads
 
 abbrev number : List ℤ → ℕ → ℕ → ℤ
 number s from j = getD s (from + j) (pos 0)

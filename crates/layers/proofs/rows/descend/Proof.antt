@@ -1,5 +1,5 @@
 -- The invariant: the best is carried down to place i, the numbers from there on are raised, and all else is as it was. The turns left fall.
-use mathlib.Core.Path.{_≡_, refl, sym, subst, ap, _∙_}
+use mathlib.Core.Path.{_≡_, sym, ap, _∙_}
 use mathlib.Core.Logic.{⊎-elim, inl, inr}
 use Prim.Native.Nat.{ℕ, _+_, _-_, _*_, _^_, _≤_, _<_}
 use native.Mathlib.Nat.{sub-zero}
@@ -19,9 +19,6 @@ use Rattle.layers.proofs.Stretches.{MadeDown, made-down-none, made-down
 use Rattle.layers.proofs.Windows.{Carried, carried-first, carried-next, carried-risen, carried-gained}
 use Rattle.layers.proofs.rows.descend.Statement.{statement}
 use Rattle.layers.proofs.rows.descend.Tie as tie
-use Rattle.layers.proofs.rows.descend.Reads as reads
-use Rattle.layers.proofs.rows.descend.Lts as lts
-use Rattle.integers.proofs.larger.Reads as larger-reads
 
 -- the numbers from the last down
 abbrev number : List ℤ → ℕ → ℕ → ℕ → ℤ

@@ -1,7 +1,7 @@
 -- Going up and then down the chunk, by the law of a chunk.
 use mathlib.Core.Path.{_≡_, _∙_}
 use mathlib.Core.Logic.{inr}
-use Prim.Native.Nat.{_+_, _-_, _≤_, min}
+use Prim.Native.Nat.{_+_, _-_, _≤_}
 use native.Mathlib.Nat.{add-assoc}
 use native.Mathlib.Omega.{arith}
 use borrow.Author.Needs.{needs}
@@ -15,13 +15,6 @@ use Rattle.layers.proofs.Turning.{pmax-most, net-small, slope-small}
 use Rattle.layers.proofs.Windows.{row-chunk}
 use Rattle.layers.proofs.rows.raise_chunk.Statement.{statement}
 use Rattle.layers.proofs.rows.raise_chunk.Tie as tie
-use Rattle.layers.proofs.rows.raise_chunk.Reads as reads
-use Rattle.layers.proofs.rows.raise_chunk.Lts as lts
-use Rattle.layers.proofs.rows.climb.Reads as climb-reads
-use Rattle.layers.proofs.rows.descend.Reads as descend-reads
-use Rattle.layers.proofs.rows.smaller.Reads as smaller-reads
-use Rattle.layers.proofs.steps.net.Reads as net-reads
-use Rattle.layers.proofs.steps.slope.Reads as slope-reads
 
 -- what one block more and what the lowest and the highest output bring, as they are handed on
 rise : (c : tie.After-slope) → let a = c .before .before .before .args in toZ w64 (ofZ w64 (c .slope .result)) ≡ slope (a .f) (a .price)

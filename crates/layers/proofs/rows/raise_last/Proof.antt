@@ -13,12 +13,6 @@ use Rattle.layers.proofs.Turning.{pmax-most, net-small, slope-small}
 use Rattle.layers.proofs.Windows.{row-last, row-no-last}
 use Rattle.layers.proofs.rows.raise_last.Statement.{statement}
 use Rattle.layers.proofs.rows.raise_last.Tie as tie
-use Rattle.layers.proofs.rows.raise_last.Reads as reads
-use Rattle.layers.proofs.rows.raise_last.Lts as lts
-use Rattle.layers.proofs.rows.climb.Reads as climb-reads
-use Rattle.layers.proofs.rows.smaller.Reads as smaller-reads
-use Rattle.layers.proofs.steps.net.Reads as net-reads
-use Rattle.layers.proofs.steps.slope.Reads as slope-reads
 
 -- the first of them, and what one block more and the lowest output bring
 first : (c : tie.After-smaller) →

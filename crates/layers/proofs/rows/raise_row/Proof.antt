@@ -1,25 +1,20 @@
 -- The invariant: the sources before a are counted where their highest output stays in the row. The sources left fall.
 use mathlib.Core.Path.{_≡_, refl, _∙_}
-use mathlib.Core.List.{List}
 use mathlib.Core.Logic.{inr}
-use Prim.Native.Nat.{ℕ, _+_, _-_, _*_, _≤_}
+use Prim.Native.Nat.{_+_, _-_, _≤_}
 use native.Mathlib.Omega.{arith}
-use lib.IntN.{ℤ, natAbs}
+use lib.IntN.{natAbs}
 use lib.ListN.{length}
 use mir.Syntax.{w64}
 use mir.Val.{toZ, ofZ}
 use Rattle.integers.proofs.Ranges.{plain-fits}
 use Rattle.optimality.specs.Cells.{rungs}
 use Rattle.layers.specs.Layers.{row}
-use Rattle.layers.specs.Stretches.{Apart, Small, Between, Reached}
+use Rattle.layers.specs.Stretches.{Small, Between, Reached}
 use Rattle.layers.proofs.Turning.{pmax-most}
 use Rattle.layers.proofs.Windows.{row-first, row-next, row-done}
 use Rattle.layers.proofs.rows.raise_row.Statement.{statement}
 use Rattle.layers.proofs.rows.raise_row.Tie as tie
-use Rattle.layers.proofs.rows.raise_row.Reads as reads
-use Rattle.layers.proofs.rows.raise_row.Lts as lts
-use Rattle.layers.proofs.rows.raise_chunk.Reads as raise-chunk-reads
-use Rattle.layers.proofs.rows.raise_last.Reads as raise-last-reads
 
 abbrev Inv-loop : tie.InvT-loop
 Inv-loop scratch₀ to from f price pays low high cells size a₀ scratch a =

@@ -1,7 +1,5 @@
 -- What `commitment::margin` says of one block alone.
-use Prim.Native.Nat.{_*_, _≤_}
 use mathlib.Core.Path.{_∙_}
-use native.Mathlib.Nat.{mul-le-mul-left, mul-le-mul-right}
 use native.Mathlib.Omega.{arith}
 use Rattle.integers.proofs.Ranges.{plain-fits}
 use Rattle.layers.proofs.Turning.{block-most}
