@@ -49,7 +49,8 @@ pub fn raise(scratch: &mut [i64], to: usize, from: usize, count: usize, gain: i6
     }
 }
 
-// Up a stretch that lies behind, with the best of its numbers so far, which gains the rise at every place: each number is raised to that plus the gain.
+// Up a stretch that lies behind with the best of its numbers so far, which gains the rise at every place. Each number of the stretch at `to` is
+// raised to that plus the gain.
 fn climb(scratch: &mut [i64], to: usize, from: usize, count: usize, gain: i64, rise: i64)
     requires { ⌜ (1 ≤ count) × (count ≤ 500) × (to + count ≤ from) × (from + count ≤ length (now scratch)) ⌝ }
     requires { ⌜ (Small (now scratch) from count) × (natAbs gain ≤ swing) × (natAbs rise ≤ swing) ⌝ }
@@ -64,7 +65,7 @@ fn climb(scratch: &mut [i64], to: usize, from: usize, count: usize, gain: i64, r
     }
 }
 
-// The same down the stretch, where the best loses the rise at every place.
+// The same down the stretch: there the best loses the rise at every place.
 fn descend(scratch: &mut [i64], to: usize, from: usize, count: usize, gain: i64, rise: i64)
     requires { ⌜ (1 ≤ count) × (count ≤ 500) × (to + count ≤ from) × (from + count ≤ length (now scratch)) ⌝ }
     requires { ⌜ (Small (now scratch) from count) × (natAbs gain ≤ swing) × (natAbs rise ≤ swing) ⌝ }
@@ -85,8 +86,8 @@ fn smaller(a: usize, b: usize) -> usize
     if a <= b { a } else { b }
 }
 
-// A chunk of sources, from a on as many as there are outputs. A cell's sources are the last of one chunk and the first of the next, so going up
-// and going down each chunk counts them all; down only from where the highest output stays in the row.
+// A chunk of a row's sources: from a on, as many as there are outputs. A cell's sources are the last of one chunk and the first of the next, so
+// all are counted by going up each chunk and down it again, down only from where the highest output stays in the row.
 fn raise_chunk(
     scratch: &mut [i64],
     to: usize,
@@ -120,17 +121,11 @@ fn raise_last(scratch: &mut [i64], to: usize, from: usize, f: Figures, price: i6
     let low = f.pmin;
     let cells = f.blocks + 1;
     let a = cells - smaller(f.pmax, cells);
-    if a + low < cells {
+    let first = a + low;
+    if first < cells {
         let rise = steps::slope(f, price);
         let least = steps::net(f, price, pays, low);
-        climb(
-            scratch,
-            to + (a + low),
-            from + a,
-            cells - (a + low),
-            least,
-            rise,
-        );
+        climb(scratch, to + first, from + a, cells - first, least, rise);
     }
 }
 

@@ -35,8 +35,8 @@ smaller-requires c κs = search needs
 sub-a : tie.Need-sub-a
 sub-a c = search needs
 
-add-if1 : tie.Need-add-if1
-add-if1 c = search needs
+add-first : tie.Need-add-first
+add-first c = search needs
 
 slope-requires : tie.Need-slope-requires
 slope-requires c κs = search needs
@@ -49,12 +49,6 @@ add-climb c = search needs
 
 add-climb-2 : tie.Need-add-climb-2
 add-climb-2 c = search needs
-
-add-climb-3 : tie.Need-add-climb-3
-add-climb-3 c = search needs
-
-add-climb-4 : tie.Need-add-climb-4
-add-climb-4 c = search needs
 
 sub-climb : tie.Need-sub-climb
 sub-climb c = search needs
@@ -108,13 +102,11 @@ raise-last-spec =
     add-cells
     smaller-requires
     sub-a
-    add-if1
+    add-first
     slope-requires
     net-requires
     add-climb
     add-climb-2
-    add-climb-3
-    add-climb-4
     sub-climb
     climb-requires
     same-length
