@@ -1,144 +1,44 @@
 -- A row raised by going up and down its sources in chunks as long as there are outputs: what one more block brings is always the same, so the
 -- best source so far is carried from place to place.
-use mathlib.Core.Path.{_≡_, refl, sym, ap, _∙_}
+use mathlib.Core.Path.{_≡_, refl, ap, _∙_}
 use mathlib.Core.Bool.{Bool, true, false}
 use mathlib.Core.List.{List}
 use mathlib.Core.Logic.{_⊎_, ⊎-elim, inl, inr}
-use Prim.Native.Nat.{ℕ, zero, suc, _+_, _-_, _*_, _^_, _≤_, _<_, min}
+use Prim.Native.Nat.{ℕ, suc, _+_, _-_, _*_, _≤_, _<_, min}
 use native.Mathlib.Nat.{add-zero, add-assoc, sub-zero, mul-one}
-use native.Mathlib.Numerals.{add-one}
 use native.Mathlib.Omega.{arith}
 use borrow.Author.Tests.{ltb-true, ltb-false, leb-true, le-leb}
 use lib.Dec.{ltb, leb}
-use lib.IntN.{ℤ, pos, negℤ, natAbs, _+ℤ_}
+use lib.IntN.{ℤ, pos, negℤ, _+ℤ_}
 use lib.ListN.{getD}
 use lib.Signed.{_≤ℤ_, ≤ℤ-refl}
 use Rattle.integers.specs.Maximum.{maxℤ}
 use Rattle.integers.proofs.Linear.{up-neg, dn-neg, zarith, zsum}
-use Rattle.integers.proofs.Order.{≤ℤ-trans, ≤ℤ-antisym, +ℤ-mono}
-use Rattle.integers.proofs.Ranges.{Within, within-abs, within-weaken, within-sum}
-use Rattle.integers.proofs.Maximum.{Max, max-is, max-least}
+use Rattle.integers.proofs.Order.{≤ℤ-trans, ≤ℤ-antisym}
+use Rattle.integers.proofs.Maximum.{max-is, max-least}
 use Rattle.optimality.specs.declared.Figures.{Figures}
 use Rattle.optimality.specs.Cells.{rungs}
-use Rattle.layers.specs.Layers.{row, swing}
+use Rattle.layers.specs.Layers.{row}
 use Rattle.layers.specs.Turns.{net, slope}
 use Rattle.layers.specs.Stretches.{Apart, bestSoFar, Climbed, Descended, Between, Past, bestOver, Reached, RowRaised}
 use Rattle.layers.proofs.Numbers.{row-is}
 use Rattle.layers.proofs.Raising.{raised-above, raised-reach, raised-least}
 use Rattle.layers.proofs.Ends.{net-next}
-
--- ---- the best so far
-
-module _ (number : ℕ → ℤ) (rise : ℤ) where
-  pub best-first : bestSoFar number rise 0 ≡ number 0
-  unfolding bestSoFar
-  best-first = refl
-
-  pub best-next : (i : ℕ) → bestSoFar number rise (suc i) ≡ maxℤ (number (suc i)) (bestSoFar number rise i +ℤ rise)
-  unfolding bestSoFar
-  best-next i = refl
-
-  -- where what a number brings rises the same from place to place
-  module _ (brings : ℕ → ℤ) (gain : ℤ) (first : brings 0 ≡ gain) where
-    pub record Source (i : ℕ) (v : ℤ) : Type 0 where
-      pub at : ℕ
-      pub at≤ : at ≤ i
-      pub is : v ≡ number at +ℤ brings (i - at)
-
-    regroup : (x a b c : ℤ) → c ≡ a +ℤ b → x +ℤ c ≡ x +ℤ a +ℤ b
-    regroup x a b c e = rw e (omega (zarith, zsum a b, zsum x (a +ℤ b), zsum x a, zsum (x +ℤ a) b))
-
-    swap : (x a b : ℤ) → x +ℤ b +ℤ a ≡ x +ℤ a +ℤ b
-    swap x a b = omega (zarith, zsum x b, zsum (x +ℤ b) a, zsum x a, zsum (x +ℤ a) b)
-
-    pub best-source : (i : ℕ) → ((n : ℕ) → n < i → brings (suc n) ≡ brings n +ℤ rise) → Source i (bestSoFar number rise i +ℤ gain)
-    unfolding bestSoFar
-    best-source zero h = record { at = 0; at≤ = omega arith; is = rw first }
-    best-source (suc i) h =
-        ⊎-elim
-        (λ (e : maxℤ (number (suc i)) (bestSoFar number rise i +ℤ rise) ≡ number (suc i)).
-        let n : suc i - suc i ≡ 0 = omega arith in
-        record { at = suc i; at≤ = omega arith; is = rw (e, n, first) })
-        (λ (e : maxℤ (number (suc i)) (bestSoFar number rise i +ℤ rise) ≡ bestSoFar number rise i +ℤ rise).
-        rw e (later (best-source i (λ n l. h n (omega arith)))))
-        (max-is (number (suc i)) (bestSoFar number rise i +ℤ rise) .one-of)
-      where
-        later : Source i (bestSoFar number rise i +ℤ gain) → Source (suc i) (bestSoFar number rise i +ℤ rise +ℤ gain)
-        later s =
-            let n : suc i - s .at ≡ suc (i - s .at) = omega (arith, s .at≤) in
-            record {
-              at = s .at;
-              at≤ = omega (arith, s .at≤);
-              is = rw n (swap (bestSoFar number rise i) gain rise ∙ ap (λ (x : ℤ). x +ℤ rise) (s .is)
-                  ∙ sym (regroup (number (s .at)) (brings (i - s .at)) rise (brings (suc (i - s .at))) (h (i - s .at) (omega arith))));
-            }
-
-    pub best-reach : (i j : ℕ) → j ≤ i → ((n : ℕ) → n < i → brings (suc n) ≡ brings n +ℤ rise) → (number j +ℤ brings (i - j)) ≤ℤ (bestSoFar number rise i +ℤ gain)
-    unfolding bestSoFar
-    best-reach zero j l h = let e : j ≡ 0 = omega arith in rw (e, first) (≤ℤ-refl (number 0 +ℤ gain))
-    best-reach (suc i) j l h = by (ltb j (suc i)) refl (λ k. best-reach i j k (λ n b. h n (omega arith)))
-      where
-        top : Max (number (suc i)) (bestSoFar number rise i +ℤ rise) (maxℤ (number (suc i)) (bestSoFar number rise i +ℤ rise))
-        top = max-is (number (suc i)) (bestSoFar number rise i +ℤ rise)
-
-        by : (t : Bool) → ltb j (suc i) ≡ t → (j ≤ i → (number j +ℤ brings (i - j)) ≤ℤ (bestSoFar number rise i +ℤ gain))
-            → (number j +ℤ brings (suc i - j)) ≤ℤ (maxℤ (number (suc i)) (bestSoFar number rise i +ℤ rise) +ℤ gain)
-        by true e before =
-            let k = ltb-true j (suc i) e in
-            let n : suc i - j ≡ suc (i - j) = omega arith in
-            rw (n, regroup (number j) (brings (i - j)) rise (brings (suc (i - j))) (h (i - j) (omega arith)))
-            (≤ℤ-trans (+ℤ-mono (before (omega arith)) (≤ℤ-refl rise))
-            (rw (← swap (bestSoFar number rise i) gain rise) (+ℤ-mono (top .right) (≤ℤ-refl gain))))
-        by false e before =
-            let k = ltb-false j (suc i) e in
-            let q : j ≡ suc i = omega arith in
-            let n : suc i - suc i ≡ 0 = omega arith in
-            rw (q, n, first) (+ℤ-mono (top .left) (≤ℤ-refl gain))
-
--- ---- the best as it is carried to a place, before the number there is passed
-
-pub record Carried (number : ℕ → ℤ) (rise : ℤ) (i : ℕ) (b : ℤ) : Type 0 where
-  pub next : maxℤ (number i) (b +ℤ rise) ≡ bestSoFar number rise i
-  pub size : Within (2 ^ 62 + (i + 1) * swing) b
-
-module _ (number : ℕ → ℤ) (rise : ℤ) (small : Within swing rise) where
-  pub carried-first : (b : ℤ) → b +ℤ rise ≡ number 0 → Within (2 ^ 62 + swing) b → Carried number rise 0 b
-  carried-first b e w = record { next = rw (e, best-first number rise) (max-same (number 0)); size = within-weaken (omega arith) w }
-    where
-      max-same : (x : ℤ) → maxℤ x x ≡ x
-      max-same x = ⊎-elim (λ e. e) (λ e. e) (max-is x x .one-of)
-
-  module _ (i : ℕ) (b : ℤ) (c : Carried number rise i b) where
-    risen : Within (2 ^ 62 + (i + 2) * swing) (b +ℤ rise)
-    risen = within-weaken (omega arith) (within-sum (c .size) small)
-
-    best-size : Within (2 ^ 62) (number i) → Within (2 ^ 62 + (i + 2) * swing) (bestSoFar number rise i)
-    best-size h =
-        rw (← c .next)
-        (⊎-elim (λ e. rw e (within-weaken (omega arith) h)) (λ e. rw e risen) (max-is (number i) (b +ℤ rise) .one-of))
-
-    pub carried-next : Within (2 ^ 62) (number i) → Carried number rise (i + 1) (bestSoFar number rise i)
-    carried-next h =
-        record { next = rw (add-one i) (sym (best-next number rise i)); size = within-weaken (omega arith) (best-size h) }
-
-    pub carried-risen : i < 500 → Within (2 ^ 62 + 502 * swing) (b +ℤ rise)
-    carried-risen l = within-weaken (omega arith) risen
-
-    pub carried-gained : Within (2 ^ 62) (number i) → (gain : ℤ) → natAbs gain ≤ swing → i < 500 → Within (2 ^ 62 + 502 * swing) (bestSoFar number rise i +ℤ gain)
-    carried-gained h gain g l = within-weaken (omega arith) (within-sum (best-size h) (within-weaken g (within-abs gain)))
+use Rattle.layers.proofs.Carrying.{Source, best-source, best-reach}
 
 -- a cell past those that going up a chunk reaches is one that going down does; and a source that stays in the row is on the way down
 past-up : (lo hi a z : ℕ) → lo ≤ hi → a + (hi - lo + 1) ≤ z - lo → a + hi ≤ z
 past-up lo hi a z some h = omega arith
 
-on-way-down : (lo hi blocks a down x : ℕ) → lo ≤ hi → down ≡ min (hi - lo + 1) (blocks + 1 - hi - a) → x < a + (suc hi - lo) → x + hi ≤ blocks → x < a + down
+on-way-down : (lo hi blocks a down x : ℕ) → lo ≤ hi → down ≡ min (hi - lo + 1) (blocks + 1 - hi - a) → x < a + (suc hi - lo) → x + hi ≤ blocks
+    → x < a + down
 on-way-down lo hi blocks a down x some e h l = omega arith
 
 -- ---- the best over the outputs of a cell, where a block takes one
 
 module _ (f : Figures) (price : ℤ) (pays : ℕ) where
   -- what an output reaches, whose cell stands so many blocks further down
-  abbrev pub reaching : List ℤ → ℕ → ℕ → ℕ → ℤ
+  abbrev reaching : List ℤ → ℕ → ℕ → ℕ → ℤ
   reaching s from z k = getD s (from + (z - k)) (pos 0) +ℤ net f price pays k
 
   -- a number that an output of the cell reaches
@@ -181,7 +81,7 @@ module _ (f : Figures) (price : ℤ) (pays : ℕ) where
     -- ---- one pass after the other, until no output of a cell is left
 
     module _ (P Q R : ℕ → ℕ → Type 0) (was s t : List ℤ) (behind : to + row f ≤ from) where
-      pub reached-then : ((z k : ℕ) → z ≤ f .blocks → f .pmin ≤ k → k ≤ f .pmax → k ≤ z → R z k → P z k ⊎ Q z k)
+      reached-then : ((z k : ℕ) → z ≤ f .blocks → f .pmin ≤ k → k ≤ f .pmax → k ≤ z → R z k → P z k ⊎ Q z k)
           → Reached f price pays P was s to from → Reached f price pays Q s t to from → Reached f price pays R was t to from
       reached-then cover old new =
           record {
@@ -192,7 +92,8 @@ module _ (f : Figures) (price : ℤ) (pays : ℕ) where
                 (λ k lo hi fit. over-reach one was from z (getD was (to + z) (pos 0)) (reaching s from z k)
                 (record { of = k; low = lo; high = hi; fits = fit; is = same z k })));
             reach = λ z k h lo hi fit of.
-                ⊎-elim (λ (p : P z k). ≤ℤ-trans (old .reach z k h lo hi fit p) (new .above z h)) (λ (q : Q z k). rw (same z k) at (new .reach z k h lo hi fit q))
+                ⊎-elim (λ (p : P z k). ≤ℤ-trans (old .reach z k h lo hi fit p) (new .above z h))
+                (λ (q : Q z k). rw (same z k) at (new .reach z k h lo hi fit q))
                 (cover z k h lo hi fit of);
             apart = λ j out. new .apart j out ∙ old .apart j out;
           }
@@ -200,7 +101,7 @@ module _ (f : Figures) (price : ℤ) (pays : ℕ) where
           same : (z k : ℕ) → reaching s from z k ≡ reaching was from z k
           same z k = ap (λ (x : ℤ). x +ℤ net f price pays k) (old .apart (from + (z - k)) (inr (omega arith)))
 
-    pub reached-all : (P : ℕ → ℕ → Type 0) (was s : List ℤ) → ((z k : ℕ) → z ≤ f .blocks → f .pmin ≤ k → k ≤ f .pmax → k ≤ z → P z k)
+    reached-all : (P : ℕ → ℕ → Type 0) (was s : List ℤ) → ((z k : ℕ) → z ≤ f .blocks → f .pmin ≤ k → k ≤ f .pmax → k ≤ z → P z k)
         → Reached f price pays P was s to from → RowRaised f price pays was s to from
     reached-all P was s all r =
         record {
@@ -213,12 +114,12 @@ module _ (f : Figures) (price : ℤ) (pays : ℕ) where
 
     -- ---- one pass: the cells from z₀ on are raised to `v`
 
-    module _ (Of : ℕ → ℕ → Type 0) (s t : List ℤ) (z₀ count at : ℕ) (v : ℕ → ℤ) (here : at ≡ to + z₀) (fits : z₀ + count ≤ row f) where
+    module _ (Of : ℕ → ℕ → Type 0) (s t : List ℤ) (z₀ count : ℕ) (v : ℕ → ℤ) (fits : z₀ + count ≤ row f) where
       record Written (z : ℕ) : Type 0 where
         is : getD t (to + z) (pos 0) ≡ maxℤ (getD s (to + z) (pos 0)) (v (z - z₀))
         output : Output s from z (v (z - z₀))
 
-      pass : ((i : ℕ) → i < count → getD t (at + i) (pos 0) ≡ maxℤ (getD s (at + i) (pos 0)) (v i)) → Apart s t at count
+      pass : ((i : ℕ) → i < count → getD t (to + z₀ + i) (pos 0) ≡ maxℤ (getD s (to + z₀ + i) (pos 0)) (v i)) → Apart s t (to + z₀) count
           → ((i : ℕ) → i < count → Output s from (z₀ + i) (v i))
           → ((z k : ℕ) → f .pmin ≤ k → k ≤ f .pmax → k ≤ z → Of z k → (z₀ ≤ z) × (z < z₀ + count) × (reaching s from z k ≤ℤ v (z - z₀)))
           → Reached f price pays Of s t to from
@@ -243,7 +144,7 @@ module _ (f : Figures) (price : ℤ) (pays : ℕ) where
         where
           written : (z : ℕ) → z₀ ≤ z → z < z₀ + count → Written z
           written z lo hi =
-              let e : at + (z - z₀) ≡ to + z = omega arith in
+              let e : to + z₀ + (z - z₀) ≡ to + z = omega arith in
               let n : z₀ + (z - z₀) ≡ z = omega arith in
               record { is = rw e at (inside (z - z₀) (omega arith)); output = rw n at (output (z - z₀) (omega arith)) }
 
@@ -257,15 +158,15 @@ module _ (f : Figures) (price : ℤ) (pays : ℕ) where
 
     -- ---- up and down the sources from a on
 
-    module _ (s t : List ℤ) (a count at source : ℕ) (there : source ≡ from + a) (few : count ≤ rungs f) where
-      pub climb-reached : at ≡ to + (a + f .pmin) → a + f .pmin + count ≤ row f
-          → Climbed s t at source count (net f price pays (f .pmin)) (slope f price)
+    module _ (s t : List ℤ) (a count : ℕ) (few : count ≤ rungs f) where
+      climb-reached : a + f .pmin + count ≤ row f
+          → Climbed s t (to + (a + f .pmin)) (from + a) count (net f price pays (f .pmin)) (slope f price)
           → Reached f price pays (λ z k. (a ≤ z - k) × (z - f .pmin < a + count)) s t to from
-      climb-reached here room new =
-          pass (λ z k. (a ≤ z - k) × (z - f .pmin < a + count)) s t (a + f .pmin) count at v here room (new .inside) (new .apart) output reach
+      climb-reached room new =
+          pass (λ z k. (a ≤ z - k) × (z - f .pmin < a + count)) s t (a + f .pmin) count v room (new .inside) (new .apart) output reach
         where
           number : ℕ → ℤ
-          number j = getD s (source + j) (pos 0)
+          number j = getD s (from + a + j) (pos 0)
 
           brings : ℕ → ℤ
           brings n = net f price pays (f .pmin + n)
@@ -285,24 +186,25 @@ module _ (f : Figures) (price : ℤ) (pays : ℕ) where
               given : Source number (slope f price) brings _ first i (v i) → Output s from (a + f .pmin + i) (v i)
               given b =
                   let k = f .pmin + (i - b .at) in
-                  let e : source + b .at ≡ from + (a + f .pmin + i - k) = omega (arith, b .at≤) in
+                  let e : from + a + b .at ≡ from + (a + f .pmin + i - k) = omega (arith, b .at≤) in
                   record { of = k; low = omega arith; high = omega arith; fits = omega arith; is = rw (← e) (b .is) }
 
           reach : (z k : ℕ) → f .pmin ≤ k → k ≤ f .pmax → k ≤ z → (a ≤ z - k) × (z - f .pmin < a + count)
               → (a + f .pmin ≤ z) × (z < a + f .pmin + count) × (reaching s from z k ≤ℤ v (z - (a + f .pmin)))
           reach z k lo hi fit of =
-              let e : source + (z - k - a) ≡ from + (z - k) = omega arith in
+              let e : from + a + (z - k - a) ≡ from + (z - k) = omega arith in
               let n : f .pmin + (z - (a + f .pmin) - (z - k - a)) ≡ k = omega arith in
-              (omega arith, omega arith, rw (e, n) at (best-reach number (slope f price) brings _ first (z - (a + f .pmin)) (z - k - a) (omega arith) (λ n l. rises n)))
+              let above = best-reach number (slope f price) brings _ first (z - (a + f .pmin)) (z - k - a) (omega arith) (λ n l. rises n) in
+              (omega arith, omega arith, rw (e, n) at above)
 
-      pub descend-reached : at ≡ to + (a + f .pmax) → a + f .pmax + count ≤ row f → f .pmin ≤ f .pmax
-          → Descended s t at source count (net f price pays (f .pmax)) (slope f price)
+      descend-reached : a + f .pmax + count ≤ row f → f .pmin ≤ f .pmax
+          → Descended s t (to + (a + f .pmax)) (from + a) count (net f price pays (f .pmax)) (slope f price)
           → Reached f price pays (λ z k. (a + f .pmax ≤ z) × (z - k < a + count)) s t to from
-      descend-reached here room some new =
-          pass (λ z k. (a + f .pmax ≤ z) × (z - k < a + count)) s t (a + f .pmax) count at v here room (new .inside) (new .apart) output reach
+      descend-reached room some new =
+          pass (λ z k. (a + f .pmax ≤ z) × (z - k < a + count)) s t (a + f .pmax) count v room (new .inside) (new .apart) output reach
         where
           number : ℕ → ℤ
-          number j = getD s (source + (count - 1 - j)) (pos 0)
+          number j = getD s (from + a + (count - 1 - j)) (pos 0)
 
           brings : ℕ → ℤ
           brings n = net f price pays (f .pmax - n)
@@ -341,8 +243,8 @@ module _ (f : Figures) (price : ℤ) (pays : ℕ) where
                   let r : f .pmax - (count - 1 - i - j) ≤ a + f .pmax + i = omega arith in
                   let l = lowest (f .pmin) (f .pmax) (count - 1 - i - j) some (omega arith) in
                   let p = placed (f .pmax) (count - 1 - i) j (b .at≤) (omega arith) in
-                  let e : source + (count - 1 - j) ≡ from + (a + f .pmax + i - (f .pmax - (count - 1 - i - j))) =
-                  rw (p, q, there) (add-assoc from a (count - 1 - j)) in
+                  let e : from + a + (count - 1 - j) ≡ from + (a + f .pmax + i - (f .pmax - (count - 1 - i - j))) =
+                  rw (p, q) (add-assoc from a (count - 1 - j)) in
                   record { of = f .pmax - (count - 1 - i - j); low = l; high = h; fits = r; is = rw (← e) (b .is) }
 
           reach : (z k : ℕ) → f .pmin ≤ k → k ≤ f .pmax → k ≤ z → (a + f .pmax ≤ z) × (z - k < a + count)
@@ -353,14 +255,15 @@ module _ (f : Figures) (price : ℤ) (pays : ℕ) where
               let l : i ≤ d = omega arith in
               let r : d < count = omega arith in
               let m : z < a + f .pmax + count = omega arith in
-              let x : source + d ≡ from + (z - k) = omega arith in
+              let x : from + a + d ≡ from + (z - k) = omega arith in
               let y : f .pmax - (d - i) ≡ k = omega arith in
               let b = back count i d l r in
-              let e : source + (count - 1 - (count - 1 - d)) ≡ from + (z - k) = rw (b .1) x in
+              let e : from + a + (count - 1 - (count - 1 - d)) ≡ from + (z - k) = rw (b .1) x in
               let n : f .pmax - (count - 1 - i - (count - 1 - d)) ≡ k = rw (b .2) y in
               (of .0, m, rw (e, n) at (best-reach number (negℤ (slope f price)) brings _ first (count - 1 - i) (count - 1 - d) (b .0) (falls-before i)))
             where
-              back : (count i d : ℕ) → i ≤ d → d < count → (count - 1 - d ≤ count - 1 - i) × (count - 1 - (count - 1 - d) ≡ d) × (count - 1 - i - (count - 1 - d) ≡ d - i)
+              back : (count i d : ℕ) → i ≤ d → d < count
+                  → (count - 1 - d ≤ count - 1 - i) × (count - 1 - (count - 1 - d) ≡ d) × (count - 1 - i - (count - 1 - d) ≡ d - i)
               back count i d h k = (omega arith, omega arith, omega arith)
 
     -- ---- a row: chunk by chunk while the highest output stays in it, then the sources that are left
@@ -396,8 +299,8 @@ module _ (f : Figures) (price : ℤ) (pays : ℕ) where
           t
           behind
           cover
-          (climb-reached was s a (f .pmax - f .pmin + 1) (to + (a + f .pmin)) (from + a) refl (omega arith) refl (omega (arith, row-is f)) climbed)
-          (descend-reached s t a down (to + (a + f .pmax)) (from + a) refl (omega arith) refl (omega (arith, row-is f)) some descended)
+          (climb-reached was s a (f .pmax - f .pmin + 1) (omega arith) (omega (arith, row-is f)) climbed)
+          (descend-reached s t a down (omega arith) (omega (arith, row-is f)) some descended)
         where
           cover : (z k : ℕ) → z ≤ f .blocks → f .pmin ≤ k → k ≤ f .pmax → k ≤ z → Between f a (a + rungs f) z k
               → ((a ≤ z - k) × (z - f .pmin < a + (f .pmax - f .pmin + 1))) ⊎ ((a + f .pmax ≤ z) × (z - k < a + down))
@@ -406,13 +309,16 @@ module _ (f : Figures) (price : ℤ) (pays : ℕ) where
               by : (b : Bool) → ltb (z - f .pmin) (a + (f .pmax - f .pmin + 1)) ≡ b
                   → ((a ≤ z - k) × (z - f .pmin < a + (f .pmax - f .pmin + 1))) ⊎ ((a + f .pmax ≤ z) × (z - k < a + down))
               by true i = inl (p .0, ltb-true (z - f .pmin) (a + (f .pmax - f .pmin + 1)) i)
-              by false i = let l = ltb-false (z - f .pmin) (a + (f .pmax - f .pmin + 1)) i in inr (past-up (f .pmin) (f .pmax) a z some l, on-way-down (f .pmin) (f .pmax) (f .blocks) a down (z - k) some e (p .1) (p .2))
+              by false i =
+                  let l = ltb-false (z - f .pmin) (a + (f .pmax - f .pmin + 1)) i in
+                  inr (past-up (f .pmin) (f .pmax) a z some l, on-way-down (f .pmin) (f .pmax) (f .blocks) a down (z - k) some e (p .1) (p .2))
 
       pub row-next : (a : ℕ) → Reached f price pays (Between f 0 a) was s to from → Reached f price pays (Between f a (a + rungs f)) s t to from
           → Reached f price pays (Between f 0 (a + rungs f)) was t to from
       row-next a old new = reached-then (Between f 0 a) (Between f a (a + rungs f)) (Between f 0 (a + rungs f)) was s t behind cover old new
         where
-          cover : (z k : ℕ) → z ≤ f .blocks → f .pmin ≤ k → k ≤ f .pmax → k ≤ z → Between f 0 (a + rungs f) z k → Between f 0 a z k ⊎ Between f a (a + rungs f) z k
+          cover : (z k : ℕ) → z ≤ f .blocks → f .pmin ≤ k → k ≤ f .pmax → k ≤ z → Between f 0 (a + rungs f) z k
+              → Between f 0 a z k ⊎ Between f a (a + rungs f) z k
           cover z k h lo hi fit p = by (ltb (z - k) a) refl
             where
               by : (b : Bool) → ltb (z - k) a ≡ b → Between f 0 a z k ⊎ Between f a (a + rungs f) z k
@@ -437,8 +343,9 @@ module _ (f : Figures) (price : ℤ) (pays : ℕ) where
           → Climbed was s (to + (a + f .pmin)) (from + a) (f .blocks + 1 - (a + f .pmin)) (net f price pays (f .pmin)) (slope f price)
           → Reached f price pays (Past f) was s to from
       row-last s room some climbed =
-          reached-some (λ z k. (a ≤ z - k) × (z - f .pmin < a + (f .blocks + 1 - (a + f .pmin)))) (Past f) was s (λ z k h lo hi fit p. (omega arith, omega arith))
-          (climb-reached was s a (f .blocks + 1 - (a + f .pmin)) (to + (a + f .pmin)) (from + a) refl (omega arith) refl (omega (arith, row-is f)) climbed)
+          reached-some (λ z k. (a ≤ z - k) × (z - f .pmin < a + (f .blocks + 1 - (a + f .pmin)))) (Past f) was s
+          (λ z k h lo hi fit p. (omega arith, omega arith))
+          (climb-reached was s a (f .blocks + 1 - (a + f .pmin)) (omega arith) (omega (arith, row-is f)) climbed)
 
       pub row-no-last : f .blocks + 1 ≤ a + f .pmin → Reached f price pays (Past f) was was to from
       row-no-last none = reached-none (Past f) was (λ z k h lo hi fit p. omega arith)

@@ -16,7 +16,7 @@ use Rattle.integers.proofs.Ranges.{Within, within-abs, within-weaken, within-di
 use Rattle.layers.specs.Layers.{swing}
 use Rattle.layers.specs.Stretches.{bestSoFar}
 use Rattle.layers.proofs.Stretches.{Made, made-none, made-next}
-use Rattle.layers.proofs.Windows.{Carried, carried-first, carried-next, carried-risen, carried-gained}
+use Rattle.layers.proofs.Carrying.{Carried, carried-first, carried-next, carried-risen, carried-gained}
 use Rattle.layers.proofs.rows.climb.Statement.{statement}
 use Rattle.layers.proofs.rows.climb.Tie as tie
 
@@ -31,55 +31,62 @@ Inv-loop scratch₀ to from count gain rise best₀ i₀ scratch best i =
 abbrev μ-loop : tie.MeasureT-loop
 μ-loop scratch₀ to from count gain rise best₀ i₀ scratch best i = count - i
 
--- what the numbers passed and the rise can be
-passed : (c : tie.Start Inv-loop μ-loop) (i : ℕ) → i < c .args .count → Within (2 ^ 62) (number (c .args .scratch .now) (c .args .from) i)
-passed c i h = within-weaken (c .pre .1 .0 i h) (within-abs (number (c .args .scratch .now) (c .args .from) i))
+-- the numbers passed, the rise and the gain of a call
+abbrev numbers : tie.Start Inv-loop μ-loop → ℕ → ℤ
+numbers o = number (o .args .scratch .now) (o .args .from)
 
-rising : (c : tie.Start Inv-loop μ-loop) → Within swing (toZ w64 (ofZ w64 (c .args .rise)))
-rising c = rw (plain-fits (c .fits .rise)) (within-weaken (c .pre .1 .2) (within-abs (c .args .rise)))
+abbrev rises : tie.Start Inv-loop μ-loop → ℤ
+rises o = toZ w64 (ofZ w64 (o .args .rise))
+
+abbrev gains : tie.Start Inv-loop μ-loop → ℤ
+gains o = toZ w64 (ofZ w64 (o .args .gain))
+
+passed : (o : tie.Start Inv-loop μ-loop) (i : ℕ) → i < o .args .count → Within (2 ^ 62) (numbers o i)
+passed o i h = within-weaken (o .pre .1 .0 i h) (within-abs (numbers o i))
+
+rising : (o : tie.Start Inv-loop μ-loop) → Within swing (rises o)
+rising o = rw (plain-fits (o .fits .rise)) (within-weaken (o .pre .1 .2) (within-abs (o .args .rise)))
 
 -- where the best starts: one rise below the first number
 first : (c : tie.After-best Inv-loop μ-loop) →
-    let a = c .before .args in toZ w64 (ofZ w64 (getD (a .scratch .now) (a .from) (pos 0))) ≡ number (a .scratch .now) (a .from) 0
+    let o = c .before in toZ w64 (ofZ w64 (getD (o .args .scratch .now) (o .args .from) (pos 0))) ≡ numbers o 0
 first c =
     let a = c .before .args in
     plain-fits (record { sfits = c .best .given }) ∙ ap (λ (n : ℕ). getD (a .scratch .now) n (pos 0)) (sym (add-zero (a .from)))
 
-start : (c : tie.Start Inv-loop μ-loop) → Within (2 ^ 62 + swing) (number (c .args .scratch .now) (c .args .from) 0 -ℤ toZ w64 (ofZ w64 (c .args .rise)))
-start c = within-diff (passed c 0 (c .pre .0 .0)) (rising c)
+start : (o : tie.Start Inv-loop μ-loop) → Within (2 ^ 62 + swing) (numbers o 0 -ℤ rises o)
+start o = within-diff (passed o 0 (o .pre .0 .0)) (rising o)
 
 -- a turn: what is read, the best with the rise, the best of this place, and that with the gain
 read : (c : tie.After-larger-arg Inv-loop μ-loop) →
-    let a = c .before .before .before .before .args in
+    let o = c .before .before .before .before in
     let l = c .before .before .loop in
-    toZ w64 (ofZ w64 (getD (l .scratch) (a .from + l .i) (pos 0))) ≡ number (a .scratch .now) (a .from) (l .i)
+    toZ w64 (ofZ w64 (getD (l .scratch) (o .args .from + l .i) (pos 0))) ≡ numbers o (l .i)
 read c =
     let l = c .before .before .loop in
     plain-fits (record { sfits = c .larger-arg .given }) ∙ l .inv .2 .apart (c .before .before .before .before .args .from + l .i) (inr (omega arith))
 
-risen : (c : tie.In-loop Inv-loop μ-loop) → Within (2 ^ 62 + 502 * swing) (toZ w64 (c .before .loop .best) +ℤ toZ w64 (ofZ w64 (c .before .before .before .args .rise)))
+risen : (c : tie.In-loop Inv-loop μ-loop) → Within (2 ^ 62 + 502 * swing) (toZ w64 (c .before .loop .best) +ℤ rises (c .before .before .before))
 risen c =
     let o = c .before .before .before in
     let l = c .before .loop in
-    carried-risen (number (o .args .scratch .now) (o .args .from)) (toZ w64 (ofZ w64 (o .args .rise))) (rising o) (l .i) (toZ w64 (l .best)) (l .inv .1) (omega arith)
+    carried-risen (numbers o) (rises o) (rising o) (l .i) (toZ w64 (l .best)) (l .inv .1) (omega arith)
 
 bestNow : (c : tie.After-larger Inv-loop μ-loop) →
-    let a = c .before .before .before .before .before .args in
-    toZ w64 (ofZ w64 (c .larger .result)) ≡ bestSoFar (number (a .scratch .now) (a .from)) (toZ w64 (ofZ w64 (a .rise))) (c .before .before .before .loop .i)
+    let o = c .before .before .before .before .before in
+    toZ w64 (ofZ w64 (c .larger .result)) ≡ bestSoFar (numbers o) (rises o) (c .before .before .before .loop .i)
 bestNow c =
     plain-fits (record { sfits = c .larger .ok })
     ∙ (rw (read (c .before), plain (risen (c .before .before)) (lit< tt)) at (c .larger .ensures))
     ∙ c .before .before .before .loop .inv .1 .next
 
 gained : (c : tie.In-loop Inv-loop μ-loop) →
-    let a = c .before .before .before .args in
-    Within (2 ^ 62 + 502 * swing) (bestSoFar (number (a .scratch .now) (a .from)) (toZ w64 (ofZ w64 (a .rise))) (c .before .loop .i) +ℤ toZ w64 (ofZ w64 (a .gain)))
+    let o = c .before .before .before in
+    Within (2 ^ 62 + 502 * swing) (bestSoFar (numbers o) (rises o) (c .before .loop .i) +ℤ gains o)
 gained c =
     let o = c .before .before .before in
     let l = c .before .loop in
-    carried-gained (number (o .args .scratch .now) (o .args .from)) (toZ w64 (ofZ w64 (o .args .rise))) (rising o) (l .i) (toZ w64 (l .best)) (l .inv .1)
-    (passed o (l .i) (c .loop-test .taken))
-    (toZ w64 (ofZ w64 (o .args .gain)))
+    carried-gained (numbers o) (rises o) (rising o) (l .i) (toZ w64 (l .best)) (l .inv .1) (passed o (l .i) (c .loop-test .taken)) (gains o)
     (rw (plain-fits (o .fits .gain)) (o .pre .1 .1))
     (omega arith)
 
@@ -95,10 +102,9 @@ sub-best c = rw (first c) (within-fits (start (c .before)) (lit< tt))
 loop-holds : tie.Need-loop-holds Inv-loop μ-loop
 loop-holds c =
     let o = c .before in
-    let n = number (o .args .scratch .now) (o .args .from) in
-    let r = toZ w64 (ofZ w64 (o .args .rise)) in (
+    let b = numbers o 0 -ℤ rises o in (
       omega arith,
-      rw (first c, plain (start o) (lit< tt)) (carried-first n r (rising o) (n 0 -ℤ r) (restored (n 0) r) (start o)),
+      rw (first c, plain (start o) (lit< tt)) (carried-first (numbers o) (rises o) (rising o) b (restored (numbers o 0) (rises o)) (start o)),
       made-none (o .args .scratch .now) (o .args .to) _,
     )
   where
@@ -159,10 +165,10 @@ loop-again c =
     let off = plain-fits (record { sfits = c .before .larger-arg2 .given }) ∙ l .inv .2 .apart (a .to + l .i) (inr (omega arith)) in (
       omega arith,
       rw b
-          (carried-next (number (a .scratch .now) (a .from)) (toZ w64 (ofZ w64 (a .rise))) (rising o) (l .i) (toZ w64 (l .best)) (l .inv .1)
-          (passed o (l .i) (c .before .before .before .before .loop-test .taken))),
+          (carried-next (numbers o) (rises o) (rising o) (l .i) (toZ w64 (l .best)) (l .inv .1) (passed o (l .i) (c .before .before .before .before .loop-test .taken))),
       made-next (a .scratch .now) (a .to) _ (l .scratch) (l .i) _ (omega arith) (l .inv .2)
-          (plain-fits (record { sfits = c .larger2 .ok }) ∙ (rw (off, b, plain (gained (c .before .before .before .before)) (lit< tt)) at (c .larger2 .ensures))),
+          (plain-fits (record { sfits = c .larger2 .ok })
+          ∙ (rw (off, b, plain (gained (c .before .before .before .before)) (lit< tt)) at (c .larger2 .ensures))),
     )
 
 same-length : tie.Need-same-length Inv-loop μ-loop

@@ -16,7 +16,7 @@ use Rattle.integers.proofs.Ranges.{Within, within-abs, within-weaken, within-ne
 use Rattle.layers.specs.Layers.{swing}
 use Rattle.layers.specs.Stretches.{bestSoFar}
 use Rattle.layers.proofs.Stretches.{MadeDown, made-down-none, made-down-next}
-use Rattle.layers.proofs.Windows.{Carried, carried-first, carried-next, carried-risen, carried-gained}
+use Rattle.layers.proofs.Carrying.{Carried, carried-first, carried-next, carried-risen, carried-gained}
 use Rattle.layers.proofs.rows.descend.Statement.{statement}
 use Rattle.layers.proofs.rows.descend.Tie as tie
 
@@ -36,66 +36,70 @@ Inv-loop scratch₀ to from count gain rise best₀ i₀ scratch best i =
 abbrev μ-loop : tie.MeasureT-loop
 μ-loop scratch₀ to from count gain rise best₀ i₀ scratch best i = i
 
--- what the numbers passed and the rise can be
-passed : (c : tie.Start Inv-loop μ-loop) (i : ℕ) → i < c .args .count → Within (2 ^ 62) (number (c .args .scratch .now) (c .args .from) (c .args .count) i)
-passed c i h =
-    within-weaken (c .pre .1 .0 (c .args .count - 1 - i) (omega arith)) (within-abs (number (c .args .scratch .now) (c .args .from) (c .args .count) i))
+-- the numbers passed, the rise and the gain of a call
+abbrev numbers : tie.Start Inv-loop μ-loop → ℕ → ℤ
+numbers o = number (o .args .scratch .now) (o .args .from) (o .args .count)
 
-rising : (c : tie.Start Inv-loop μ-loop) → Within swing (toZ w64 (ofZ w64 (c .args .rise)))
-rising c = rw (plain-fits (c .fits .rise)) (within-weaken (c .pre .1 .2) (within-abs (c .args .rise)))
+abbrev rises : tie.Start Inv-loop μ-loop → ℤ
+rises o = toZ w64 (ofZ w64 (o .args .rise))
+
+abbrev gains : tie.Start Inv-loop μ-loop → ℤ
+gains o = toZ w64 (ofZ w64 (o .args .gain))
+
+passed : (o : tie.Start Inv-loop μ-loop) (i : ℕ) → i < o .args .count → Within (2 ^ 62) (numbers o i)
+passed o i h = within-weaken (o .pre .1 .0 (o .args .count - 1 - i) (omega arith)) (within-abs (numbers o i))
+
+rising : (o : tie.Start Inv-loop μ-loop) → Within swing (rises o)
+rising o = rw (plain-fits (o .fits .rise)) (within-weaken (o .pre .1 .2) (within-abs (o .args .rise)))
 
 -- where the best starts: one rise above the last number
 first : (c : tie.After-best Inv-loop μ-loop) →
-    let a = c .before .args in
-    toZ w64 (ofZ w64 (getD (a .scratch .now) (a .from + (a .count - 1)) (pos 0))) ≡ number (a .scratch .now) (a .from) (a .count) 0
+    let o = c .before in toZ w64 (ofZ w64 (getD (o .args .scratch .now) (o .args .from + (o .args .count - 1)) (pos 0))) ≡ numbers o 0
 first c =
     let a = c .before .args in
     plain-fits (record { sfits = c .best .given }) ∙ ap (λ (n : ℕ). getD (a .scratch .now) (a .from + n) (pos 0)) (sym (sub-zero (a .count - 1)))
 
-start : (c : tie.Start Inv-loop μ-loop) → Within (2 ^ 62 + swing) (number (c .args .scratch .now) (c .args .from) (c .args .count) 0 +ℤ toZ w64 (ofZ w64 (c .args .rise)))
-start c = within-sum (passed c 0 (c .pre .0 .0)) (rising c)
+start : (o : tie.Start Inv-loop μ-loop) → Within (2 ^ 62 + swing) (numbers o 0 +ℤ rises o)
+start o = within-sum (passed o 0 (o .pre .0 .0)) (rising o)
 
--- a turn: the place in the pass, what is read, the best less the rise, the best of this place, and that with the gain
-place : (c : tie.In-loop Inv-loop μ-loop) → c .before .before .before .args .count - 1 - (c .before .before .before .args .count - c .before .loop .i) ≡ c .before .loop .i - 1
+-- a turn: how many were passed before, what is read, the best less the rise, the best of this place, and that with the gain
+abbrev before : tie.In-loop Inv-loop μ-loop → ℕ
+before c = c .before .before .before .args .count - c .before .loop .i
+
+place : (c : tie.In-loop Inv-loop μ-loop) → c .before .before .before .args .count - 1 - before c ≡ c .before .loop .i - 1
 place c = omega arith
 
 read : (c : tie.After-larger-arg Inv-loop μ-loop) →
-    let a = c .before .before .before .before .args in
+    let o = c .before .before .before .before in
     let l = c .before .before .loop in
-    toZ w64 (ofZ w64 (getD (l .scratch) (a .from + (l .i - 1)) (pos 0))) ≡ number (a .scratch .now) (a .from) (a .count) (a .count - l .i)
+    toZ w64 (ofZ w64 (getD (l .scratch) (o .args .from + (l .i - 1)) (pos 0))) ≡ numbers o (before (c .before))
 read c =
     let a = c .before .before .before .before .args in
     let l = c .before .before .loop in
     plain-fits (record { sfits = c .larger-arg .given }) ∙ l .inv .2 .apart (a .from + (l .i - 1)) (inr (omega arith))
     ∙ ap (λ (n : ℕ). getD (a .scratch .now) (a .from + n) (pos 0)) (sym (place (c .before)))
 
-fallen : (c : tie.In-loop Inv-loop μ-loop) → Within (2 ^ 62 + 502 * swing) (toZ w64 (c .before .loop .best) -ℤ toZ w64 (ofZ w64 (c .before .before .before .args .rise)))
+fallen : (c : tie.In-loop Inv-loop μ-loop) → Within (2 ^ 62 + 502 * swing) (toZ w64 (c .before .loop .best) -ℤ rises (c .before .before .before))
 fallen c =
     let o = c .before .before .before in
-    let a = o .args in
     let l = c .before .loop in
-    carried-risen (number (a .scratch .now) (a .from) (a .count)) (negℤ (toZ w64 (ofZ w64 (a .rise)))) (within-neg (rising o)) (a .count - l .i) (toZ w64 (l .best)) (l .inv .1) (omega arith)
+    carried-risen (numbers o) (negℤ (rises o)) (within-neg (rising o)) (before c) (toZ w64 (l .best)) (l .inv .1) (omega arith)
 
 bestNow : (c : tie.After-larger Inv-loop μ-loop) →
-    let a = c .before .before .before .before .before .args in
-    toZ w64 (ofZ w64 (c .larger .result))
-    ≡ bestSoFar (number (a .scratch .now) (a .from) (a .count)) (negℤ (toZ w64 (ofZ w64 (a .rise)))) (a .count - c .before .before .before .loop .i)
+    let o = c .before .before .before .before .before in
+    toZ w64 (ofZ w64 (c .larger .result)) ≡ bestSoFar (numbers o) (negℤ (rises o)) (before (c .before .before))
 bestNow c =
     plain-fits (record { sfits = c .larger .ok })
     ∙ (rw (read (c .before), plain (fallen (c .before .before)) (lit< tt)) at (c .larger .ensures))
     ∙ c .before .before .before .loop .inv .1 .next
 
 gained : (c : tie.In-loop Inv-loop μ-loop) →
-    let a = c .before .before .before .args in
-    Within (2 ^ 62 + 502 * swing)
-    (bestSoFar (number (a .scratch .now) (a .from) (a .count)) (negℤ (toZ w64 (ofZ w64 (a .rise)))) (a .count - c .before .loop .i) +ℤ toZ w64 (ofZ w64 (a .gain)))
+    let o = c .before .before .before in
+    Within (2 ^ 62 + 502 * swing) (bestSoFar (numbers o) (negℤ (rises o)) (before c) +ℤ gains o)
 gained c =
     let o = c .before .before .before in
-    let a = o .args in
     let l = c .before .loop in
-    carried-gained (number (a .scratch .now) (a .from) (a .count)) (negℤ (toZ w64 (ofZ w64 (a .rise)))) (within-neg (rising o)) (a .count - l .i) (toZ w64 (l .best)) (l .inv .1)
-    (passed o (a .count - l .i) (omega arith))
-    (toZ w64 (ofZ w64 (a .gain)))
+    carried-gained (numbers o) (negℤ (rises o)) (within-neg (rising o)) (before c) (toZ w64 (l .best)) (l .inv .1) (passed o (before c) (omega arith)) (gains o)
     (rw (plain-fits (o .fits .gain)) (o .pre .1 .1))
     (omega arith)
 
@@ -118,11 +122,11 @@ loop-holds : tie.Need-loop-holds Inv-loop μ-loop
 loop-holds c =
     let o = c .before in
     let a = o .args in
-    let n = number (a .scratch .now) (a .from) (a .count) in
-    let r = toZ w64 (ofZ w64 (a .rise)) in
+    let b = numbers o 0 +ℤ rises o in
     let none : a .count - a .count ≡ 0 = omega arith in (
       omega arith,
-      rw (none, first c, plain (start o) (lit< tt)) (carried-first n (negℤ r) (within-neg (rising o)) (n 0 +ℤ r) (restored (n 0) r) (start o)),
+      rw (none, first c, plain (start o) (lit< tt))
+          (carried-first (numbers o) (negℤ (rises o)) (within-neg (rising o)) b (restored (numbers o 0) (rises o)) (start o)),
       made-down-none (a .scratch .now) (a .to) (a .count) _,
     )
   where
@@ -185,12 +189,11 @@ loop-again c =
     let here : a .count - 1 - (l .i - 1) ≡ a .count - l .i = omega arith in (
       omega arith,
       rw (next, b)
-          (carried-next (number (a .scratch .now) (a .from) (a .count)) (negℤ (toZ w64 (ofZ w64 (a .rise)))) (within-neg (rising o)) (a .count - l .i) (toZ w64 (l .best)) (l .inv .1)
-          (passed o (a .count - l .i) (omega arith))),
+          (carried-next (numbers o) (negℤ (rises o)) (within-neg (rising o)) (a .count - l .i) (toZ w64 (l .best)) (l .inv .1) (passed o (a .count - l .i) (omega arith))),
       made-down-next (a .scratch .now) (a .to) (a .count) _ (l .scratch) (l .i) _ (omega arith) (omega arith) (omega arith) (l .inv .2)
           (plain-fits (record { sfits = c .larger2 .ok })
           ∙ (rw (off, b, plain (gained (c .before .before .before .before)) (lit< tt)) at (c .larger2 .ensures))
-          ∙ ap (λ (n : ℕ). lifted (a .scratch .now) (a .to) (a .from) (a .count) (toZ w64 (ofZ w64 (a .gain))) (toZ w64 (ofZ w64 (a .rise))) n (l .i - 1)) (sym here)),
+          ∙ ap (λ (n : ℕ). lifted (a .scratch .now) (a .to) (a .from) (a .count) (gains o) (rises o) n (l .i - 1)) (sym here)),
     )
 
 same-length : tie.Need-same-length Inv-loop μ-loop

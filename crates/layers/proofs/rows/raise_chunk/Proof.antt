@@ -70,7 +70,12 @@ climb-requires c κs =
     let a = o .args in
     let e = row-is (a .f) in
     let h = pmax-most (a .f) (o .pre .0 .0) in (
-      (omega arith, omega (arith, h, o .pre .0 .0 .pmin), omega (arith, e, o .pre .0 .0 .pmax, o .pre .0 .4, o .pre .1 .0), omega (arith, e, o .pre .0 .0 .pmax, o .pre .0 .4, o .pre .1 .1)),
+      (
+        omega arith,
+        omega (arith, h, o .pre .0 .0 .pmin),
+        omega (arith, e, o .pre .0 .0 .pmax, o .pre .0 .4, o .pre .1 .0),
+        omega (arith, e, o .pre .0 .0 .pmax, o .pre .0 .4, o .pre .1 .1),
+      ),
       (
         λ i l. rw (add-assoc (a .from) (a .a) i) (o .pre .1 .2 (a .a + i) (omega (arith, e, o .pre .0 .0 .pmax, o .pre .0 .4))),
         rw (least (c .before .before)) (net-small (a .f) (o .pre .0 .0) (a .price) (o .pre .0 .1) (a .pays) (a .f .pmin) (o .pre .0 .2) (o .pre .0 .0 .pmax)),
@@ -98,7 +103,12 @@ descend-requires c κs =
     let few : d ≤ a .f .pmax - a .f .pmin + 1 = omega (arith, m) in
     let room : d + a .a + a .f .pmax ≤ a .f .blocks + 1 = omega (arith, m, o .pre .0 .4) in
     let last : a .a + a .f .pmin + (a .f .pmax - a .f .pmin + 1) ≤ row (a .f) = omega (arith, e, o .pre .0 .0 .pmax, o .pre .0 .4) in (
-      (here, omega (arith, few, pmax-most (a .f) (o .pre .0 .0), o .pre .0 .0 .pmin), omega (arith, room, e, o .pre .1 .0), omega (arith, room, e, o .pre .1 .1, c .before .before .climb .kept .0)),
+      (
+        here,
+        omega (arith, few, pmax-most (a .f) (o .pre .0 .0), o .pre .0 .0 .pmin),
+        omega (arith, room, e, o .pre .1 .0),
+        omega (arith, room, e, o .pre .1 .1, c .before .before .climb .kept .0),
+      ),
       (
         λ i l.
             rw (c .before .before .climb .ensures .apart (a .from + a .a + i) (inr (omega (arith, last, o .pre .1 .0))), add-assoc (a .from) (a .a) i)
@@ -118,7 +128,14 @@ returns c =
     let n = c .before .before .before .before .before .before in
     let up = rw (least (n .before), rise (n .before .before)) at (c .before .before .before .before .climb .ensures) in
     let down = rw (most n, rise (n .before .before)) at (c .before .descend .ensures) in
-    row-chunk (a .f) (a .price) (a .pays) (o .pre .0 .3) (a .to) (a .from) (a .scratch .now) (c .before .before .before .before .climb .last .0) (c .before .descend .last .0) (o .pre .1 .0) (a .a) (n .before .before .before .smaller .result) (o .pre .0 .0 .pmax) (o .pre .0 .4)
+    row-chunk (a .f) (a .price) (a .pays) (o .pre .0 .3) (a .to) (a .from) (a .scratch .now)
+    (c .before .before .before .before .climb .last .0)
+    (c .before .descend .last .0)
+    (o .pre .1 .0)
+    (a .a)
+    (n .before .before .before .smaller .result)
+    (o .pre .0 .0 .pmax)
+    (o .pre .0 .4)
     (n .before .before .before .smaller .ensures)
     up
     down

@@ -93,7 +93,9 @@ returns-2 : tie.Need-returns-2
 returns-2 c =
     let o = c .before .before .before in
     let a = o .args in
-    row-no-last (a .f) (a .price) (a .pays) (o .pre .0 .3) (a .to) (a .from) (a .scratch .now) (a .f .blocks + 1 - c .before .smaller .result) (first (c .before)) (c .if1 .left)
+    row-no-last (a .f) (a .price) (a .pays) (o .pre .0 .3) (a .to) (a .from) (a .scratch .now) (a .f .blocks + 1 - c .before .smaller .result)
+    (first (c .before))
+    (c .if1 .left)
 
 pub raise-last-spec : {M : Type 1} → statement M
 raise-last-spec =

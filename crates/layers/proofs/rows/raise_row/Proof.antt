@@ -78,7 +78,10 @@ loop-again c =
       omega (arith, c .before .before .before .loop-test .taken, pmax-most (a .f) (o .pre .0 .0), o .pre .0 .0 .pmin),
       c .before .raise-chunk .kept .0 ∙ l .inv .1,
       rw (size o)
-          (row-next (a .f) (toZ w64 (ofZ w64 (a .price))) (a .pays) (o .pre .0 .3) (a .to) (a .from) (a .scratch .now) (l .scratch) (c .before .raise-chunk .last .0) (o .pre .1 .0) (l .a)
+          (row-next (a .f) (toZ w64 (ofZ w64 (a .price))) (a .pays) (o .pre .0 .3) (a .to) (a .from) (a .scratch .now) (l .scratch)
+          (c .before .raise-chunk .last .0)
+          (o .pre .1 .0)
+          (l .a)
           (l .inv .2)
           (c .before .raise-chunk .ensures)),
     )
@@ -99,7 +102,10 @@ returns c =
     let a = o .args in
     let l = c .before .before .before .before .loop in
     rw (plain-fits (o .fits .price)) at
-    (row-done (a .f) (toZ w64 (ofZ w64 (a .price))) (a .pays) (o .pre .0 .3) (a .to) (a .from) (a .scratch .now) (l .scratch) (c .before .raise-last .last .0) (o .pre .1 .0) (l .a)
+    (row-done (a .f) (toZ w64 (ofZ w64 (a .price))) (a .pays) (o .pre .0 .3) (a .to) (a .from) (a .scratch .now) (l .scratch)
+    (c .before .raise-last .last .0)
+    (o .pre .1 .0)
+    (l .a)
     (omega (arith, c .before .before .before .loop-test .left))
     (l .inv .2)
     (c .before .raise-last .ensures))
