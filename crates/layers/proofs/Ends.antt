@@ -3,7 +3,7 @@ use mathlib.Core.Path.{_≡_, refl, sym, ap, _∙_}
 use mathlib.Core.Bool.{Bool, true, false}
 use mathlib.Core.List.{List}
 use mathlib.Core.Logic.{_⊎_, ⊎-elim, inl, inr}
-use Prim.Native.Nat.{ℕ, _+_, _-_, _*_, _≤_}
+use Prim.Native.Nat.{ℕ, suc, _+_, _-_, _*_, _≤_}
 use native.Mathlib.Nat.{mul-zero, mul-le-mul-left, mul-le-mul-right}
 use native.Mathlib.Omega.{arith}
 use borrow.Author.Tests.{ltb-true, ltb-false, le-leb}
@@ -12,13 +12,13 @@ use lib.IntN.{ℤ, pos, natAbs, _+ℤ_, _-ℤ_, _*ℤ_}
 use lib.ListN.{getD}
 use lib.Signed.{_≤ℤ_, ≤ℤ-refl}
 use Rattle.integers.specs.Maximum.{maxℤ}
-use Rattle.integers.proofs.Linear.{up, dn, up-pos, dn-pos, zarith, zdiff, ztimes, zmul}
+use Rattle.integers.proofs.Linear.{up, dn, up-pos, dn-pos, zarith, zsum, zdiff, ztimes, zmul}
 use Rattle.integers.proofs.Order.{≤ℤ-trans, ≤ℤ-antisym, +ℤ-mono, -ℤ-mono}
 use Rattle.integers.proofs.Maximum.{max-is, max-least}
 use Rattle.optimality.specs.declared.Figures.{Figures}
 use Rattle.optimality.specs.Cells.{Sound, rungs}
 use Rattle.layers.specs.Layers.{swing}
-use Rattle.layers.specs.Turns.{net, endNet, raised}
+use Rattle.layers.specs.Turns.{net, slope, endNet, raised}
 use Rattle.layers.specs.Stretches.{bestOver}
 use Rattle.layers.proofs.Raising.{raised-same, raised-above, raised-reach, raised-least}
 use Rattle.layers.proofs.Turning.{net-small}
@@ -78,6 +78,52 @@ module _ (price : ℤ) (vec least mlc : ℕ) where
           inr (λ m n l. by-parts n m (omega (arith, cross (vec + dn price) (up price) m n (omega arith) l)))
       by false e = let h = ltb-false (up price) (vec + dn price) e in inl (λ m n l. by-parts m n (cross (up price) (vec + dn price) m n h l))
 
+-- so much output more adds the same at every output
+margin-more : (price : ℤ) (vec least mlc m n : ℕ) → margin price vec least mlc (m + n) ≡ margin price vec least mlc m +ℤ margin price vec 0 0 n
+margin-more price vec least mlc m n =
+    let x = ztimes price (m + n) in
+    let y = ztimes price m in
+    let z = ztimes price n in
+    let all : vec * (m + n) ≡ vec * m + vec * n = omega arith in
+    let u : up (price *ℤ pos (m + n)) ≡ up (price *ℤ pos m) + up (price *ℤ pos n) = rw (x .up≡, y .up≡, z .up≡) (omega arith) in
+    let d : dn (price *ℤ pos (m + n)) ≡ dn (price *ℤ pos m) + dn (price *ℤ pos n) = rw (x .dn≡, y .dn≡, z .dn≡) (omega arith) in
+    added (price *ℤ pos (m + n)) (price *ℤ pos m) (price *ℤ pos n) (cost least (m + n)) (cost least m) (cost 0 n) (vec * least) (vec * 0) (vec * m) (vec * n) (omega arith) u d
+    (rw all at (above price vec least mlc (m + n)))
+    (above price vec least mlc m)
+    (above price vec 0 0 n)
+  where
+    cost : ℕ → ℕ → ℤ
+    cost least m = pos vec *ℤ (pos m -ℤ pos least)
+
+    added : (x y z a b c : ℤ) (l o p q : ℕ) → o ≡ 0 → up x ≡ up y + up z → dn x ≡ dn y + dn z → up a + l ≡ dn a + (p + q) → up b + l ≡ dn b + p
+        → up c + o ≡ dn c + q
+        → x -ℤ a -ℤ pos mlc ≡ (y -ℤ b -ℤ pos mlc) +ℤ (z -ℤ c -ℤ pos 0)
+    added x y z a b c l o p q = λ none h i j k m.
+        omega (
+          zarith,
+          zdiff x a,
+          zdiff (x -ℤ a) (pos mlc),
+          zdiff y b,
+          zdiff (y -ℤ b) (pos mlc),
+          zdiff z c,
+          zdiff (z -ℤ c) (pos 0),
+          zsum (y -ℤ b -ℤ pos mlc) (z -ℤ c -ℤ pos 0),
+          up-pos mlc,
+          dn-pos mlc,
+          up-pos 0,
+          dn-pos 0,
+        )
+
+-- so one block more adds the slope
+pub net-next : (f : Figures) (price : ℤ) (pays k : ℕ) → net f price pays (suc k) ≡ net f price pays k +ℤ slope f price
+net-next f price pays k =
+    let e : suc k * f .block ≡ k * f .block + f .block = omega arith in
+    rw (e, margin-more price (f .vec) (f .pmin * f .block) (f .mlc) (k * f .block) (f .block))
+    (paid (margin price (f .vec) (f .pmin * f .block) (f .mlc) (k * f .block)) (slope f price) (pos pays))
+  where
+    paid : (x y p : ℤ) → x +ℤ y -ℤ p ≡ (x -ℤ p) +ℤ y
+    paid x y p = omega (zarith, zsum x y, zdiff (x +ℤ y) p, zdiff x p, zsum (x -ℤ p) y)
+
 -- ---- the better end
 
 module _ (f : Figures) (ok : Sound f) (price : ℤ) (pays : ℕ) where
@@ -99,7 +145,7 @@ module _ (f : Figures) (ok : Sound f) (price : ℤ) (pays : ℕ) where
       λ k lo hi. raised-reach fits reach base (f .pmin) (rungs f) k lo (omega arith) (all k) in
       ≤ℤ-antisym
       (raised-least fits reach base (f .pmin) (rungs f) (maxℤ base (held +ℤ endNet f price pays)) (m .left)
-      (λ k lo hi. ≤ℤ-trans (+ℤ-mono (≤ℤ-refl held) (net-below k lo (omega (arith, ok .pmax)))) (m .right)))
+      (λ k lo hi fit. ≤ℤ-trans (+ℤ-mono (≤ℤ-refl held) (net-below k lo (omega (arith, ok .pmax)))) (m .right)))
       (max-least base (held +ℤ endNet f price pays) (raised fits reach base (f .pmin) (rungs f)) (raised-above fits reach base (f .pmin) (rungs f))
       (⊎-elim (λ e. rw e (reached (f .pmin) (omega arith) (ok .pmax))) (λ e. rw e (reached (f .pmax) (ok .pmax) (omega arith)))
       (max-is (net f price pays (f .pmin)) (net f price pays (f .pmax)) .one-of)))

@@ -6,6 +6,8 @@ pub mod Raising
 pub mod Holding
 pub mod Turning
 pub mod Ends
+pub mod Carrying
+pub mod Windows
 pub mod Passes
 pub mod Making
 pub mod Filling

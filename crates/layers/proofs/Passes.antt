@@ -1,101 +1,25 @@
--- The passes over the stretches of a state, from the inside out: output by output over a row, row by row over a span, span by span over
--- a state. Each level's record says what is done, and that all else is as it was.
+-- The passes over the stretches of a state, from the inside out: row by row over a span, span by span over a state. Each level's record
+-- says what is done, and that all else is as it was.
 use mathlib.Core.Path.{_≡_, refl, sym, ap, ap₂, _∙_}
 use mathlib.Core.Bool.{Bool, true, false, cond, _&&_}
 use mathlib.Core.List.{List}
 use mathlib.Core.Logic.{⊎-elim, inl, inr}
-use Prim.Native.Nat.{ℕ, suc, _+_, _-_, _*_, _≤_, _<_}
+use Prim.Native.Nat.{ℕ, _+_, _-_, _*_, _≤_, _<_}
 use native.Mathlib.Nat.{mul-le-mul-right}
-use native.Mathlib.Numerals.{add-one}
 use native.Mathlib.Omega.{arith}
 use borrow.Author.Tests.{leb-true, leb-false, le-leb, lt-leb}
 use lib.Dec.{leb}
 use lib.IntN.{ℤ, pos, _+ℤ_}
 use lib.ListN.{length, getD}
-use Rattle.integers.specs.Maximum.{maxℤ}
 use Rattle.optimality.specs.declared.Figures.{Figures}
 use Rattle.optimality.specs.Cells.{Sound, rungs}
 use Rattle.layers.specs.Layers.{row, span, part}
-use Rattle.layers.specs.Turns.{net, endNet, raised}
-use Rattle.layers.specs.Stretches.{Apart, Raised, bestOver, RowRaised, SpanRaised, PartRaised}
+use Rattle.layers.specs.Turns.{net, endNet}
+use Rattle.layers.specs.Stretches.{Raised, bestOver, RowRaised, SpanRaised, PartRaised}
 use Rattle.layers.proofs.Numbers.{row-is, in-row, in-span, rows-fit, row-fits, span-fits, rows-all, spans-all}
-use Rattle.layers.proofs.Raising.{step, raised-none, raised-next, raised-same}
+use Rattle.layers.proofs.Raising.{raised-same}
 use Rattle.layers.proofs.Ends.{ends-over}
 use Rattle.layers.proofs.Segments.{Done, done-first, done-next, done-apart}
-
-module _ (f : Figures) (price : ℤ) (pays : ℕ) (was : List ℤ) where
-  -- ---- a row, output by output
-
-  module _ (to from : ℕ) where
-    -- whether z blocks left allow an output, and what it reaches
-    abbrev pub fits : ℕ → ℕ → Bool
-    fits z k = leb (k * f .perblock) z
-
-    abbrev pub reach : ℕ → ℕ → ℤ
-    reach z k = getD was (from + (z - k * f .perblock)) (pos 0) +ℤ net f price pays k
-
-    -- the outputs from k on are left
-    pub record RowFrom (s : List ℤ) (k : ℕ) : Type 0 where
-      pub left : (z : ℕ) → z ≤ f .blocks
-          → raised (fits z) (reach z) (getD s (to + z) (pos 0)) k (suc (f .pmax) - k) ≡ bestOver f price pays was from z (getD was (to + z) (pos 0))
-      pub apart : Apart was s to (row f)
-      pub same : length s ≡ length was
-
-    pub row-first : RowFrom was (f .pmin)
-    row-first = record { left = λ z h. refl; apart = λ j out. refl; same = refl }
-
-    -- one output done, whose cells stand so many blocks further down
-    left-next : (s t : List ℤ) (k z : ℕ) → k ≤ f .pmax → getD t (to + z) (pos 0) ≡ step (fits z) (reach z) (getD s (to + z) (pos 0)) k
-        → raised (fits z) (reach z) (getD s (to + z) (pos 0)) k (suc (f .pmax) - k) ≡ bestOver f price pays was from z (getD was (to + z) (pos 0))
-        → raised (fits z) (reach z) (getD t (to + z) (pos 0)) (k + 1) (suc (f .pmax) - (k + 1)) ≡ bestOver f price pays was from z (getD was (to + z) (pos 0))
-    left-next s t k z h e old =
-        let n : suc (f .pmax) - k ≡ suc (suc (f .pmax) - (k + 1)) = omega arith in
-        ap₂ (λ (x : ℤ) (j : ℕ). raised (fits z) (reach z) x j (suc (f .pmax) - (k + 1))) e (add-one k)
-        ∙ sym (raised-next (fits z) (reach z) (getD s (to + z) (pos 0)) k (suc (f .pmax) - (k + 1)))
-        ∙ ap (raised (fits z) (reach z) (getD s (to + z) (pos 0)) k) (sym n)
-        ∙ old
-
-    pub row-next : (s t : List ℤ) (k : ℕ) → k ≤ f .pmax → k * f .perblock < row f → to + row f ≤ from → length t ≡ length s → RowFrom s k
-        → Raised s t (to + k * f .perblock) from (row f - k * f .perblock) (net f price pays k) → RowFrom t (k + 1)
-    row-next s t k h spent behind long old new =
-        record {
-          left = λ z l. left-next s t k z h (once z l) (old .left z l);
-          apart = λ j out.
-              new .apart j (⊎-elim (λ (o : j < to). inl (omega arith)) (λ (o : to + row f ≤ j). inr (omega arith)) out) ∙ old .apart j out;
-          same = long ∙ old .same;
-        }
-      where
-        once : (z : ℕ) → z ≤ f .blocks → getD t (to + z) (pos 0) ≡ step (fits z) (reach z) (getD s (to + z) (pos 0)) k
-        once z l = by (fits z k) refl
-          where
-            by : (b : Bool) → fits z k ≡ b → getD t (to + z) (pos 0) ≡ cond b (maxℤ (getD s (to + z) (pos 0)) (reach z k)) (getD s (to + z) (pos 0))
-            by true e =
-                let r = leb-true (k * f .perblock) z e in
-                let i = z - k * f .perblock in
-                let p : to + k * f .perblock + i ≡ to + z = omega arith in
-                let q : i < row f - k * f .perblock = omega (arith, in-row f z l) in
-                let b = old .apart (from + i) (inr (omega arith)) in
-                rw (p, b) at (new .inside i q)
-            by false e = let r = leb-false (k * f .perblock) z e in new .apart (to + z) (inl (omega arith))
-
-    -- an output that no cell of the row allows
-    pub row-skip : (s : List ℤ) (k : ℕ) → k ≤ f .pmax → row f ≤ k * f .perblock → RowFrom s k → RowFrom s (k + 1)
-    row-skip s k h spent old =
-        record {
-          left = λ z l.
-              let e : leb (k * f .perblock) z ≡ false = lt-leb (k * f .perblock) z (omega (arith, in-row f z l)) in
-              left-next s s k z h (rw e) (old .left z l);
-          apart = old .apart;
-          same = old .same;
-        }
-
-    pub row-done : (s : List ℤ) (k : ℕ) → f .pmax < k → RowFrom s k → RowRaised f price pays was s to from
-    row-done s k h old =
-        let n : suc (f .pmax) - k ≡ 0 = omega arith in
-        record {
-          inside = λ z l. sym (raised-none (fits z) (reach z) (getD s (to + z) (pos 0)) k) ∙ ap (raised (fits z) (reach z) (getD s (to + z) (pos 0)) k) (sym n) ∙ old .left z l;
-          apart = old .apart;
-        }
 
 -- ---- a span, row by row
 

@@ -13,7 +13,7 @@ use Rattle.integers.proofs.Maximum.{max-is, max-least}
 use Rattle.layers.specs.Turns.{raised}
 
 -- one output of the fold
-abbrev pub step : (ℕ → Bool) → (ℕ → ℤ) → ℤ → ℕ → ℤ
+abbrev step : (ℕ → Bool) → (ℕ → ℤ) → ℤ → ℕ → ℤ
 step fits reach base k = cond (fits k) (maxℤ base (reach k)) base
 
 module _ (fits : ℕ → Bool) (reach : ℕ → ℤ) where
@@ -63,13 +63,13 @@ module _ (fits : ℕ → Bool) (reach : ℕ → ℤ) where
       by true i later = ≤ℤ-trans (this (eqb-true j k i)) (raised-above (step fits reach base k) (suc k) count)
       by false i later = let n = eqb-false j k i in later (omega arith)
 
-  pub raised-least : (base : ℤ) (k count : ℕ) (most : ℤ) → base ≤ℤ most → ((j : ℕ) → k ≤ j → j < k + count → reach j ≤ℤ most)
+  pub raised-least : (base : ℤ) (k count : ℕ) (most : ℤ) → base ≤ℤ most → ((j : ℕ) → k ≤ j → j < k + count → fits j ≡ true → reach j ≤ℤ most)
       → raised fits reach base k count ≤ℤ most
   unfolding raised
   raised-least base k zero most b h = b
   raised-least base k (suc count) most b h =
-      raised-least (step fits reach base k) (suc k) count most (once (fits k)) (λ j l u. h j (omega arith) (omega arith))
+      raised-least (step fits reach base k) (suc k) count most (once (fits k) refl) (λ j l u. h j (omega arith) (omega arith))
     where
-      once : (t : Bool) → cond t (maxℤ base (reach k)) base ≤ℤ most
-      once true = max-least base (reach k) most b (h k (omega arith) (omega arith))
-      once false = b
+      once : (t : Bool) → fits k ≡ t → cond t (maxℤ base (reach k)) base ≤ℤ most
+      once true e = max-least base (reach k) most b (h k (omega arith) (omega arith) e)
+      once false e = b

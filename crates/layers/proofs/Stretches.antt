@@ -44,6 +44,31 @@ module _ (was : List ℤ) (to : ℕ) (now : ℕ → ℤ) where
         same = length-set s (to + i) v ∙ made .same;
       }
 
+-- ---- the same from the back, down to place i of so many
+
+pub record MadeDown (was s : List ℤ) (to i count : ℕ) (now : ℕ → ℤ) : Type 0 where
+  pub inside : (j : ℕ) → i ≤ j → j < count → getD s (to + j) (pos 0) ≡ now j
+  pub apart : (j : ℕ) → (j < to + i) ⊎ (to + count ≤ j) → getD s j (pos 0) ≡ getD was j (pos 0)
+  pub same : length s ≡ length was
+
+module _ (was : List ℤ) (to count : ℕ) (now : ℕ → ℤ) where
+  pub made-down-none : MadeDown was was to count count now
+  made-down-none = record { inside = λ j h k. absurd (omega arith); apart = λ j out. refl; same = refl }
+
+  pub made-down-next : (s : List ℤ) (i : ℕ) (v : ℤ) → 0 < i → i ≤ count → to + count ≤ length was → MadeDown was s to i count now → v ≡ now (i - 1)
+      → MadeDown was (set s (to + (i - 1)) v) to (i - 1) count now
+  made-down-next s i v some l fits made this =
+      record {
+        inside = λ j h k.
+            ⊎-elim (λ (e : i - 1 ≡ j). rw (← e) (getD-set-same s (to + (i - 1)) v (pos 0) (omega (arith, made .same)) ∙ this))
+            (λ (b : i - 1 < j). getD-set-other s (to + (i - 1)) (to + j) v (pos 0) (λ o. omega arith) ∙ made .inside j (omega arith) k)
+            (last-or-before (i - 1) j (omega arith));
+        apart = λ j out.
+            getD-set-other s (to + (i - 1)) j v (pos 0) (λ o. ⊎-elim (λ (b : j < to + (i - 1)). omega arith) (λ (b : to + count ≤ j). omega arith) out)
+            ∙ made .apart j (⊎-elim (λ (b : j < to + (i - 1)). inl (omega arith)) (λ (b : to + count ≤ j). inr b) out);
+        same = length-set s (to + (i - 1)) v ∙ made .same;
+      }
+
 -- ---- the same number put in each
 
 abbrev pub putIn : List ℤ → ℕ → ℕ → ℤ → List ℤ

@@ -23,7 +23,7 @@ use Rattle.optimality.specs.Machine.{go, allow, Value, noSchedule, earning, mor
 use Rattle.optimality.specs.Cells.{Sound, InTable, states, afterOff, afterOn, startTakes, startPays, mayRun, gain, offCell, onCell, rungs, valueAt, offValue, onValue, onBest}
 use Rattle.optimality.proofs.Turns.{value-turn, may-not-run, off-in-table, on-in-table}
 use Rattle.layers.specs.Layers.{infeasible, swing, Holds, Layer}
-use Rattle.layers.specs.Turns.{net, raised, offHeld, roomFor, onHeld, cellHeld}
+use Rattle.layers.specs.Turns.{net, slope, raised, offHeld, roomFor, onHeld, cellHeld}
 use Rattle.layers.proofs.Raising.{raised-none, raised-next}
 use Rattle.layers.proofs.Holding.{Offers, holds-more, offers-plus, holds-stay, holds-none}
 
@@ -87,6 +87,10 @@ takes-most f ok s = by (ltb s (f .mot))
 pub pmax-most : (f : Figures) → Sound f → f .pmax ≤ 500
 pmax-most f ok = let a : f .pmax * 1 ≤ f .pmax * f .block = mul-le-mul-left (f .pmax) (ok .block) in omega (arith, ok .top)
 
+pub block-most : (f : Figures) → Sound f → f .block ≤ 500
+block-most f ok =
+    let a : 1 * f .block ≤ f .pmax * f .block = mul-le-mul-right (f .block) (omega (arith, ok .pmin, ok .pmax)) in omega (arith, ok .top)
+
 -- what an output takes of the blocks
 pub blocks-most : (f : Figures) → Sound f → (k : ℕ) → k ≤ f .pmax → k * f .perblock ≤ 500
 blocks-most f ok k h =
@@ -109,6 +113,10 @@ module _ (f : Figures) (ok : Sound f) (price : ℤ) (small : natAbs price ≤ 20
 
   pub net-small : (pays k : ℕ) → pays ≤ 16000000000 → k ≤ f .pmax → natAbs (net f price pays k) ≤ swing
   net-small pays k p h = omega (arith, abs-within (net-within pays k p h))
+
+  pub slope-small : natAbs (slope f price) ≤ swing
+  slope-small =
+      omega (arith, abs-within (margin-within price (f .block) (f .vec) 0 0 small (block-most f ok) (ok .vec) (omega arith) (omega arith)))
 
   -- ---- one interval from a cell
 

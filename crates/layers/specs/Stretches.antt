@@ -3,10 +3,11 @@ use mathlib.Core.Path.{_≡_}
 use mathlib.Core.Bool.{cond, _&&_}
 use mathlib.Core.List.{List}
 use mathlib.Core.Logic.{_⊎_}
-use Prim.Native.Nat.{ℕ, _+_, _-_, _*_, _^_, _≤_, _<_}
+use Prim.Native.Nat.{ℕ, zero, suc, _+_, _-_, _*_, _^_, _≤_, _<_}
 use lib.Dec.{leb}
-use lib.IntN.{ℤ, pos, natAbs, _+ℤ_}
+use lib.IntN.{ℤ, pos, negℤ, natAbs, _+ℤ_}
 use lib.ListN.{getD}
+use lib.Signed.{_≤ℤ_}
 use Rattle.integers.specs.Maximum.{maxℤ}
 use Rattle.optimality.specs.declared.Figures.{Figures}
 use Rattle.optimality.specs.declared.Cell.{Cell}
@@ -32,6 +33,31 @@ pub record Raised (was cells : List ℤ) (to from count : ℕ) (gain : ℤ) : Ty
       → getD cells (to + i) (pos 0) ≡ maxℤ (getD was (to + i) (pos 0)) (getD was (from + i) (pos 0) +ℤ gain)
   pub apart : Apart was cells to count
 
+-- the best of the numbers passed so far, each with a rise for every place since
+unfoldable pub bestSoFar : (ℕ → ℤ) → ℤ → ℕ → ℤ
+bestSoFar number rise zero = number 0
+bestSoFar number rise (suc i) = maxℤ (number (suc i)) (bestSoFar number rise i +ℤ rise)
+
+-- each number raised to the best of those from the stretch's first on, and of those from its last back, plus a gain
+pub record Climbed (was cells : List ℤ) (to from count : ℕ) (gain rise : ℤ) : Type 0 where
+  pub inside : (i : ℕ) → i < count
+      → getD cells (to + i) (pos 0) ≡ maxℤ (getD was (to + i) (pos 0)) (bestSoFar (λ j. getD was (from + j) (pos 0)) rise i +ℤ gain)
+  pub apart : Apart was cells to count
+
+pub record Descended (was cells : List ℤ) (to from count : ℕ) (gain rise : ℤ) : Type 0 where
+  pub inside : (i : ℕ) → i < count
+      → getD cells (to + i) (pos 0)
+      ≡ maxℤ (getD was (to + i) (pos 0)) (bestSoFar (λ j. getD was (from + (count - 1 - j)) (pos 0)) (negℤ rise) (count - 1 - i) +ℤ gain)
+  pub apart : Apart was cells to count
+
+-- the outputs k of a cell with z blocks left whose sources are from a up to b, and stay in the row at the highest output
+abbrev pub Between : Figures → ℕ → ℕ → ℕ → ℕ → Type 0
+Between f a b z k = (a ≤ z - k) × (z - k < b) × (z - k + f .pmax ≤ f .blocks)
+
+-- those whose sources do not stay in it
+abbrev pub Past : Figures → ℕ → ℕ → Type 0
+Past f z k = f .blocks < z - k + f .pmax
+
 module _ (f : Figures) (price : ℤ) (pays : ℕ) where
   -- a number with z blocks left, raised to the best over the outputs, whose cells stand in the row at `from`
   abbrev pub bestOver : List ℤ → ℕ → ℕ → ℤ → ℤ
@@ -41,6 +67,14 @@ module _ (f : Figures) (price : ℤ) (pays : ℕ) where
   -- each cell of the row is the best over the outputs
   pub record RowRaised (was cells : List ℤ) (to from : ℕ) : Type 0 where
     pub inside : (z : ℕ) → z ≤ f .blocks → getD cells (to + z) (pos 0) ≡ bestOver was from z (getD was (to + z) (pos 0))
+    pub apart : Apart was cells to (row f)
+
+  -- on the way there: no cell falls, none is above the best over its outputs, and those of its outputs that are in `Of` are counted
+  pub record Reached (Of : ℕ → ℕ → Type 0) (was cells : List ℤ) (to from : ℕ) : Type 0 where
+    pub above : (z : ℕ) → z ≤ f .blocks → getD was (to + z) (pos 0) ≤ℤ getD cells (to + z) (pos 0)
+    pub below : (z : ℕ) → z ≤ f .blocks → getD cells (to + z) (pos 0) ≤ℤ bestOver was from z (getD was (to + z) (pos 0))
+    pub reach : (z k : ℕ) → z ≤ f .blocks → f .pmin ≤ k → k ≤ f .pmax → k ≤ z → Of z k
+        → (getD was (from + (z - k)) (pos 0) +ℤ net f price pays k) ≤ℤ getD cells (to + z) (pos 0)
     pub apart : Apart was cells to (row f)
 
   -- the same for the rows that have on-intervals left

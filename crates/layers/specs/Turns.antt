@@ -4,6 +4,7 @@ use Prim.Native.Nat.{ℕ, zero, suc, _*_}
 use lib.Dec.{leb, ltb}
 use lib.IntN.{ℤ, pos, _+ℤ_, _-ℤ_}
 use Rattle.integers.specs.Maximum.{maxℤ}
+use Rattle.commitment.specs.Profit.{margin}
 use Rattle.optimality.specs.declared.Figures.{Figures}
 use Rattle.optimality.specs.declared.Cell.{Cell}
 use Rattle.optimality.specs.Cells.{states, afterOff, startPays, gain, mayRun, offCell, onCell, rungs}
@@ -12,6 +13,10 @@ use Rattle.layers.specs.Layers.{infeasible}
 -- what an on-interval with k blocks adds, less what a start costs
 abbrev pub net : Figures → ℤ → ℕ → ℕ → ℤ
 net f price pays k = gain f price k -ℤ pos pays
+
+-- what one block more adds
+abbrev pub slope : Figures → ℤ → ℤ
+slope f price = margin price (f .block) (f .vec) 0 0
 
 -- the better of the lowest and the highest output
 abbrev pub endNet : Figures → ℤ → ℕ → ℤ

@@ -2,7 +2,7 @@
 // by what is left of the limitations, so the first layer has the best profit of every smaller limitation too: one fill serves the plan and all
 // runs of valuing. Layers are filled from the last to the first, stretch by stretch over cells that stand side by side, with no division and no
 // test in the innermost loop: a cell without a schedule holds a number so low that no profit reaches it. Where MWh is not limited a cell
-// costs one sum and one maximum; where it is, one for each output.
+// costs one sum and one maximum; where it is, a few more, since the best output is carried along the row: the number of outputs costs nothing.
 
 mod rows;
 mod states;

@@ -70,3 +70,11 @@ pub fn net(f: Figures, price: i64, pays: usize, k: usize) -> i64
     );
     brings - integers::signed(pays as u64)
 }
+
+// What one block more adds.
+pub fn slope(f: Figures, price: i64) -> i64
+    requires { ⌜ (Sound f) × (natAbs price ≤ 200000) ⌝ }
+    ensures { λ r. ⌜ r ≡ turns.slope f price ⌝ }
+{
+    commitment::margin(price, f.block as u64, f.vec as u64, 0, 0)
+}

@@ -1,113 +1,114 @@
--- The invariant: with the outputs from k on still to come, the row comes to the best over all. The outputs left fall.
-use mathlib.Core.Path.{_≡_, sym, _∙_}
+-- The invariant: the sources before a are counted where their highest output stays in the row. The sources left fall.
+use mathlib.Core.Path.{_≡_, refl, _∙_}
 use mathlib.Core.Logic.{inr}
-use Prim.Native.Nat.{suc, _+_, _-_, _≤_}
+use Prim.Native.Nat.{_+_, _-_, _≤_}
 use native.Mathlib.Omega.{arith}
 use lib.IntN.{natAbs}
+use lib.ListN.{length}
 use mir.Syntax.{w64}
 use mir.Val.{toZ, ofZ}
 use Rattle.integers.proofs.Ranges.{plain-fits}
-use Rattle.layers.specs.Turns.{net}
-use Rattle.layers.proofs.Numbers.{row-is}
-use Rattle.layers.proofs.Turning.{pmax-most, blocks-most, net-small}
-use Rattle.layers.proofs.Passes.{RowFrom, row-first, row-next, row-skip, row-done}
+use Rattle.optimality.specs.Cells.{rungs}
+use Rattle.layers.specs.Layers.{row}
+use Rattle.layers.specs.Stretches.{Small, Between, Reached}
+use Rattle.layers.proofs.Turning.{pmax-most}
+use Rattle.layers.proofs.Windows.{row-first, row-next, row-done}
 use Rattle.layers.proofs.rows.raise_row.Statement.{statement}
 use Rattle.layers.proofs.rows.raise_row.Tie as tie
 
 abbrev Inv-loop : tie.InvT-loop
-Inv-loop scratch₀ to from f price pays cells each last k₀ scratch k = RowFrom f (toZ w64 price) pays scratch₀ to from scratch k
+Inv-loop scratch₀ to from f price pays low high cells size a₀ scratch a =
+    (a ≤ f .blocks + 501) × (length scratch ≡ length scratch₀) × Reached f (toZ w64 price) pays (Between f 0 a) scratch₀ scratch to from
 
 abbrev μ-loop : tie.MeasureT-loop
-μ-loop scratch₀ to from f price pays cells each last k₀ scratch k = suc (f .pmax) - k
-
-price-plain : (c : tie.Start Inv-loop μ-loop) → toZ w64 (ofZ w64 (c .args .price)) ≡ c .args .price
-price-plain c = plain-fits (c .fits .price)
+μ-loop scratch₀ to from f price pays low high cells size a₀ scratch a = f .blocks + 501 - a
 
 price-small : (c : tie.Start Inv-loop μ-loop) → natAbs (toZ w64 (ofZ w64 (c .args .price))) ≤ 200000
-price-small c = rw (price-plain c) (c .pre .0 .1)
+price-small c = rw (plain-fits (c .fits .price)) (c .pre .0 .1)
 
--- what an output brings, as it is handed on
-brings : (c : tie.After-net Inv-loop μ-loop) →
-    let o = c .before .before .before .before in
-    toZ w64 (ofZ w64 (c .net .result)) ≡ net (o .args .f) (toZ w64 (ofZ w64 (o .args .price))) (o .args .pays) (c .before .before .loop .k)
-brings c = plain-fits (record { sfits = c .net .ok }) ∙ c .net .ensures
+-- the sources stay small
+small : (c : tie.At-loop Inv-loop μ-loop) → let a = c .before .before .args in Small (c .loop .scratch) (a .from) (row (a .f))
+small c i h =
+    let o = c .before .before in
+    rw (c .loop .inv .2 .apart (o .args .from + i) (inr (omega (arith, o .pre .1 .0)))) (o .pre .1 .2 i h)
+
+-- as many sources in a chunk as there are outputs
+size : (c : tie.Start Inv-loop μ-loop) → c .args .f .pmax - c .args .f .pmin + 1 ≡ rungs (c .args .f)
+size c = omega (arith, c .pre .0 .0 .pmax)
 
 add-cells : tie.Need-add-cells Inv-loop μ-loop
 add-cells c = omega (arith, c .before .pre .0 .0 .blocks)
 
+sub-size : tie.Need-sub-size Inv-loop μ-loop
+sub-size c = omega (arith, c .before .pre .0 .0 .pmax)
+
+add-size : tie.Need-add-size Inv-loop μ-loop
+add-size c = omega (arith, pmax-most (c .before .args .f) (c .before .pre .0 .0))
+
 loop-holds : tie.Need-loop-holds Inv-loop μ-loop
-loop-holds c = let a = c .before .args in row-first (a .f) (toZ w64 (ofZ w64 (a .price))) (a .pays) (a .scratch .now) (a .to) (a .from)
-
-mul-spent : tie.Need-mul-spent Inv-loop μ-loop
-mul-spent c =
-    let o = c .before .before .before in
-    omega (arith, blocks-most (o .args .f) (o .pre .0 .0) (c .before .loop .k) (c .loop-test .taken))
-
-net-requires : tie.Need-net-requires Inv-loop μ-loop
-net-requires c κs = let o = c .before .before .before in (o .pre .0 .0, price-small o, o .pre .0 .2, c .loop-test .taken)
-
-add-k : tie.Need-add-k Inv-loop μ-loop
-add-k c =
-    let o = c .before .before .before .before in
-    omega (arith, c .before .loop-test .taken, pmax-most (o .args .f) (o .pre .0 .0))
-
-add-raise : tie.Need-add-raise Inv-loop μ-loop
-add-raise c =
-    let o = c .before .before .before .before .before .before in
-    omega (arith, row-is (o .args .f), o .pre .1 .0, o .pre .1 .1, c .before .if1 .taken)
-
-sub-raise : tie.Need-sub-raise Inv-loop μ-loop
-sub-raise c = omega (arith, c .before .if1 .taken)
-
-raise-requires : tie.Need-raise-requires Inv-loop μ-loop
-raise-requires c κs =
-    let o = c .before .before .before .before .before .before in
+loop-holds c =
+    let o = c .before in
     let a = o .args in
-    let l = c .before .before .before .before .loop in
-    let e = row-is (a .f) in (
-      (omega (arith, e, o .pre .1 .0, c .before .if1 .taken), omega (arith, e, o .pre .1 .1, l .inv .same)),
-      (
-        λ i h. rw (l .inv .apart (a .from + i) (inr (omega (arith, o .pre .1 .0)))) (o .pre .1 .2 i (omega (arith, e))),
-        rw (brings (c .before .before)) (net-small (a .f) (o .pre .0 .0) (toZ w64 (ofZ w64 (a .price))) (price-small o) (a .pays) (l .k) (o .pre .0 .2) (c .before .before .before .loop-test .taken)),
-      ),
+    (omega arith, refl, row-first (a .f) (toZ w64 (ofZ w64 (a .price))) (a .pays) (o .pre .0 .3) (a .to) (a .from) (a .scratch .now))
+
+add-loop : tie.Need-add-loop Inv-loop μ-loop
+add-loop c =
+    let o = c .before .before in omega (arith, c .loop .inv .0, o .pre .0 .0 .blocks, pmax-most (o .args .f) (o .pre .0 .0))
+
+raise-chunk-requires : tie.Need-raise-chunk-requires Inv-loop μ-loop
+raise-chunk-requires c κs =
+    let o = c .before .before .before .before in (
+      (o .pre .0 .0, price-small o, o .pre .0 .2, o .pre .0 .3, omega (arith, c .before .loop-test .taken)),
+      (o .pre .1 .0, omega (arith, o .pre .1 .1, c .before .before .loop .inv .1), small (c .before .before)),
     )
 
+add-a : tie.Need-add-a Inv-loop μ-loop
+add-a c =
+    let o = c .before .before .before .before .before .before in
+    omega (arith, c .before .before .before .loop-test .taken, o .pre .0 .0 .blocks, pmax-most (o .args .f) (o .pre .0 .0))
+
 loop-less : tie.Need-loop-less Inv-loop μ-loop
-loop-less c = omega (arith, c .before .before .before .before .before .loop-test .taken)
+loop-less c = omega (arith, c .before .before .before .loop-test .taken)
 
 loop-again : tie.Need-loop-again Inv-loop μ-loop
 loop-again c =
-    let o = c .before .before .before .before .before .before .before .before in
+    let o = c .before .before .before .before .before .before in
     let a = o .args in
-    let l = c .before .before .before .before .before .before .loop in
-    let new = rw (sym (row-is (a .f)), brings (c .before .before .before .before)) at (c .before .raise .ensures) in
-    row-next (a .f) (toZ w64 (ofZ w64 (a .price))) (a .pays) (a .scratch .now) (a .to) (a .from) (l .scratch) (c .before .raise .last .0) (l .k)
-    (c .before .before .before .before .before .loop-test .taken)
-    (omega (arith, row-is (a .f), c .before .before .before .if1 .taken))
-    (o .pre .1 .0)
-    (c .before .raise .kept .0)
-    (l .inv)
-    new
+    let l = c .before .before .before .before .loop in (
+      omega (arith, c .before .before .before .loop-test .taken, pmax-most (a .f) (o .pre .0 .0), o .pre .0 .0 .pmin),
+      c .before .raise-chunk .kept .0 ∙ l .inv .1,
+      rw (size o)
+          (row-next (a .f) (toZ w64 (ofZ w64 (a .price))) (a .pays) (o .pre .0 .3) (a .to) (a .from) (a .scratch .now) (l .scratch)
+          (c .before .raise-chunk .last .0)
+          (o .pre .1 .0)
+          (l .a)
+          (l .inv .2)
+          (c .before .raise-chunk .ensures)),
+    )
 
-loop-less-2 : tie.Need-loop-less-2 Inv-loop μ-loop
-loop-less-2 c = omega (arith, c .before .before .loop-test .taken)
-
-loop-again-2 : tie.Need-loop-again-2 Inv-loop μ-loop
-loop-again-2 c =
-    let o = c .before .before .before .before .before in
-    let a = o .args in
-    let l = c .before .before .before .loop in
-    row-skip (a .f) (toZ w64 (ofZ w64 (a .price))) (a .pays) (a .scratch .now) (a .to) (a .from) (l .scratch) (l .k) (c .before .before .loop-test .taken) (omega (arith, row-is (a .f), c .if1 .left)) (l .inv)
+raise-last-requires : tie.Need-raise-last-requires Inv-loop μ-loop
+raise-last-requires c κs =
+    let o = c .before .before .before .before in (
+      (o .pre .0 .0, price-small o, o .pre .0 .2, o .pre .0 .3),
+      (o .pre .1 .0, omega (arith, o .pre .1 .1, c .before .before .loop .inv .1), small (c .before .before)),
+    )
 
 same-length : tie.Need-same-length Inv-loop μ-loop
-same-length c = c .before .loop .inv .same
+same-length c = c .before .raise-last .kept .0 ∙ c .before .before .before .before .loop .inv .1
 
 returns : tie.Need-returns Inv-loop μ-loop
 returns c =
-    let o = c .before .before .before in
+    let o = c .before .before .before .before .before .before in
     let a = o .args in
-    let l = c .before .loop in
-    rw (price-plain o) at (row-done (a .f) (toZ w64 (ofZ w64 (a .price))) (a .pays) (a .scratch .now) (a .to) (a .from) (l .scratch) (l .k) (c .loop-test .left) (l .inv))
+    let l = c .before .before .before .before .loop in
+    rw (plain-fits (o .fits .price)) at
+    (row-done (a .f) (toZ w64 (ofZ w64 (a .price))) (a .pays) (o .pre .0 .3) (a .to) (a .from) (a .scratch .now) (l .scratch)
+    (c .before .raise-last .last .0)
+    (o .pre .1 .0)
+    (l .a)
+    (omega (arith, c .before .before .before .loop-test .left))
+    (l .inv .2)
+    (c .before .raise-last .ensures))
 
 pub raise-row-spec : {M : Type 1} → statement M
 raise-row-spec =
@@ -116,16 +117,14 @@ raise-row-spec =
     Inv-loop
     μ-loop
     add-cells
+    sub-size
+    add-size
     loop-holds
-    mul-spent
-    net-requires
-    add-k
-    add-raise
-    sub-raise
-    raise-requires
+    add-loop
+    raise-chunk-requires
+    add-a
     loop-less
     loop-again
-    loop-less-2
-    loop-again-2
+    raise-last-requires
     same-length
     returns)

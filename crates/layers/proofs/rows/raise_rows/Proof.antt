@@ -61,7 +61,7 @@ raise-row-requires c κs =
     let a = o .args in
     let l = c .before .before .loop in
     let t = here (c .before) in (
-      (o .pre .0 .0, rw (plain-fits (o .fits .price)) (o .pre .0 .1), o .pre .0 .2),
+      (o .pre .0 .0, rw (plain-fits (o .fits .price)) (o .pre .0 .1), o .pre .0 .2, o .pre .0 .3),
       (
         t .apart,
         omega (arith, t .fits, l .inv .4 .same),

@@ -1,5 +1,5 @@
 -- Where the blocks are not limited the one pass does all rows by the law of the ends; else the rows are raised one by one.
-use mathlib.Core.Path.{sym}
+use mathlib.Core.Path.{_≡_, sym}
 use Prim.Native.Nat.{_+_, _*_, _≤_}
 use native.Mathlib.Omega.{arith}
 use borrow.Author.Needs.{needs}
@@ -46,7 +46,10 @@ raise-requires c κs =
     )
 
 raise-rows-requires : tie.Need-raise-rows-requires
-raise-rows-requires c κs = search needs
+raise-rows-requires c κs =
+    let o = c .before .before .before in
+    let one : o .args .f .perblock ≡ 1 = omega (arith, c .before .if1 .left, o .pre .0 .0 .perblock) in
+    ((o .pre .0 .0, rw (plain-fits (o .fits .price)) (o .pre .0 .1), o .pre .0 .2, one), o .pre .1 .0)
 
 same-length : tie.Need-same-length
 same-length c = search needs
