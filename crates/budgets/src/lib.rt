@@ -81,7 +81,7 @@ fn mwh_count(limit: Limit, block: u64, most: usize) -> usize
 pub fn starts_left(starts: u64, n: usize) -> usize
     ensures { λ r. ⌜ r ≡ min starts n ⌝ }
 {
-    smaller(starts as usize, n)
+    integers::smaller(starts as usize, n)
 }
 
 // So many hours, as on-intervals.
@@ -89,7 +89,7 @@ pub fn hours_left(hours: u64, n: usize) -> usize
     requires { ⌜ hours ≤ 744 ⌝ }
     ensures { λ r. ⌜ r ≡ min (4 * hours) n ⌝ }
 {
-    smaller((4 * hours) as usize, n)
+    integers::smaller((4 * hours) as usize, n)
 }
 
 // So many MWh, as whole blocks of one interval.
@@ -97,13 +97,7 @@ pub fn mwh_left(mwh: u64, block: u64, most: usize) -> usize
     requires { ⌜ (mwh ≤ 372000) × (1 ≤ block) ⌝ }
     ensures { λ r. ⌜ r ≡ min (4 * mwh / block) most ⌝ }
 {
-    smaller((4 * mwh / block) as usize, most)
-}
-
-fn smaller(a: usize, b: usize) -> usize
-    ensures { λ r. ⌜ r ≡ min a b ⌝ }
-{
-    if a <= b { a } else { b }
+    integers::smaller((4 * mwh / block) as usize, most)
 }
 
 // The state before interval 1, as the table numbers states.
@@ -115,9 +109,9 @@ pub fn opening_state(unit: UnitRecord) -> usize
     let mot = unit.mot as usize;
     let mdt = unit.mdt as usize;
     if unit.was == 1 {
-        return smaller(held, mot) - 1;
+        return integers::smaller(held, mot) - 1;
     }
-    mot + smaller(held, mdt) - 1
+    mot + integers::smaller(held, mdt) - 1
 }
 
 // "lowered to nine tenths, rounded down"

@@ -1,5 +1,5 @@
 ghost use mathlib.Core.Path.{_≡_};
-ghost use Prim.Native.Nat.{_<_, _^_};
+ghost use Prim.Native.Nat.{_<_, _^_, min};
 ghost use lib.IntN.{pos};
 ghost use Rattle.integers.specs.Maximum.{maxℤ};
 
@@ -8,6 +8,12 @@ pub fn larger(a: i64, b: i64) -> i64
     ensures { λ r. ⌜ r ≡ maxℤ a b ⌝ }
 {
     if a < b { b } else { a }
+}
+
+pub fn smaller(a: usize, b: usize) -> usize
+    ensures { λ r. ⌜ r ≡ min a b ⌝ }
+{
+    if a <= b { a } else { b }
 }
 
 // A natural number as a signed one.

@@ -4,7 +4,7 @@ use crate::steps;
 use optimality::Figures;
 ghost use mathlib.Core.Path.{_≡_};
 ghost use mathlib.Core.List.{_++_};
-ghost use Prim.Native.Nat.{_+_, _≤_, min};
+ghost use Prim.Native.Nat.{_+_, _≤_};
 ghost use lib.IntN.{natAbs};
 ghost use lib.ListN.{length, take, drop, replicate};
 ghost use Rattle.optimality.specs.Cells.{Sound, rungs};
@@ -80,12 +80,6 @@ fn descend(scratch: &mut [i64], to: usize, from: usize, count: usize, gain: i64,
     }
 }
 
-fn smaller(a: usize, b: usize) -> usize
-    ensures { λ r. ⌜ r ≡ min a b ⌝ }
-{
-    if a <= b { a } else { b }
-}
-
 // A chunk of a row's sources: from a on, as many as there are outputs. A cell's sources are the last of one chunk and the first of the next, so
 // all are counted by going up each chunk and down it again, down only from where the highest output stays in the row.
 fn raise_chunk(
@@ -104,7 +98,7 @@ fn raise_chunk(
     let low = f.pmin;
     let high = f.pmax;
     let size = high - low + 1;
-    let down = smaller(size, f.blocks + 1 - high - a);
+    let down = integers::smaller(size, f.blocks + 1 - high - a);
     let rise = steps::slope(f, price);
     let least = steps::net(f, price, pays, low);
     let most = steps::net(f, price, pays, high);
@@ -120,7 +114,7 @@ fn raise_last(scratch: &mut [i64], to: usize, from: usize, f: Figures, price: i6
 {
     let low = f.pmin;
     let cells = f.blocks + 1;
-    let a = cells - smaller(f.pmax, cells);
+    let a = cells - integers::smaller(f.pmax, cells);
     let first = a + low;
     if first < cells {
         let rise = steps::slope(f, price);
