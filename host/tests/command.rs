@@ -2,10 +2,9 @@
 
 mod support;
 
-use std::io::Write;
 use std::path::{Path, PathBuf};
-use std::process::{Command, Output, Stdio};
-use support::{damage, damage_text, small_case, text_of, Random};
+use std::process::{Command, Output};
+use support::{damage, damage_text, run_on, small_case, text_of, Random};
 
 const CASES: usize = 500;
 
@@ -22,20 +21,6 @@ fn proved_program() -> PathBuf {
         path.display()
     );
     path
-}
-
-fn run_on(mut program: Command, text: &[u8]) -> Output {
-    let mut child = program
-        .stdin(Stdio::piped())
-        .stdout(Stdio::piped())
-        .stderr(Stdio::piped())
-        .spawn()
-        .expect("the program starts");
-    let mut stdin = child.stdin.take().expect("piped");
-    // a program that has read enough may close its end
-    let _ = stdin.write_all(text);
-    drop(stdin);
-    child.wait_with_output().expect("the program ends")
 }
 
 #[test]

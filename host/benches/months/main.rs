@@ -8,7 +8,9 @@ use std::hint::black_box;
 use std::time::Instant;
 
 const INTERVALS: usize = 2976;
+/// Small cases get more rounds than these, for so many seconds.
 const ROUNDS: usize = 5;
+const SECONDS: f64 = 3.0;
 
 /// A month of prices: a daily wave with noise, below vec at night and above it by day, some negative.
 fn month() -> Vec<i64> {
@@ -129,7 +131,10 @@ fn measure(unit: Unit, prices: &[i64], scratch: &mut [i64]) -> Times {
     };
     let mut ours = vec![0; prices.len()];
     let mut theirs = vec![0; prices.len()];
-    for _ in 0..ROUNDS {
+    let began = Instant::now();
+    let mut rounds = 0;
+    while rounds < ROUNDS || began.elapsed().as_secs_f64() < SECONDS {
+        rounds += 1;
         let (library, answer) = timed(|| report_into(unit, prices, scratch, &mut ours));
         let (plain, expected) = timed(|| plain::report_into(unit, prices, scratch, &mut theirs));
         let (plan, planned) = timed(|| plan_into(unit, prices, scratch, &mut ours));
@@ -148,7 +153,7 @@ fn main() {
     // cargo hands on `--bench`; any other word picks the cases that have it in their name
     let wanted = std::env::args().skip(1).find(|word| !word.starts_with('-'));
     let prices = month();
-    println!("{INTERVALS} intervals, least of {ROUNDS} rounds; ns per cell");
+    println!("{INTERVALS} intervals, least of {ROUNDS} rounds or more; ns per cell");
     println!(
         "{:<24}{:>13}{:>9}{:>9}{:>9}{:>9}{:>9}{:>12}",
         "case", "cells", "library", "plain", "ratio", "plan", "floor", "report/plan"

@@ -4,6 +4,8 @@
 pub mod paper;
 
 use ralwinga::Unit;
+use std::io::Write;
+use std::process::{Command, Output, Stdio};
 
 /// A linear congruential generator; its high bits are the numbers.
 pub struct Random(u64);
@@ -214,4 +216,19 @@ pub fn damage_text(random: &mut Random, text: &mut Vec<u8>) {
             text.splice(begin..end, piece.iter().copied());
         }
     }
+}
+
+/// What a program makes of a text on its standard input.
+pub fn run_on(mut program: Command, text: &[u8]) -> Output {
+    let mut child = program
+        .stdin(Stdio::piped())
+        .stdout(Stdio::piped())
+        .stderr(Stdio::piped())
+        .spawn()
+        .expect("the program starts");
+    let mut stdin = child.stdin.take().expect("piped");
+    // a program that has read enough may close its end
+    let _ = stdin.write_all(text);
+    drop(stdin);
+    child.wait_with_output().expect("the program ends")
 }

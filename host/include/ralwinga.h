@@ -1,0 +1,128 @@
+/* The proved planner for hosts in C: link libexports.a, which `rt staticlib exports` writes.
+ *
+ * Every call answers, whatever record, text or slices it is given. A slice is a pointer and a length in entries; the pointer is to that many
+ * entries that live through the call and that no other argument shares, and is aligned and not null even where the length is 0.
+ * `number` in an answer is 0, or that of the refusal's cause (README.md); then every other number is 0, and limitations and outcomes are none.
+ * Profits and gaps are in quarter-cents.
+ */
+#ifndef RALWINGA_H
+#define RALWINGA_H
+
+#include <stddef.h>
+#include <stdint.h>
+
+#ifdef __cplusplus
+extern "C" {
+#ifdef __cplusplus
+}
+#endif
+
+#endif
+
+/* `none` as the figure of a limitation. */
+#define RALWINGA_NONE UINT64_MAX
+
+struct ralwinga_unit {
+    uint64_t block, pmin, pmax, mot, mdt, was, held, vec, mlc, suc;
+    uint64_t starts, hours, mwh;
+};
+
+enum { RALWINGA_OUTCOME_NONE, RALWINGA_OUTCOME_EMPTY, RALWINGA_OUTCOME_NEVER, RALWINGA_OUTCOME_GAP };
+
+/* `gap` is 0 unless `kind` is RALWINGA_OUTCOME_GAP. */
+struct ralwinga_outcome {
+    uint64_t kind;
+    int64_t gap;
+};
+
+struct ralwinga_outcomes {
+    struct ralwinga_outcome starts, hours, mwh;
+};
+
+struct ralwinga_cost_inputs {
+    uint64_t block, pmin, pmax;
+    uint64_t gas, transport, allowance, om, gmc, rate;
+    uint64_t min_heat, fuel, aux, minutes, start_adder, load_adder;
+};
+
+struct ralwinga_case {
+    uint64_t number;
+    size_t count;
+    struct ralwinga_unit unit;
+};
+
+struct ralwinga_figures {
+    uint64_t number, vec, suc, mlc;
+};
+
+struct ralwinga_assessment {
+    uint64_t number;
+    int64_t profit;
+};
+
+struct ralwinga_cells {
+    uint64_t number;
+    size_t cells;
+};
+
+struct ralwinga_plan {
+    uint64_t number;
+    size_t count;
+    int64_t profit;
+};
+
+struct ralwinga_valuation {
+    uint64_t number;
+    struct ralwinga_outcomes outcomes;
+};
+
+struct ralwinga_report {
+    uint64_t number;
+    size_t count;
+    int64_t profit;
+    struct ralwinga_outcomes outcomes;
+};
+
+struct ralwinga_written {
+    uint64_t number;
+    size_t bytes;
+};
+
+/* The record of a text; its `count` prices go into the front of `prices`. */
+struct ralwinga_case ralwinga_read(const uint8_t *text, size_t text_len, int64_t *prices, size_t prices_len);
+
+/* Cost figures of a unit with segments of these MW and heat rates. */
+struct ralwinga_figures ralwinga_figures(struct ralwinga_cost_inputs inputs, const uint64_t *mws, size_t mws_len,
+                                         const uint64_t *heats, size_t heats_len);
+
+/* The profit of a schedule handed in. */
+struct ralwinga_assessment ralwinga_assess(struct ralwinga_unit unit, const int64_t *prices, size_t prices_len,
+                                           const uint64_t *schedule, size_t schedule_len);
+
+/* The cells of scratch that a case of so many intervals needs. */
+struct ralwinga_cells ralwinga_cells(struct ralwinga_unit unit, size_t intervals);
+
+/* The best plan into the front of `schedule`. */
+struct ralwinga_plan ralwinga_plan(struct ralwinga_unit unit, const int64_t *prices, size_t prices_len, int64_t *scratch,
+                                   size_t scratch_len, uint64_t *schedule, size_t schedule_len);
+
+/* What one more start, hour and MWh is worth. */
+struct ralwinga_valuation ralwinga_value(struct ralwinga_unit unit, const int64_t *prices, size_t prices_len,
+                                         int64_t *scratch, size_t scratch_len);
+
+/* Plan and outcomes from one fill of the table. */
+struct ralwinga_report ralwinga_report(struct ralwinga_unit unit, const int64_t *prices, size_t prices_len, int64_t *scratch,
+                                       size_t scratch_len, uint64_t *schedule, size_t schedule_len);
+
+/* The listing of a plan into the front of `out`. */
+struct ralwinga_written ralwinga_listing(const uint64_t *schedule, size_t schedule_len, int64_t profit,
+                                         struct ralwinga_outcomes outcomes, uint8_t *out, size_t out_len);
+
+/* The line of a refusal into the front of `out`. */
+struct ralwinga_written ralwinga_refusal(uint64_t number, uint8_t *out, size_t out_len);
+
+#ifdef __cplusplus
+}
+#endif
+
+#endif
