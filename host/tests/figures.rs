@@ -81,6 +81,21 @@ fn random_inputs(random: &mut Random) -> (CostInputs, Vec<u64>, Vec<u64>) {
     (inputs, mws, heats)
 }
 
+/// Round numbers, whose figures often stand at a half.
+fn round_inputs(random: &mut Random) -> (CostInputs, Vec<u64>, Vec<u64>) {
+    let (inputs, mws, _) = random_inputs(random);
+    let heats = mws.iter().map(|_| 10 * (1 + random.below(2000))).collect();
+    let rounded = CostInputs {
+        gas: 50 * random.below(20),
+        transport: 0,
+        rate: 0,
+        min_heat: 10 * (1 + random.below(2000)),
+        minutes: 15 * random.below(9),
+        ..inputs
+    };
+    (rounded, mws, heats)
+}
+
 fn damage(random: &mut Random, k: &mut CostInputs, mws: &mut Vec<u64>, heats: &mut Vec<u64>) {
     match random.below(12) {
         0 => k.block = random.from(&[0, 501, u64::MAX]),
@@ -106,7 +121,10 @@ fn random_cases() {
     let mut random = Random::new(4);
     let mut seen = [0; 11];
     for _ in 0..CASES {
-        let (mut inputs, mut mws, mut heats) = random_inputs(&mut random);
+        let (mut inputs, mut mws, mut heats) = match random.below(2) {
+            0 => random_inputs(&mut random),
+            _ => round_inputs(&mut random),
+        };
         if random.one_in(3) {
             damage(&mut random, &mut inputs, &mut mws, &mut heats);
         }
