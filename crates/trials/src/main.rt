@@ -2,8 +2,11 @@
 
 mod comparison;
 mod enumerator;
+mod figures;
+mod files;
 mod generator;
 mod numbers;
+mod others;
 mod printing;
 mod tally;
 
@@ -16,6 +19,9 @@ use tally::Tally;
 const CASES: u64 = 4096;
 
 fn main() {
+    files::try_texts();
+    others::try_others();
+    figures::try_figures();
     let mut scratch = [0i64; 16384];
     generated(&mut scratch);
 }
