@@ -18,7 +18,6 @@ use commitment::UnitRecord;
 use planner::Planned;
 use planner::Reported;
 use planner::Valued;
-ghost use Prim.Native.Nat.{_<_, _≤_};
 
 // What no output of a small case is: entries that a call leaves as they were still hold it.
 const UNTOUCHED: u64 = 7777;
@@ -201,7 +200,7 @@ fn report_agrees(answer: Reported, intervals: usize, expected: Expected) -> bool
     }
 }
 
-// The plan handed in is passed with its profit. Without a plan there is nothing to hand in.
+// The plan handed in is passed with its profit; without a plan, entries that were left as they were are no schedule.
 fn same_profit(unit: UnitRecord, prices: &[i64], schedule: &[u64], expected: Expected) -> bool {
     match assessment::assess(unit, prices, schedule) {
         Assessed::Refused(_) => !expected.planned,

@@ -7,7 +7,7 @@ use crate::numbers::times;
 use crate::numbers::wide8;
 use crate::numbers::wide16;
 use crate::numbers::wide32;
-ghost use Prim.Native.Nat.{_<_, _≤_, _^_, _*_, _+_};
+ghost use Prim.Native.Nat.{_+_, _<_, _≤_, _^_};
 
 // A limitation: at most so much, where it is limited.
 pub struct Cap {

@@ -1,34 +1,43 @@
 // The cost figures: C10 to C12, and each cause for which there are none.
 
 use crate::printing::line;
+use crate::printing::row;
 use crate::printing::text;
 use commitment::CostInputs;
 use costs::Costed;
 
 pub fn try_figures() {
-    let unit = gas_unit();
-    try_inputs(b"c10\n", unit, &[80], &[9790]);
-    try_inputs(b"c11\n", with_allowances(unit), &[80], &[9790]);
-    try_inputs(b"c12\n", with_start(unit), &[80], &[9790]);
-    try_inputs(b"heat rate 0\n", unit, &[80], &[0]);
-    try_inputs(b"pmin over pmax\n", with_pmin(unit, 16), &[80], &[9790]);
-    try_inputs(b"segment of 79 MW\n", unit, &[79], &[9790]);
-    try_inputs(b"no segment\n", unit, &[], &[]);
-    try_inputs(b"two heat rates\n", unit, &[80], &[9790, 9790]);
-    try_inputs(b"one output\n", with_pmin(unit, 15), &[], &[]);
+    text(b"figures,vec,suc,mlc\n");
+    let mws = [80];
+    let heats = [9790];
+    try_gas_unit(&mws, &heats);
+    try_refusals(&mws, &heats);
+    text(b"\n");
 }
 
+fn try_gas_unit(mws: &[u64], heats: &[u64]) {
+    let unit = gas_unit();
+    try_inputs(b"c10", unit, mws, heats);
+    try_inputs(b"c11", with_allowances(unit), mws, heats);
+    try_inputs(b"c12", with_start(unit), mws, heats);
+}
+
+// A heat rate too high, pmin over pmax, 80 MW of segments for 90, and more heat rates than segments.
+fn try_refusals(mws: &[u64], heats: &[u64]) {
+    let unit = gas_unit();
+    try_inputs(b"heat rate 50001", unit, mws, &[50001]);
+    try_inputs(b"pmin 16", with_pmin(unit, 16), mws, heats);
+    try_inputs(b"pmin 6", with_pmin(unit, 6), mws, heats);
+    try_inputs(b"two heat rates", unit, mws, &[9790, 9790]);
+}
+
+// A line of the figures, in document 01's sequence, or of the refusal.
 fn try_inputs(name: &[u8], inputs: CostInputs, mws: &[u64], heats: &[u64]) {
     text(name);
     match costs::figures(inputs, mws, heats) {
-        Costed::Refused(cause) => line(b"refused,", commitment::number_of(cause)),
-        Costed::Figures(figures) => {
-            line(b"vec,", figures.vec);
-            line(b"suc,", figures.suc);
-            line(b"mlc,", figures.mlc);
-        }
+        Costed::Refused(cause) => line(b" refused,", commitment::number_of(cause)),
+        Costed::Figures(figures) => row(&[figures.vec, figures.suc, figures.mlc]),
     }
-    text(b"\n");
 }
 
 fn gas_unit() -> CostInputs {

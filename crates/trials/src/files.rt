@@ -33,11 +33,15 @@ fn try_argument(i: usize) {
     text(b"\n");
 }
 
-// A file's bytes in the front of the slice: so many.
+// A file's bytes in the front of the slice: so many. A file that is missing shows.
 pub fn contents(path: &[u8], bytes: &mut [u8]) -> usize
     ensures { λ r. ⌜ Counts r (now (bytes .exit)) ⌝ }
 {
     let file = os::open_read(path);
+    if file < 0 {
+        text(b"no such file\n");
+        return 0;
+    }
     let size = io::read_full(file, bytes);
     libc::close(file);
     size

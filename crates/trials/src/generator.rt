@@ -4,7 +4,7 @@ use crate::enumerator::Cap;
 use crate::enumerator::Case;
 use crate::numbers::times;
 use crate::numbers::wide32;
-ghost use Prim.Native.Nat.{_<_};
+ghost use Prim.Native.Nat.{_+_, _<_, _≤_};
 
 pub fn draws_from(seed: u32) -> [u32; 24] {
     let mut draws = [0u32; 24];
@@ -21,16 +21,16 @@ pub fn draws_from(seed: u32) -> [u32; 24] {
 // The number's lowest three bits say which limitations there are, the next one whether the unit was on; the next two choose the prices.
 pub fn case_of(number: u64, draws: [u32; 24]) -> Case {
     let spread = number / 16 % 4;
-    let pmin = 1 + (draws[1] % 2) as u8;
+    let pmin = pick(draws[1], 1, 2);
     Case {
-        intervals: 1 + (draws[0] % 5) as u8,
-        block: 1 + (draws[2] % 4) as u8,
+        intervals: pick(draws[0], 1, 5),
+        block: pick(draws[2], 1, 4),
         pmin,
-        pmax: pmin + (draws[3] % 3) as u8,
-        mot: 1 + (draws[4] % 3) as u8,
-        mdt: 1 + (draws[5] % 3) as u8,
+        pmax: pick(draws[3], pmin, 3),
+        mot: pick(draws[4], 1, 3),
+        mdt: pick(draws[5], 1, 3),
         was_on: number / 8 % 2 == 1,
-        held: 1 + (draws[6] % 4) as u8,
+        held: pick(draws[6], 1, 4),
         vec: (draws[7] % 4 * 5) as u16,
         mlc: draws[8] % 5 * 20,
         suc: draws[9] % 4 * 10,
@@ -40,6 +40,14 @@ pub fn case_of(number: u64, draws: [u32; 24]) -> Case {
         up: prices(spread, draws),
         down: down_of(spread),
     }
+}
+
+// `low`, or up to `choices` − 1 more.
+fn pick(draw: u32, low: u8, choices: u32) -> u8
+    requires { ⌜ (0 < choices) × (choices ≤ 8) × (low ≤ 8) ⌝ }
+    ensures { λ r. ⌜ r < low + choices ⌝ }
+{
+    low + (draw % choices) as u8
 }
 
 fn cap(limited: bool, draw: u32, choices: u32) -> Cap

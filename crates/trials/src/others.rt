@@ -5,17 +5,15 @@ use crate::files::hand_in;
 use crate::printing::line;
 use crate::printing::text;
 use commitment::UnitRecord;
-use planner::Reported;
-use planner::Valued;
 
+// 0 where there is no refusal.
 pub fn try_others() {
-    text(b"others\n");
     let mut bytes = [0u8; 512];
     let size = contents(b"c1.csv", &mut bytes);
     try_prices(&bytes[..size]);
     let mut prices = [0i64; 6];
     let unit = casefile::unit_of(casefile::read_into(&bytes[..size], &mut prices));
-    try_cells(unit, &prices);
+    try_scratch(unit, &prices);
     try_schedules(unit, &prices);
     text(b"\n");
 }
@@ -23,25 +21,21 @@ pub fn try_others() {
 fn try_prices(bytes: &[u8]) {
     let mut short = [0i64; 5];
     line(
-        b"read into 5 prices,",
+        b"c1 read into 5 prices,",
         casefile::number_of(casefile::read_into(bytes, &mut short)),
     );
 }
 
-fn try_cells(unit: UnitRecord, prices: &[i64]) {
+fn try_scratch(unit: UnitRecord, prices: &[i64]) {
     let mut enough = [0i64; 588];
     let mut short = [0i64; 587];
-    line(b"plan with 588 cells,", planned(unit, prices, &mut enough));
-    line(b"value with 588 cells,", valued(unit, prices, &mut enough));
     line(
-        b"report with 588 cells,",
-        reported(unit, prices, &mut enough),
+        b"c1 planned with 588 cells,",
+        planned(unit, prices, &mut enough),
     );
-    line(b"plan with 587 cells,", planned(unit, prices, &mut short));
-    line(b"value with 587 cells,", valued(unit, prices, &mut short));
     line(
-        b"report with 587 cells,",
-        reported(unit, prices, &mut short),
+        b"c1 planned with 587 cells,",
+        planned(unit, prices, &mut short),
     );
 }
 
@@ -50,26 +44,14 @@ fn planned(unit: UnitRecord, prices: &[i64], scratch: &mut [i64]) -> u64 {
     planner::planned_number(planner::plan_into(unit, prices, scratch, &mut schedule))
 }
 
-fn valued(unit: UnitRecord, prices: &[i64], scratch: &mut [i64]) -> u64 {
-    match planner::value(unit, prices, scratch) {
-        Valued::Refused(cause) => commitment::number_of(cause),
-        Valued::Outcomes(_) => 0,
-    }
-}
-
-fn reported(unit: UnitRecord, prices: &[i64], scratch: &mut [i64]) -> u64 {
-    let mut schedule = [0u64; 6];
-    match planner::report_into(unit, prices, scratch, &mut schedule) {
-        Reported::Refused(cause) => commitment::number_of(cause),
-        Reported::Report(_) => 0,
-    }
-}
-
 fn try_schedules(unit: UnitRecord, prices: &[i64]) {
     let mut scratch = [0i64; 588];
     let mut short = [0u64; 5];
     let answer = planner::plan_into(unit, prices, &mut scratch, &mut short);
-    line(b"plan into 5 entries,", planner::planned_number(answer));
+    line(
+        b"c1 planned into 5 entries,",
+        planner::planned_number(answer),
+    );
     hand_in(unit, prices, &[0, 20, 20, 10, 20], 400000);
     hand_in(unit, prices, &[0, 20, 20, 10, 20, 20], 400000);
     hand_in(unit, prices, &[0, 20, 0, 0, 20, 20], 400000);

@@ -13,12 +13,15 @@ Inv-loop n outputs lists₀ i₀ lists i = (lists ≤ 512 ^ i) × (i ≤ n)
 abbrev μ-loop : tie.MeasureT-loop
 μ-loop n outputs lists₀ i₀ lists i = n - i
 
-module _ (lists outputs i : ℕ) (sofar : lists ≤ 512 ^ i) (few : outputs ≤ 512) where
-  one-more : lists * outputs ≤ 512 ^ (i + 1)
-  one-more = rw (add-one, pow-suc) (mul-le-mul sofar few)
+one-more : (lists outputs i : ℕ) → lists ≤ 512 ^ i → outputs ≤ 512 → lists * outputs ≤ 512 ^ (i + 1)
+one-more lists outputs i h k = rw (add-one, pow-suc) (mul-le-mul h k)
 
-  small : i < 6 → lists * outputs ≤ 512 ^ 6
-  small h = omega (arith, one-more, pow-le-pow-right {n = 512} (omega arith) {i = i + 1} {j = 6} (omega arith))
+grown : (c : tie.In-loop Inv-loop μ-loop) → c .before .loop .lists * c .before .before .outputs-of .result ≤ 512 ^ (c .before .loop .i + 1)
+grown c = one-more _ _ _ (c .before .loop .inv .0) (c .before .before .outputs-of .ensures .1)
+
+-- 512 ^ 6 is 2 ^ 54
+small : (i : ℕ) → i < 6 → 512 ^ (i + 1) ≤ 512 ^ 6
+small i h = pow-le-pow-right {n = 512} (omega arith) {i = i + 1} {j = 6} (omega arith)
 
 intervals-of-requires : tie.Need-intervals-of-requires Inv-loop μ-loop
 intervals-of-requires c κs = search needs
@@ -30,7 +33,7 @@ loop-holds : tie.Need-loop-holds Inv-loop μ-loop
 loop-holds c = omega arith
 
 mul-lists : tie.Need-mul-lists Inv-loop μ-loop
-mul-lists c = let at = c .before in omega (arith, small (at .loop .lists) (at .before .outputs-of .result) (at .loop .i) (at .loop .inv .0) (at .before .outputs-of .ensures .1) (omega arith))
+mul-lists c = omega (arith, grown c, small (c .before .loop .i) (omega arith))
 
 add-i : tie.Need-add-i Inv-loop μ-loop
 add-i c = omega arith
@@ -39,7 +42,7 @@ loop-less : tie.Need-loop-less Inv-loop μ-loop
 loop-less c = omega arith
 
 loop-again : tie.Need-loop-again Inv-loop μ-loop
-loop-again c = let at = c .before in omega (arith, one-more (at .loop .lists) (at .before .outputs-of .result) (at .loop .i) (at .loop .inv .0) (at .before .outputs-of .ensures .1))
+loop-again c = omega (arith, grown c)
 
 returns : tie.Need-returns Inv-loop μ-loop
 returns c = search needs

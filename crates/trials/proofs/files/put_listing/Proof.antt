@@ -25,7 +25,8 @@ fits : (c : tie.After-bytes-in) → c .bytes-in .result ≤ length (c .before .b
 fits c =
     let s = c .before .before .before .before .before .before .before in
     let call = c .before .before .before .write-listing in
-    omega (arith, c .bytes-in .ensures ∙ ap bytesIn (call .ensures .0), bytes-fit (length (listing (s .args .schedule .now) (toZ w64 (ofZ w64 (s .args .profit))) (s .args .outcomes))) (length (s .args .out .now)), call .kept .1 .1 .1 .0)
+    let size = length (listing (s .args .schedule .now) (toZ w64 (ofZ w64 (s .args .profit))) (s .args .outcomes)) in
+    omega (arith, c .bytes-in .ensures ∙ ap bytesIn (call .ensures .0), bytes-fit size (length (s .args .out .now)), call .kept .1 .1 .1 .0)
 
 returns : tie.Need-returns
 returns c = (fits c, sym (length-take-le _ _ (fits c)))

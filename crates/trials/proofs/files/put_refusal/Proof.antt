@@ -23,7 +23,8 @@ fits : (c : tie.After-bytes-in) → c .bytes-in .result ≤ length (c .before .b
 fits c =
     let s = c .before .before .before .before .before .before in
     let call = c .before .before .before .write-refusal in
-    omega (arith, c .bytes-in .ensures ∙ ap bytesIn (call .ensures .0), bytes-fit (length (refusal (s .args .number))) (length (s .args .out .now)), call .kept .1 .0)
+    let size = length (refusal (s .args .number)) in
+    omega (arith, c .bytes-in .ensures ∙ ap bytesIn (call .ensures .0), bytes-fit size (length (s .args .out .now)), call .kept .1 .0)
 
 returns : tie.Need-returns
 returns c = (fits c, sym (length-take-le _ _ (fits c)))
