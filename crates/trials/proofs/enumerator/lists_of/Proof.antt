@@ -1,0 +1,63 @@
+-- There are at most 512 outputs.
+use borrow.Author.Needs.{needs}
+use native.Mathlib.Omega.{arith}
+use Prim.Native.Nat.{ℕ, _≤_, _<_, _+_, _*_, _-_, _^_}
+use native.Mathlib.Nat.{mul-le-mul, pow-suc, pow-le-pow-right}
+use native.Mathlib.Numerals.{add-one}
+use Rattle.trials.proofs.enumerator.lists_of.Statement.{statement}
+use Rattle.trials.proofs.enumerator.lists_of.Tie as tie
+
+abbrev Inv-loop : tie.InvT-loop
+Inv-loop n outputs lists₀ i₀ lists i = (lists ≤ 512 ^ i) × (i ≤ n)
+
+abbrev μ-loop : tie.MeasureT-loop
+μ-loop n outputs lists₀ i₀ lists i = n - i
+
+one-more : (lists outputs i : ℕ) → lists ≤ 512 ^ i → outputs ≤ 512 → lists * outputs ≤ 512 ^ (i + 1)
+one-more lists outputs i h k = rw (add-one, pow-suc) (mul-le-mul h k)
+
+grown : (c : tie.In-loop Inv-loop μ-loop) → c .before .loop .lists * c .before .before .outputs-of .result ≤ 512 ^ (c .before .loop .i + 1)
+grown c = one-more _ _ _ (c .before .loop .inv .0) (c .before .before .outputs-of .ensures .1)
+
+-- 512 ^ 6 is 2 ^ 54
+small : (i : ℕ) → i < 6 → 512 ^ (i + 1) ≤ 512 ^ 6
+small i h = pow-le-pow-right {n = 512} (omega arith) {i = i + 1} {j = 6} (omega arith)
+
+intervals-of-requires : tie.Need-intervals-of-requires Inv-loop μ-loop
+intervals-of-requires c κs = search needs
+
+outputs-of-requires : tie.Need-outputs-of-requires Inv-loop μ-loop
+outputs-of-requires c κs = search needs
+
+loop-holds : tie.Need-loop-holds Inv-loop μ-loop
+loop-holds c = omega arith
+
+mul-lists : tie.Need-mul-lists Inv-loop μ-loop
+mul-lists c = omega (arith, grown c, small (c .before .loop .i) (omega arith))
+
+add-i : tie.Need-add-i Inv-loop μ-loop
+add-i c = omega arith
+
+loop-less : tie.Need-loop-less Inv-loop μ-loop
+loop-less c = omega arith
+
+loop-again : tie.Need-loop-again Inv-loop μ-loop
+loop-again c = omega (arith, grown c)
+
+returns : tie.Need-returns Inv-loop μ-loop
+returns c = search needs
+
+pub lists-of-spec : {M : Type 1} → statement M
+lists-of-spec =
+    tie.close
+    (tie.spec
+    Inv-loop
+    μ-loop
+    intervals-of-requires
+    outputs-of-requires
+    loop-holds
+    mul-lists
+    add-i
+    loop-less
+    loop-again
+    returns)

@@ -1,0 +1,35 @@
+-- What was written fits the buffer.
+use mathlib.Core.Path.{sym, ap, _∙_}
+use Prim.Native.Nat.{_≤_}
+use native.Mathlib.Omega.{arith}
+use lib.ListN.{length}
+use lib.Seq.{length-take-le}
+use mir.Syntax.{w64}
+use mir.Val.{toZ, ofZ}
+use Rattle.listing.specs.Listing.{listing, bytesIn}
+use Rattle.listing.proofs.Fitting.{bytes-fit}
+use borrow.Author.Needs.{needs}
+use Rattle.trials.proofs.files.put_listing.Statement.{statement}
+use Rattle.trials.proofs.files.put_listing.Tie as tie
+
+write-listing-requires : tie.Need-write-listing-requires
+write-listing-requires c κs = search needs
+
+bytes-in-requires : tie.Need-bytes-in-requires
+bytes-in-requires c κs = search needs
+
+same-length : tie.Need-same-length
+same-length c = search needs
+
+fits : (c : tie.After-bytes-in) → c .bytes-in .result ≤ length (c .before .before .before .write-listing .last .1 .1 .1 .0)
+fits c =
+    let s = c .before .before .before .before .before .before .before in
+    let call = c .before .before .before .write-listing in
+    let size = length (listing (s .args .schedule .now) (toZ w64 (ofZ w64 (s .args .profit))) (s .args .outcomes)) in
+    omega (arith, c .bytes-in .ensures ∙ ap bytesIn (call .ensures .0), bytes-fit size (length (s .args .out .now)), call .kept .1 .1 .1 .0)
+
+returns : tie.Need-returns
+returns c = (fits c, sym (length-take-le _ _ (fits c)))
+
+pub put-listing-spec : {M : Type 1} → statement M
+put-listing-spec = tie.close (tie.spec write-listing-requires bytes-in-requires same-length returns)

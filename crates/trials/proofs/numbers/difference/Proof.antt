@@ -1,0 +1,33 @@
+-- Below 2 ^ 62 a number and its opposite fit.
+use borrow.Author.Needs.{needs}
+use native.Mathlib.Omega.{arith}
+use Prim.Native.Nat.{_-_, _<_, _^_}
+use mir.Facts.{toZ-pos}
+use mir.Syntax.{w64}
+use Rattle.integers.proofs.Ranges.{within-at, within-diff, within-fits}
+use Rattle.trials.proofs.numbers.difference.Statement.{statement}
+use Rattle.trials.proofs.numbers.difference.Tie as tie
+
+cast-result : tie.Need-cast-result
+cast-result c = search needs
+
+returns : tie.Need-returns
+returns c = search needs
+
+sub-result : tie.Need-sub-result
+sub-result c = search needs
+
+cast-result-2 : tie.Need-cast-result-2
+cast-result-2 c = search needs
+
+sub-result-2 : tie.Need-sub-result-2
+sub-result-2 c =
+    let small : c .before .args .b - c .before .args .a < 2 ^ 63 = omega arith in
+    rw (toZ-pos w64 small) (within-fits (within-diff (within-at 0) (within-at (c .before .args .b - c .before .args .a))) (omega arith))
+
+returns-2 : tie.Need-returns-2
+returns-2 c = search needs
+
+pub difference-spec : {M : Type 1} → statement M
+difference-spec =
+    tie.close (tie.spec cast-result returns sub-result cast-result-2 sub-result-2 returns-2)

@@ -1,0 +1,271 @@
+// The enumerator beside the calls, on one small case.
+
+use crate::enumerator;
+use crate::enumerator::Cap;
+use crate::enumerator::Case;
+use crate::enumerator::Which;
+use crate::enumerator::Worth;
+use crate::numbers::difference;
+use crate::numbers::one_if;
+use crate::numbers::wide8;
+use crate::numbers::wide16;
+use crate::numbers::wide32;
+use assessment::Assessed;
+use commitment::Limit;
+use commitment::Outcome;
+use commitment::Outcomes;
+use commitment::UnitRecord;
+use planner::Planned;
+use planner::Reported;
+use planner::Valued;
+
+// What no output of a small case is: entries that a call leaves as they were still hold it.
+const UNTOUCHED: u64 = 7777;
+
+// What the enumerator says of a case.
+pub struct Expected {
+    pub planned: bool,
+    pub tied: bool,
+    pub profit: i64,
+    pub schedule: [u64; 6],
+    pub starts: Worth,
+    pub hours: Worth,
+    pub mwh: Worth,
+}
+
+// Whether each call says the same.
+pub struct Agreed {
+    pub plan: bool,
+    pub value: bool,
+    pub report: bool,
+    pub assess: bool,
+}
+
+pub fn expected_of(case: Case) -> Expected {
+    let best = enumerator::best_of(case);
+    if !best.any {
+        return Expected {
+            planned: false,
+            tied: false,
+            profit: 0,
+            schedule: [UNTOUCHED; 6],
+            starts: Worth::None,
+            hours: Worth::None,
+            mwh: Worth::None,
+        };
+    }
+    Expected {
+        planned: true,
+        tied: best.tied,
+        profit: enumerator::profit_of(best),
+        schedule: schedule_of(case, best.number),
+        starts: enumerator::worth_of(case, Which::Starts),
+        hours: enumerator::worth_of(case, Which::Hours),
+        mwh: enumerator::worth_of(case, Which::Mwh),
+    }
+}
+
+// The list in the front of a slice that was lent.
+fn schedule_of(case: Case, number: u64) -> [u64; 6] {
+    let list = enumerator::list_of(case, number);
+    let n = enumerator::intervals_of(case);
+    let mut schedule = [UNTOUCHED; 6];
+    let mut i = 0;
+    while i < n {
+        schedule[i] = wide32(list[i]);
+        i += 1;
+    }
+    schedule
+}
+
+pub fn agreed_on(case: Case, expected: Expected, scratch: &mut [i64]) -> Agreed {
+    let n = enumerator::intervals_of(case);
+    let prices = prices_of(case);
+    let schedule = schedule_in(expected);
+    each_agreed(
+        unit_of(case),
+        &prices[..n],
+        &schedule[..n],
+        expected,
+        scratch,
+    )
+}
+
+fn schedule_in(expected: Expected) -> [u64; 6] {
+    let schedule = expected.schedule;
+    schedule
+}
+
+fn each_agreed(
+    unit: UnitRecord,
+    prices: &[i64],
+    schedule: &[u64],
+    expected: Expected,
+    scratch: &mut [i64],
+) -> Agreed {
+    let plan = same_plan(unit, prices, expected, &mut *scratch);
+    let value = same_value(unit, prices, expected, &mut *scratch);
+    let report = same_report(unit, prices, expected, scratch);
+    let assess = same_profit(unit, prices, schedule, expected);
+    Agreed {
+        plan,
+        value,
+        report,
+        assess,
+    }
+}
+
+// ---- the case as the calls take it
+
+fn unit_of(case: Case) -> UnitRecord {
+    let starts = case.starts;
+    let hours = case.hours;
+    let mwh = case.mwh;
+    UnitRecord {
+        block: wide8(case.block),
+        pmin: wide8(case.pmin),
+        pmax: wide8(case.pmax),
+        mot: wide8(case.mot),
+        mdt: wide8(case.mdt),
+        was: one_if(case.was_on),
+        held: wide8(case.held),
+        vec: wide16(case.vec),
+        mlc: wide32(case.mlc),
+        suc: wide32(case.suc),
+        starts: limit_of(starts),
+        hours: limit_of(hours),
+        mwh: limit_of(mwh),
+    }
+}
+
+fn limit_of(cap: Cap) -> Limit {
+    if cap.limited {
+        return Limit::At(wide32(cap.most));
+    }
+    Limit::None
+}
+
+fn prices_of(case: Case) -> [i64; 6] {
+    let up = case.up;
+    let down = wide16(case.down);
+    let mut prices = [0i64; 6];
+    let mut i = 0;
+    while i < 6 {
+        prices[i] = difference(wide16(up[i]), down);
+        i += 1;
+    }
+    prices
+}
+
+// ---- one call each
+
+fn same_plan(unit: UnitRecord, prices: &[i64], expected: Expected, scratch: &mut [i64]) -> bool {
+    let mut schedule = [UNTOUCHED; 6];
+    let answer = planner::plan_into(unit, prices, scratch, &mut schedule);
+    plan_agrees(answer, prices.len(), expected) & same_entries(&schedule, expected)
+}
+
+fn plan_agrees(answer: Planned, intervals: usize, expected: Expected) -> bool {
+    match answer {
+        Planned::Refused(cause) => !expected.planned & (commitment::number_of(cause) == 9),
+        Planned::Plan { count, profit } => {
+            expected.planned & (count == intervals) & (profit == expected.profit)
+        }
+    }
+}
+
+fn same_value(unit: UnitRecord, prices: &[i64], expected: Expected, scratch: &mut [i64]) -> bool {
+    match planner::value(unit, prices, scratch) {
+        Valued::Refused(cause) => !expected.planned & (commitment::number_of(cause) == 9),
+        Valued::Outcomes(outcomes) => expected.planned & same_outcomes(outcomes, expected),
+    }
+}
+
+fn same_report(unit: UnitRecord, prices: &[i64], expected: Expected, scratch: &mut [i64]) -> bool {
+    let mut schedule = [UNTOUCHED; 6];
+    let answer = planner::report_into(unit, prices, scratch, &mut schedule);
+    report_agrees(answer, prices.len(), expected) & same_entries(&schedule, expected)
+}
+
+fn report_agrees(answer: Reported, intervals: usize, expected: Expected) -> bool {
+    match answer {
+        Reported::Refused(cause) => !expected.planned & (commitment::number_of(cause) == 9),
+        Reported::Report(report) => {
+            let outcomes = report.outcomes;
+            expected.planned
+                & (report.count == intervals)
+                & (report.profit == expected.profit)
+                & same_outcomes(outcomes, expected)
+        }
+    }
+}
+
+// The plan handed in is passed with its profit; without a plan, entries that were left as they were are no schedule.
+fn same_profit(unit: UnitRecord, prices: &[i64], schedule: &[u64], expected: Expected) -> bool {
+    match assessment::assess(unit, prices, schedule) {
+        Assessed::Refused(_) => !expected.planned,
+        Assessed::Profit(profit) => expected.planned & (profit == expected.profit),
+    }
+}
+
+fn same_entries(schedule: &[u64; 6], expected: Expected) -> bool {
+    let wanted = expected.schedule;
+    let mut i = 0;
+    while i < 6 {
+        if schedule[i] != wanted[i] {
+            return false;
+        }
+        i += 1;
+    }
+    true
+}
+
+fn same_outcomes(outcomes: Outcomes, expected: Expected) -> bool {
+    let starts = outcomes.starts;
+    let hours = outcomes.hours;
+    let mwh = outcomes.mwh;
+    let starts_worth = expected.starts;
+    let hours_worth = expected.hours;
+    let mwh_worth = expected.mwh;
+    same_worth(starts, starts_worth) & same_worth(hours, hours_worth) & same_worth(mwh, mwh_worth)
+}
+
+fn same_worth(outcome: Outcome, worth: Worth) -> bool {
+    (kind_of(outcome) == kind_in(worth)) & (gap_of(outcome) == gap_in(worth))
+}
+
+fn kind_of(outcome: Outcome) -> u64 {
+    match outcome {
+        Outcome::None => 0,
+        Outcome::Empty => 1,
+        Outcome::Never => 2,
+        Outcome::Gap(_) => 3,
+    }
+}
+
+fn gap_of(outcome: Outcome) -> i64 {
+    match outcome {
+        Outcome::None => 0,
+        Outcome::Empty => 0,
+        Outcome::Never => 0,
+        Outcome::Gap(gap) => gap,
+    }
+}
+
+fn kind_in(worth: Worth) -> u64 {
+    match worth {
+        Worth::None => 0,
+        Worth::Empty => 1,
+        Worth::Never => 2,
+        Worth::Gap(_) => 3,
+    }
+}
+
+fn gap_in(worth: Worth) -> i64 {
+    match worth {
+        Worth::None => 0,
+        Worth::Empty => 0,
+        Worth::Never => 0,
+        Worth::Gap(gap) => gap,
+    }
+}

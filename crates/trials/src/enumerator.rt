@@ -1,0 +1,395 @@
+// Every list of outputs of a small case, tried in document 01's order and judged by its words. It shares nothing with the planner.
+// Money is kept as what is earned and what is spent, two natural numbers, so that no sum is signed.
+
+use crate::numbers::difference;
+use crate::numbers::one_if;
+use crate::numbers::times;
+use crate::numbers::wide8;
+use crate::numbers::wide16;
+use crate::numbers::wide32;
+ghost use Prim.Native.Nat.{_+_, _<_, _≤_, _^_};
+
+// A limitation: at most so much, where it is limited.
+pub struct Cap {
+    pub limited: bool,
+    pub most: u32,
+}
+
+// A case in plain numbers. The price of interval i + 1 is up[i] − down.
+pub struct Case {
+    pub intervals: u8,
+    pub block: u8,
+    pub pmin: u8,
+    pub pmax: u8,
+    pub mot: u8,
+    pub mdt: u8,
+    pub was_on: bool,
+    pub held: u8,
+    pub vec: u16,
+    pub mlc: u32,
+    pub suc: u32,
+    pub starts: Cap,
+    pub hours: Cap,
+    pub mwh: Cap,
+    pub up: [u16; 6],
+    pub down: u16,
+}
+
+// A list that keeps the case, by its number, with what it earns and spends; whether another one ties with it.
+pub struct Found {
+    pub any: bool,
+    pub tied: bool,
+    pub number: u64,
+    pub earned: u64,
+    pub spent: u64,
+}
+
+pub enum Which {
+    Starts,
+    Hours,
+    Mwh,
+}
+
+// What a limitation is worth: document 01's four outcomes.
+pub enum Worth {
+    None,
+    Empty,
+    Never,
+    Gap(i64),
+}
+
+// ---- the lists, by number
+
+// The lists have room for so many intervals.
+pub fn intervals_of(case: Case) -> usize
+    ensures { λ r. ⌜ r ≤ 6 ⌝ }
+{
+    if 6 < case.intervals {
+        return 6;
+    }
+    case.intervals as usize
+}
+
+// Off, or pmin to pmax blocks.
+fn outputs_of(case: Case) -> u64
+    ensures { λ r. ⌜ (1 ≤ r) × (r ≤ 2 ^ 9) ⌝ }
+{
+    let low = wide8(case.pmin);
+    let high = wide8(case.pmax);
+    if high < low {
+        return 1;
+    }
+    high - low + 2
+}
+
+// Output 0 is off, output 1 is pmin × block, and so on up.
+fn output_of(case: Case, choice: u64) -> u64
+    requires { ⌜ choice < 2 ^ 9 ⌝ }
+    ensures { λ r. ⌜ r < 2 ^ 32 ⌝ }
+{
+    if choice == 0 {
+        return 0;
+    }
+    (wide8(case.pmin) + choice - 1) * wide8(case.block)
+}
+
+// How many lists there are.
+fn lists_of(case: Case) -> u64 {
+    let n = intervals_of(case);
+    let outputs = outputs_of(case);
+    let mut lists = 1;
+    let mut i = 0;
+    while i < n {
+        lists *= outputs;
+        i += 1;
+    }
+    lists
+}
+
+// The number's digits, the first interval's the most significant: counting up goes by document 01's order.
+pub fn list_of(case: Case, number: u64) -> [u32; 6] {
+    let outputs = outputs_of(case);
+    let mut list = [0u32; 6];
+    let mut rest = number;
+    let mut i = intervals_of(case);
+    while 0 < i {
+        i -= 1;
+        list[i] = output_of(case, rest % outputs) as u32;
+        rest /= outputs;
+    }
+    list
+}
+
+// ---- "It keeps the case when:", a function for each count and time
+
+// Intervals on after one that is off.
+fn starts_in(case: Case, list: [u32; 6]) -> u64
+    ensures { λ r. ⌜ r ≤ 6 ⌝ }
+{
+    let n = intervals_of(case);
+    let mut on = case.was_on;
+    let mut starts = 0;
+    let mut i = 0;
+    while i < n {
+        let next = 0 < list[i];
+        starts += one_if(!on & next);
+        on = next;
+        i += 1;
+    }
+    starts
+}
+
+// Every spell on, or every spell off, that the other state ends lasts at least so many intervals, those before interval 1 included.
+fn spells_last(n: usize, list: [u32; 6], on: bool, before: u64, least: u64) -> bool
+    requires { ⌜ (n ≤ 6) × (before < 2 ^ 8) ⌝ }
+{
+    let mut spell = before;
+    let mut i = 0;
+    while i < n {
+        let stays = (0 < list[i]) == on;
+        if !stays & (0 < spell) & (spell < least) {
+            return false;
+        }
+        spell = spell_after(spell, stays);
+        i += 1;
+    }
+    true
+}
+
+fn spell_after(spell: u64, stays: bool) -> u64
+    requires { ⌜ spell < 2 ^ 32 ⌝ }
+    ensures { λ r. ⌜ r ≤ spell + 1 ⌝ }
+{
+    if stays {
+        return spell + 1;
+    }
+    0
+}
+
+// The intervals spent before interval 1 in the state asked for.
+fn held_in(case: Case, on: bool) -> u64
+    ensures { λ r. ⌜ r < 2 ^ 8 ⌝ }
+{
+    if case.was_on == on {
+        return wide8(case.held);
+    }
+    0
+}
+
+fn running_in(n: usize, list: [u32; 6]) -> u64
+    requires { ⌜ n ≤ 6 ⌝ }
+    ensures { λ r. ⌜ r ≤ 6 ⌝ }
+{
+    let mut running = 0;
+    let mut i = 0;
+    while i < n {
+        running += one_if(0 < list[i]);
+        i += 1;
+    }
+    running
+}
+
+fn output_in(n: usize, list: [u32; 6]) -> u64
+    requires { ⌜ n ≤ 6 ⌝ }
+    ensures { λ r. ⌜ r < 2 ^ 40 ⌝ }
+{
+    let mut output = 0;
+    let mut i = 0;
+    while i < n {
+        output += wide32(list[i]);
+        i += 1;
+    }
+    output
+}
+
+fn within(cap: Cap, unit: u64, count: u64) -> bool
+    requires { ⌜ unit ≤ 4 ⌝ }
+{
+    !cap.limited | (count <= times(wide32(cap.most), unit))
+}
+
+fn times_kept(case: Case, list: [u32; 6]) -> bool {
+    let n = intervals_of(case);
+    let mot = wide8(case.mot);
+    let mdt = wide8(case.mdt);
+    spells_last(n, list, true, held_in(case, true), mot)
+        & spells_last(n, list, false, held_in(case, false), mdt)
+}
+
+fn limits_kept(case: Case, list: [u32; 6]) -> bool {
+    let n = intervals_of(case);
+    let starts = case.starts;
+    let hours = case.hours;
+    let mwh = case.mwh;
+    within(starts, 1, starts_in(case, list))
+        & within(hours, 4, running_in(n, list))
+        & within(mwh, 4, output_in(n, list))
+}
+
+// ---- formula 7
+
+fn earned_by(case: Case, list: [u32; 6]) -> u64
+    ensures { λ r. ⌜ r < 2 ^ 51 ⌝ }
+{
+    let n = intervals_of(case);
+    let up = case.up;
+    let mut earned = 0;
+    let mut i = 0;
+    while i < n {
+        earned += times(wide32(list[i]), wide16(up[i]));
+        i += 1;
+    }
+    earned
+}
+
+fn spent_by(case: Case, list: [u32; 6]) -> u64
+    ensures { λ r. ⌜ r < 2 ^ 60 ⌝ }
+{
+    let n = intervals_of(case);
+    let mut spent = times(wide32(case.suc), 4 * starts_in(case, list));
+    let mut i = 0;
+    while i < n {
+        spent += spent_on(case, wide32(list[i]));
+        i += 1;
+    }
+    spent
+}
+
+// An interval's output: what lowers its price, vec above the lowest output, and mlc.
+fn spent_on(case: Case, output: u64) -> u64
+    requires { ⌜ output < 2 ^ 32 ⌝ }
+    ensures { λ r. ⌜ r < 2 ^ 50 ⌝ }
+{
+    if output == 0 {
+        return 0;
+    }
+    let least = output_of(case, 1);
+    times(output, wide16(case.down))
+        + times(over(output, least), wide16(case.vec))
+        + wide32(case.mlc)
+}
+
+fn over(output: u64, least: u64) -> u64
+    ensures { λ r. ⌜ r ≤ output ⌝ }
+{
+    if output < least {
+        return 0;
+    }
+    output - least
+}
+
+// ---- the first best
+
+fn judged(case: Case, number: u64) -> Found
+    ensures { λ r. ⌜ (r .earned < 2 ^ 60) × (r .spent < 2 ^ 60) ⌝ }
+{
+    let list = list_of(case, number);
+    if !(times_kept(case, list) & limits_kept(case, list)) {
+        return nothing();
+    }
+    Found {
+        any: true,
+        tied: false,
+        number,
+        earned: earned_by(case, list),
+        spent: spent_by(case, list),
+    }
+}
+
+fn nothing() -> Found
+    ensures { λ r. ⌜ (r .earned < 2 ^ 60) × (r .spent < 2 ^ 60) ⌝ }
+{
+    Found {
+        any: false,
+        tied: false,
+        number: 0,
+        earned: 0,
+        spent: 0,
+    }
+}
+
+// The better of two, the first where they tie.
+fn better(first: Found, next: Found) -> Found
+    requires { ⌜ (first .earned < 2 ^ 60) × (first .spent < 2 ^ 60) × (next .earned < 2 ^ 60) × (next .spent < 2 ^ 60) ⌝ }
+    ensures { λ r. ⌜ (r .earned < 2 ^ 60) × (r .spent < 2 ^ 60) ⌝ }
+{
+    if !next.any {
+        return first;
+    }
+    if !first.any {
+        return next;
+    }
+    let one = first.earned + next.spent;
+    let other = next.earned + first.spent;
+    if one < other {
+        return next;
+    }
+    Found {
+        any: true,
+        tied: first.tied | (one == other),
+        number: first.number,
+        earned: first.earned,
+        spent: first.spent,
+    }
+}
+
+pub fn best_of(case: Case) -> Found
+    ensures { λ r. ⌜ (r .earned < 2 ^ 60) × (r .spent < 2 ^ 60) ⌝ }
+{
+    let lists = lists_of(case);
+    let mut best = nothing();
+    let mut number = 0;
+    while number < lists {
+        best = better(best, judged(case, number));
+        number += 1;
+    }
+    best
+}
+
+pub fn profit_of(found: Found) -> i64
+    requires { ⌜ (found .earned < 2 ^ 60) × (found .spent < 2 ^ 60) ⌝ }
+{
+    difference(found.earned, found.spent)
+}
+
+// ---- "Valuing a limitation"
+
+fn cap_of(case: Case, which: Which) -> Cap {
+    match which {
+        Which::Starts => case.starts,
+        Which::Hours => case.hours,
+        Which::Mwh => case.mwh,
+    }
+}
+
+// The case with one limitation at another figure, the other two whole.
+fn with_figure(case: Case, which: Which, figure: u32) -> Case {
+    let cap = Cap {
+        limited: true,
+        most: figure,
+    };
+    let mut lowered = case;
+    match which {
+        Which::Starts => lowered.starts = cap,
+        Which::Hours => lowered.hours = cap,
+        Which::Mwh => lowered.mwh = cap,
+    }
+    lowered
+}
+
+pub fn worth_of(case: Case, which: Which) -> Worth {
+    let cap = cap_of(case, which);
+    if !cap.limited {
+        return Worth::None;
+    }
+    let figure = (wide32(cap.most) * 9 / 10) as u32;
+    if figure == 0 {
+        return Worth::Empty;
+    }
+    let first = best_of(with_figure(case, which, figure));
+    let lower = best_of(with_figure(case, which, figure - 1));
+    if !lower.any {
+        return Worth::Never;
+    }
+    Worth::Gap(difference(first.earned + lower.spent, first.spent + lower.earned))
+}

@@ -1,0 +1,84 @@
+// The cost figures: C10 to C12, and each cause for which there are none.
+
+use crate::printing::line;
+use crate::printing::row;
+use crate::printing::text;
+use commitment::CostInputs;
+use costs::Costed;
+
+pub fn try_figures() {
+    text(b"figures,vec,suc,mlc\n");
+    let mws = [80];
+    let heats = [9790];
+    try_gas_unit(&mws, &heats);
+    try_refusals(&mws, &heats);
+    text(b"\n");
+}
+
+fn try_gas_unit(mws: &[u64], heats: &[u64]) {
+    let unit = gas_unit();
+    try_inputs(b"c10", unit, mws, heats);
+    try_inputs(b"c11", with_allowances(unit), mws, heats);
+    try_inputs(b"c12", with_start(unit), mws, heats);
+}
+
+// A heat rate too high, pmin over pmax, 80 MW of segments for 90, and more heat rates than segments.
+fn try_refusals(mws: &[u64], heats: &[u64]) {
+    let unit = gas_unit();
+    try_inputs(b"heat rate 50001", unit, mws, &[50001]);
+    try_inputs(b"pmin 16", with_pmin(unit, 16), mws, heats);
+    try_inputs(b"pmin 6", with_pmin(unit, 6), mws, heats);
+    try_inputs(b"two heat rates", unit, mws, &[9790, 9790]);
+}
+
+// A line of the figures, in document 01's sequence, or of the refusal.
+fn try_inputs(name: &[u8], inputs: CostInputs, mws: &[u64], heats: &[u64]) {
+    text(name);
+    match costs::figures(inputs, mws, heats) {
+        Costed::Refused(cause) => line(b" refused,", commitment::number_of(cause)),
+        Costed::Figures(figures) => row(&[figures.vec, figures.suc, figures.mlc]),
+    }
+}
+
+fn gas_unit() -> CostInputs {
+    CostInputs {
+        block: 10,
+        pmin: 7,
+        pmax: 15,
+        gas: 550,
+        transport: 0,
+        allowance: 0,
+        om: 280,
+        gmc: 0,
+        rate: 0,
+        min_heat: 14440,
+        fuel: 0,
+        aux: 0,
+        minutes: 0,
+        start_adder: 0,
+        load_adder: 0,
+    }
+}
+
+fn with_allowances(unit: CostInputs) -> CostInputs {
+    let mut inputs = unit;
+    inputs.gmc = 50;
+    inputs.allowance = 1300;
+    inputs.rate = 531148;
+    inputs
+}
+
+fn with_start(unit: CostInputs) -> CostInputs {
+    let mut inputs = unit;
+    inputs.fuel = 100;
+    inputs.aux = 2;
+    inputs.minutes = 30;
+    inputs.gmc = 50;
+    inputs
+}
+
+fn with_pmin(unit: CostInputs, pmin: u64) -> CostInputs {
+    let mut inputs = unit;
+    inputs.pmin = pmin;
+    inputs
+}

@@ -1,0 +1,120 @@
+// The texts of the data folder, in the sequence of the program's arguments: each is read, planned and valued with the slices that the
+// planning program lends, and its plan is handed in.
+
+use crate::numbers::one_if;
+use crate::printing::line;
+use crate::printing::text;
+use assessment::Assessed;
+use commitment::Outcomes;
+use commitment::UnitRecord;
+use libc::STDOUT_FILENO;
+use planner::Valued;
+ghost use Rattle.io.specs.Counts.{Counts};
+
+pub fn try_texts() {
+    let count = os::arg_count();
+    let mut i = 1;
+    while i < count {
+        try_argument(i);
+        i += 1;
+    }
+}
+
+fn try_argument(i: usize) {
+    let mut path = [0u8; 64];
+    let n = os::arg(i, &mut path);
+    text(&path[..n]);
+    text(b"\n");
+    // One byte more than a text may have, so that a longer one shows.
+    let mut bytes = [0u8; 12289];
+    let size = contents(&path[..n], &mut bytes);
+    let mut prices = [0i64; 6144];
+    try_text(&bytes[..size], &mut prices);
+    text(b"\n");
+}
+
+// A file's bytes in the front of the slice: so many. A file that is missing shows.
+pub fn contents(path: &[u8], bytes: &mut [u8]) -> usize
+    ensures { λ r. ⌜ Counts r (now (bytes .exit)) ⌝ }
+{
+    let file = os::open_read(path);
+    if file < 0 {
+        text(b"no such file\n");
+        return 0;
+    }
+    let size = io::read_full(file, bytes);
+    libc::close(file);
+    size
+}
+
+fn try_text(bytes: &[u8], prices: &mut [i64]) {
+    let unit = casefile::unit_of(casefile::read_into(bytes, &mut *prices));
+    let mut number = 0;
+    let part = casefile::read(bytes, prices, &mut number);
+    if number != 0 {
+        refused(number);
+        return;
+    }
+    try_case(unit, &part[..]);
+}
+
+fn try_case(unit: UnitRecord, prices: &[i64]) {
+    let mut scratch = [0i64; 4000];
+    match planner::value(unit, prices, &mut scratch) {
+        Valued::Refused(cause) => refused(commitment::number_of(cause)),
+        Valued::Outcomes(outcomes) => try_plan(unit, prices, outcomes),
+    }
+}
+
+fn try_plan(unit: UnitRecord, prices: &[i64], outcomes: Outcomes) {
+    let mut scratch = [0i64; 4000];
+    let mut schedule = [0u64; 6144];
+    let mut number = 0;
+    let mut profit = 0;
+    let plan = planner::plan(
+        unit,
+        prices,
+        &mut scratch,
+        &mut schedule,
+        &mut number,
+        &mut profit,
+    );
+    planned(&plan[..], profit, outcomes);
+    hand_in(unit, prices, &plan[..], profit);
+}
+
+fn planned(schedule: &[u64], profit: i64, outcomes: Outcomes) {
+    let mut out = [0u8; 32768];
+    let bytes = put_listing(schedule, profit, outcomes, &mut out);
+    io::write_all(STDOUT_FILENO, &out[..bytes]);
+}
+
+fn put_listing(schedule: &[u64], profit: i64, outcomes: Outcomes, out: &mut [u8]) -> usize
+    ensures { λ r. ⌜ Counts r (now (out .exit)) ⌝ }
+{
+    listing::bytes_in(listing::write_listing(schedule, profit, outcomes, out))
+}
+
+fn refused(number: u64) {
+    let mut out = [0u8; 32];
+    let bytes = put_refusal(number, &mut out);
+    io::write_all(STDOUT_FILENO, &out[..bytes]);
+}
+
+fn put_refusal(number: u64, out: &mut [u8]) -> usize
+    ensures { λ r. ⌜ Counts r (now (out .exit)) ⌝ }
+{
+    listing::bytes_in(listing::write_refusal(number, out))
+}
+
+// A schedule handed in: whether it earns the profit named, or the number of its refusal.
+pub fn hand_in(unit: UnitRecord, prices: &[i64], schedule: &[u64], profit: i64) {
+    match assessment::assess(unit, prices, schedule) {
+        Assessed::Refused(cause) => {
+            line(b"handed in and refused,", commitment::number_of(cause));
+        }
+        Assessed::Profit(earned) => {
+            line(b"handed in with that profit,", one_if(earned == profit));
+        }
+    }
+}

@@ -1,0 +1,58 @@
+// What document 01 says of C1 besides its plan: the cells that it needs, slices too short, schedules handed in.
+
+use crate::files::contents;
+use crate::files::hand_in;
+use crate::printing::line;
+use crate::printing::text;
+use commitment::UnitRecord;
+
+// 0 where there is no refusal.
+pub fn try_others() {
+    let mut bytes = [0u8; 512];
+    let size = contents(b"c1.csv", &mut bytes);
+    try_prices(&bytes[..size]);
+    let mut prices = [0i64; 6];
+    let unit = casefile::unit_of(casefile::read_into(&bytes[..size], &mut prices));
+    try_scratch(unit, &prices);
+    try_schedules(unit, &prices);
+    text(b"\n");
+}
+
+fn try_prices(bytes: &[u8]) {
+    let mut short = [0i64; 5];
+    line(
+        b"c1 read into 5 prices,",
+        casefile::number_of(casefile::read_into(bytes, &mut short)),
+    );
+}
+
+fn try_scratch(unit: UnitRecord, prices: &[i64]) {
+    let mut enough = [0i64; 588];
+    let mut short = [0i64; 587];
+    line(
+        b"c1 planned with 588 cells,",
+        planned(unit, prices, &mut enough),
+    );
+    line(
+        b"c1 planned with 587 cells,",
+        planned(unit, prices, &mut short),
+    );
+}
+
+fn planned(unit: UnitRecord, prices: &[i64], scratch: &mut [i64]) -> u64 {
+    let mut schedule = [0u64; 6];
+    planner::planned_number(planner::plan_into(unit, prices, scratch, &mut schedule))
+}
+
+fn try_schedules(unit: UnitRecord, prices: &[i64]) {
+    let mut scratch = [0i64; 588];
+    let mut short = [0u64; 5];
+    let answer = planner::plan_into(unit, prices, &mut scratch, &mut short);
+    line(
+        b"c1 planned into 5 entries,",
+        planner::planned_number(answer),
+    );
+    hand_in(unit, prices, &[0, 20, 20, 10, 20], 400000);
+    hand_in(unit, prices, &[0, 20, 20, 10, 20, 20], 400000);
+    hand_in(unit, prices, &[0, 20, 0, 0, 20, 20], 400000);
+}

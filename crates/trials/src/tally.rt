@@ -1,0 +1,195 @@
+// How many cases there were of each kind, so that a kind that never occurs shows.
+
+use crate::comparison::Agreed;
+use crate::comparison::Expected;
+use crate::enumerator;
+use crate::enumerator::Case;
+use crate::enumerator::Worth;
+use crate::numbers::counted;
+use crate::numbers::one_if;
+use crate::printing::line;
+use crate::printing::row;
+use crate::printing::text;
+ghost use Prim.Native.Nat.{_<_};
+
+// `limited` goes by which limitations there are; `starts`, `hours` and `mwh` by their outcomes in the cases planned.
+pub struct Tally {
+    pub cases: u64,
+    pub planned: u64,
+    pub refused: u64,
+    pub negative: u64,
+    pub tied: u64,
+    pub was_on: u64,
+    pub was_off: u64,
+    pub differences: u64,
+    pub limited: [u64; 8],
+    pub starts: [u64; 6],
+    pub hours: [u64; 6],
+    pub mwh: [u64; 6],
+}
+
+pub fn nothing() -> Tally {
+    Tally {
+        cases: 0,
+        planned: 0,
+        refused: 0,
+        negative: 0,
+        tied: 0,
+        was_on: 0,
+        was_off: 0,
+        differences: 0,
+        limited: [0; 8],
+        starts: [0; 6],
+        hours: [0; 6],
+        mwh: [0; 6],
+    }
+}
+
+pub fn with_case(tally: Tally, case: Case) -> Tally {
+    let at = limits_in(case);
+    let mut t = tally;
+    t.cases = counted(t.cases, true);
+    t.negative = counted(t.negative, has_negative_price(case));
+    t.was_on = counted(t.was_on, case.was_on);
+    t.was_off = counted(t.was_off, !case.was_on);
+    t.limited[at] = counted(t.limited[at], true);
+    t
+}
+
+// 1 for starts, 2 for hours, 4 for mwh, added up.
+fn limits_in(case: Case) -> usize
+    ensures { λ r. ⌜ r < 8 ⌝ }
+{
+    let starts = case.starts;
+    let hours = case.hours;
+    let mwh = case.mwh;
+    let limits = one_if(starts.limited) + 2 * one_if(hours.limited) + 4 * one_if(mwh.limited);
+    limits as usize
+}
+
+fn has_negative_price(case: Case) -> bool {
+    let n = enumerator::intervals_of(case);
+    let up = case.up;
+    let mut i = 0;
+    while i < n {
+        if up[i] < case.down {
+            return true;
+        }
+        i += 1;
+    }
+    false
+}
+
+pub fn with_expected(tally: Tally, expected: Expected) -> Tally {
+    let mut t = tally;
+    t.planned = counted(t.planned, expected.planned);
+    t.refused = counted(t.refused, !expected.planned);
+    t.tied = counted(t.tied, expected.tied);
+    if !expected.planned {
+        return t;
+    }
+    let starts = expected.starts;
+    let hours = expected.hours;
+    let mwh = expected.mwh;
+    let at = column_of(starts);
+    t.starts[at] = counted(t.starts[at], true);
+    let at = column_of(hours);
+    t.hours[at] = counted(t.hours[at], true);
+    let at = column_of(mwh);
+    t.mwh[at] = counted(t.mwh[at], true);
+    t
+}
+
+fn column_of(worth: Worth) -> usize
+    ensures { λ r. ⌜ r < 6 ⌝ }
+{
+    match worth {
+        Worth::None => 0,
+        Worth::Empty => 1,
+        Worth::Never => 2,
+        Worth::Gap(gap) => {
+            if gap < 0 {
+                return 3;
+            }
+            if gap == 0 {
+                return 4;
+            }
+            5
+        }
+    }
+}
+
+// A call that differs is printed with the number of its case.
+pub fn with_agreed(tally: Tally, number: u64, agreed: Agreed) -> Tally {
+    let mut t = tally;
+    t.differences = differing(t.differences, number, b"plan differs on case ", agreed.plan);
+    t.differences = differing(
+        t.differences,
+        number,
+        b"value differs on case ",
+        agreed.value,
+    );
+    t.differences = differing(
+        t.differences,
+        number,
+        b"report differs on case ",
+        agreed.report,
+    );
+    t.differences = differing(
+        t.differences,
+        number,
+        b"assess differs on case ",
+        agreed.assess,
+    );
+    t
+}
+
+fn differing(differences: u64, number: u64, words: &[u8], agrees: bool) -> u64 {
+    if agrees {
+        return differences;
+    }
+    line(words, number);
+    counted(differences, true)
+}
+
+pub fn print(tally: Tally) {
+    print_cases(tally);
+    print_limited(tally);
+    print_worths(tally);
+    line(b"differences,", tally.differences);
+}
+
+fn print_cases(t: Tally) {
+    text(b"generated,all,planned,refused 9,negative price,tie,was on,was off\ncases");
+    row(
+        &[
+            t.cases,
+            t.planned,
+            t.refused,
+            t.negative,
+            t.tied,
+            t.was_on,
+            t.was_off,
+        ],
+    );
+}
+
+fn print_limited(tally: Tally) {
+    let limited = tally.limited;
+    text(
+        b"\nlimited,none,starts,hours,starts and hours,mwh,starts and mwh,hours and mwh,all\ncases",
+    );
+    row(&limited);
+}
+
+fn print_worths(tally: Tally) {
+    let starts = tally.starts;
+    let hours = tally.hours;
+    let mwh = tally.mwh;
+    text(b"\noutcome,none,empty,never,gap below 0,gap 0,gap above 0\nstarts");
+    row(&starts);
+    text(b"hours");
+    row(&hours);
+    text(b"mwh");
+    row(&mwh);
+}
