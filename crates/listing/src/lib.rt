@@ -8,7 +8,7 @@ ghost use Prim.Native.Nat.{_+_, _≤_, _<_};
 ghost use lib.IntN.{natAbs};
 ghost use lib.ListN.{length};
 ghost use mathlib.Core.List.{[], _∷_, _++_};
-ghost use Rattle.listing.specs.Numbers.{digit, number, signedNumber};
+ghost use Rattle.listing.specs.Numbers.{number, signedNumber};
 ghost use Rattle.listing.specs.Listing.{outcomeText, closed, intervalLine, intervalLines, profitLine, outcomeLines, listing, refusal, fitted, answered, bufferAfter, bytesIn};
 ghost use Rattle.listing.specs.Writing.{Put, written};
 

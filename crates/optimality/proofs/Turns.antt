@@ -10,7 +10,7 @@ use borrow.Author.Tests.{ltb-true, leb-true, ne-eqb}
 use lib.Dec.{leb, ltb}
 use lib.IntN.{ℤ, pos, _-ℤ_}
 use lib.Signed.{ltZ}
-use Rattle.commitment.specs.Best.{Plan, nothing, plan, ladder}
+use Rattle.commitment.specs.Best.{nothing, ladder}
 use Rattle.commitment.proofs.Conjunctions.{both}
 use Rattle.optimality.specs.declared.Figures.{Figures}
 use Rattle.optimality.specs.declared.Cell.{Cell}
@@ -23,20 +23,6 @@ use Rattle.optimality.proofs.Values.{no-earning, value-from, first-reac
 pub plan-value : (f : Figures) (prices : List ℤ) (c : Cell) → valueOf (planAt f prices c) ≡ valueAt f prices c
 unfolding planAt valueAt
 plan-value f prices c = value-from Cell ℤ (cellStep f) (choices f) prices c
-
-pub plan-none : (f : Figures) (prices : List ℤ) (c : Cell) → valueAt f prices c ≡ noSchedule → planAt f prices c ≡ nothing
-plan-none f prices c e = see (planAt f prices c) (plan-value f prices c ∙ e)
-  where
-    see : (a : Plan) → valueOf a ≡ noSchedule → a ≡ nothing
-    see nothing h = refl
-    see (plan s p) h = absurd (no-earning (sym h))
-
-pub plan-some : (f : Figures) (prices : List ℤ) (c : Cell) (p : ℤ) → valueAt f prices c ≡ earning p → (s : List ℕ) × (planAt f prices c ≡ plan s p)
-plan-some f prices c p e = see (planAt f prices c) (plan-value f prices c ∙ e)
-  where
-    see : (a : Plan) → valueOf a ≡ earning p → (s : List ℕ) × (a ≡ plan s p)
-    see nothing h = absurd (no-earning h)
-    see (plan s q) h = let i : q ≡ p = cc in (s, ap (plan s) i)
 
 -- after the last interval nothing more is earned
 pub value-end : (f : Figures) (c : Cell) → valueAt f [] c ≡ earning (pos 0)

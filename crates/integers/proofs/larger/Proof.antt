@@ -6,8 +6,6 @@ use Rattle.integers.specs.Maximum.{maxℤ}
 use Rattle.integers.proofs.Ranges.{plain-fits, lt-plain}
 use Rattle.integers.proofs.larger.Statement.{statement}
 use Rattle.integers.proofs.larger.Tie as tie
-use Rattle.integers.proofs.larger.Reads as reads
-use Rattle.integers.proofs.larger.Lts as lts
 
 returns : tie.Need-returns
 unfolding maxℤ

@@ -1,7 +1,6 @@
 -- By the kind.
 use Rattle.exports.proofs.numbers.outcome_from.Statement.{statement}
 use Rattle.exports.proofs.numbers.outcome_from.Tie as tie
-use mathlib.Core.Path.{ap}
 use borrow.Author.Tests.{ne-eqb}
 use Rattle.integers.proofs.Ranges.{plain-fits}
 
