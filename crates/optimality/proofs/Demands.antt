@@ -5,6 +5,8 @@ use mathlib.Core.Bool.{true, false}
 use mathlib.Core.List.{List, _∷_, _++_, map, List·Memᴰ}
 use mathlib.Core.Logic.{_↔_}
 use Prim.Native.Nat.{ℕ}
+use borrow.Author.Tests.{eqb-true}
+use lib.Dec.{eqb}
 use lib.IntN.{ℤ}
 use lib.ListN.{length}
 use lib.Signed.{_≤ℤ_}
@@ -12,12 +14,14 @@ use Rattle.commitment.specs.declared.Limit.{Limit}
 use Rattle.commitment.specs.declared.Limit.the-variants.{At}
 use Rattle.commitment.specs.declared.Outcome.{Outcome}
 use Rattle.commitment.specs.declared.UnitRecord.{UnitRecord}
-use Rattle.commitment.specs.Ranges.{rangesKept, shapeKept}
+use Rattle.commitment.specs.Ranges.{every, rangesKept, shapeKept}
+use Rattle.commitment.specs.Schedule.{isOutput}
 use Rattle.commitment.specs.Profit.{profit}
 use Rattle.commitment.specs.Order.{earlier}
 use Rattle.commitment.specs.Best.{nothing, plan, firstBest, lists, outputs, best}
 use Rattle.commitment.specs.Rivals.{Rival, IsBest}
 use Rattle.commitment.specs.Valuing.{limited, startsOutcome, hoursOutcome, mwhOutcome}
+use Rattle.commitment.proofs.Conjunctions.{both}
 use Rattle.optimality.specs.Machine.{Step, along, run, bestFrom, valueOf, valueAlong, valueFrom}
 use Rattle.optimality.specs.Cells.{figuresOf, opening, planAt}
 use Rattle.optimality.specs.Outcomes.{Says}
@@ -36,6 +40,11 @@ module _ (u : UnitRecord) (ranges : rangesKept u ≡ true) (shape : shapeKept u 
   -- the plan is a schedule that keeps the case ..
   pub plan-keeps-case : (s : List ℕ) (p : ℤ) → best u prices ≡ plan s p → Rival u prices s
   plan-keeps-case s p e = best-of.plan-best u prices (ranged u ranges shape) s p e .own
+
+  -- .. so that it has an output for each interval ..
+  pub plan-length : (s : List ℕ) (p : ℤ) → best u prices ≡ plan s p → length s ≡ length prices
+  plan-length s p e =
+      eqb-true (length s) (length prices) (both (eqb (length s) (length prices)) (every (isOutput u) s) (plan-keeps-case s p e .schedule) .0)
 
   -- .. and earns the profit given
   pub plan-earns-profit : (s : List ℕ) (p : ℤ) → best u prices ≡ plan s p → profit u prices s ≡ p

@@ -10,7 +10,7 @@ fn main() {
     let mut prices = [0i64; 6144];
     let mut scratch = [0i64; 4000];
     let mut schedule = [0u64; 6144];
-    let mut out = [0u8; 32768];
+    let mut out = [0u8; 131072];
     let n = io::read_full(STDIN_FILENO, &mut text);
     let written = answers::answer_into(
         &text[..n],

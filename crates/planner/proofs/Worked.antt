@@ -3,22 +3,16 @@ use mathlib.Core.Path.{_≡_, refl, sym, ap, _∙_}
 use mathlib.Core.List.{List}
 use Prim.Native.Nat.{ℕ, _^_, _≤_, _<_}
 use native.Mathlib.Omega.{arith}
-use borrow.Author.Tests.{eqb-true}
-use lib.Dec.{eqb}
 use lib.IntN.{ℤ, natAbs}
 use lib.ListN.{length}
 use Rattle.commitment.specs.declared.Outcomes.{Outcomes}
 use Rattle.commitment.specs.declared.UnitRecord.{UnitRecord}
 use Rattle.commitment.specs.Best.{Plan, nothing, plan, best}
-use Rattle.commitment.specs.Ranges.{every}
-use Rattle.commitment.specs.Schedule.{isOutput}
-use Rattle.commitment.proofs.Conjunctions.{both}
 use Rattle.optimality.specs.declared.Cell.{Cell}
 use Rattle.optimality.specs.Machine.{Value, noSchedule, earning, valueOf}
 use Rattle.optimality.specs.Cells.{InTable, figuresOf, opening, planAt, valueAt}
 use Rattle.optimality.specs.Runs.{gapBetween}
 use Rattle.optimality.proofs.Opening.{at-most-itself}
-use Rattle.optimality.proofs.Demands.{plan-keeps-case}
 use Rattle.optimality.proofs.Opening.{figures-sound, opening-in-table, best-cell}
 use Rattle.optimality.proofs.Ranges.{Ranged, ranged}
 use Rattle.optimality.proofs.Turns.{plan-value}
@@ -83,8 +77,3 @@ module _ (u : UnitRecord) (prices cells : List ℤ) (w : Worked u prices cells) 
 
   pub opening-plan : planAt (figuresOf u (length prices)) prices (opening u (length prices)) ≡ best u prices
   opening-plan = sym (best-cell u in-order prices)
-
-  -- a plan has an output for each interval
-  pub plan-length : (s : List ℕ) (p : ℤ) → best u prices ≡ plan s p → length s ≡ length prices
-  plan-length s p e =
-      eqb-true (length s) (length prices) (both (eqb (length s) (length prices)) (every (isOutput u) s) (plan-keeps-case u (w .ranges) (w .shape) prices s p e .schedule) .0)

@@ -4,8 +4,7 @@ use mathlib.Core.Bool.{Bool, true, _&&_}
 use mathlib.Core.List.{List}
 use Prim.Native.Nat.{ℕ}
 use native.Mathlib.Omega.{arith}
-use borrow.Author.Tests.{eqb-true, eq-eqb}
-use lib.Dec.{eqb}
+use borrow.Author.Tests.{eq-eqb}
 use lib.IntN.{ℤ}
 use lib.ListN.{length}
 use Rattle.commitment.specs.declared.Cause.the-variants.{Length, NotKept}
@@ -16,11 +15,10 @@ use Rattle.commitment.specs.Best.{Plan, nothing, plan, best}
 use Rattle.commitment.specs.Causes.{unless, checkedThen}
 use Rattle.commitment.specs.Keeping.{keepsCase}
 use Rattle.commitment.specs.Profit.{profit}
-use Rattle.commitment.specs.Ranges.{every, caseChecked}
-use Rattle.commitment.specs.Schedule.{isOutput, isSchedule}
-use Rattle.commitment.proofs.Conjunctions.{both}
+use Rattle.commitment.specs.Ranges.{caseChecked}
+use Rattle.commitment.specs.Schedule.{isSchedule}
 use Rattle.commitment.proofs.Passing.{passing, then-passed}
-use Rattle.optimality.proofs.Demands.{plan-keeps-case, plan-earns-profit}
+use Rattle.optimality.proofs.Demands.{plan-keeps-case, plan-length, plan-earns-profit}
 use Rattle.assessment.specs.declared.Assessed.the-variants.{Profit}
 use Rattle.assessment.specs.Assessed.{answered, handedIn, assessed}
 use Rattle.planner.specs.declared.Planned.the-variants as answer
@@ -47,7 +45,7 @@ module _ (u : UnitRecord) (prices : List ℤ) (scratch schedule : ℕ) where
       let case : caseChecked u prices ≡ Passed = then-passed (caseChecked u prices) (lentChecked u (length prices) scratch schedule) lent .0 in
       let h = passing u prices case in
       let rival = plan-keeps-case u (h .ranges) (h .shape) prices s p is in
-      let long : length s ≡ length prices = eqb-true (length s) (length prices) (both (eqb (length s) (length prices)) (every (isOutput u) s) (rival .schedule) .0) in
+      let long = plan-length u (h .ranges) (h .shape) prices s p is in
       let part : plannedPart (planChecked u prices scratch schedule) (best u prices) ≡ s = ap₂ plannedPart (f .0) is in
       let kept : (isSchedule u (length prices) s && keepsCase u s) ≡ true = ap₂ _&&_ (rival .schedule) (rival .kept) in
       let handed : handedIn u prices s ≡ Passed =

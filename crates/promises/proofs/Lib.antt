@@ -1,1 +1,3 @@
 pub mod Handed
+pub mod Printed
+pub mod Worked

@@ -16,7 +16,8 @@ use Rattle.table.specs.Answers.{bestOf, scheduleOf}
 use Rattle.planner.specs.Planning.{hasSchedule, scheduleAfter}
 use Rattle.planner.specs.Reporting.{reportedBy}
 use borrow.Author.Needs.{needs}
-use Rattle.planner.proofs.Worked.{room, opening-in, opening-best, no-plan, some-plan, not-none, same-report, opening-plan, plan-length}
+use Rattle.planner.proofs.Worked.{room, opening-in, opening-best, no-plan, some-plan, not-none, same-report, opening-plan}
+use Rattle.optimality.proofs.Demands.{plan-length}
 use Rattle.integers.proofs.Ranges.{plain-fits}
 use Rattle.planner.specs.declared.Reported.{Reported}
 use Rattle.planner.proofs.read_report.Statement.{statement}
@@ -83,7 +84,7 @@ returns-2 c =
     let s = c .before .before .before .before .before .before .before .before .before .before .before in
     let told = c .before .before .before .before .before .before .profit .given in
     let found = some-plan (best (s .args .unit) (s .args .prices .now)) (told .0 .0) (sym (best-is (c .before .before .before .before .before .before .before .before)) ∙ told .1) in
-    let long = plan-length (s .args .unit) (s .args .prices .now) (s .args .cells .now) (s .pre .0) (found .0) (told .0 .0) (found .1) in
+    let long = plan-length (s .args .unit) (s .pre .0 .ranges) (s .pre .0 .shape) (s .args .prices .now) (found .0) (told .0 .0) (found .1) in
     let profit = plain-fits {x = told .0 .0} (record { sfits = c .before .before .before .before .before .known-told .given .0 .1 }) in
     let read : planAt (s .args .f) (s .args .prices .now) (c .before .before .before .before .before .before .before .before .before .opening-cell .result) ≡ plan (found .0) (told .0 .0) =
     ap (planAt (s .args .f) (s .args .prices .now)) (c .before .before .before .before .before .before .before .before .before .opening-cell .ensures)
