@@ -1,7 +1,8 @@
 -- For readers: what it says of a schedule that it was passed, and that profit is additive over a split of the horizon.
-use mathlib.Core.Path.{_≡_, refl}
+use mathlib.Core.Path.{_≡_, refl, ap, ap₂, _∙_}
 use mathlib.Core.Bool.{Bool, true, false, _&&_}
 use mathlib.Core.List.{List, [], _∷_, _++_}
+use mathlib.Core.Logic.{_↔_}
 use Prim.Native.Nat.{ℕ, zero, suc, _+_, _*_}
 use native.Mathlib.Omega.{arith}
 use lib.IntN.{ℤ, pos, _+ℤ_, _-ℤ_}
@@ -13,9 +14,11 @@ use Rattle.commitment.specs.declared.Cause.the-variants.{Length, NotKept}
 use Rattle.commitment.specs.declared.Checked.{Checked}
 use Rattle.commitment.specs.declared.Checked.the-variants.{Passed, Refused}
 use Rattle.commitment.specs.declared.UnitRecord.{UnitRecord}
+use Rattle.commitment.specs.Causes.{unless, checkedThen}
 use Rattle.commitment.specs.Keeping.{startsIn, keepsStarts, keepsRuns, keepsSpells, keepsHours, keepsMwh, keepsCase}
 use Rattle.commitment.specs.Profit.{earned, earnedIn, startCost, profit}
 use Rattle.commitment.specs.Ranges.{every, caseChecked}
+use Rattle.commitment.specs.Rivals.{Rival}
 use Rattle.commitment.specs.Schedule.{isOutput, isSchedule}
 use Rattle.commitment.proofs.Conjunctions.{both}
 use Rattle.commitment.proofs.Passing.{unless-passed, then-passed}
@@ -40,28 +43,46 @@ answered-profit : (k : Checked) (p q : ℤ) → answered k p ≡ answer.Profit q
 answered-profit Passed p q e = (refl, (cc))
 answered-profit (Refused cause) p q e = let z : _≡_ {A = ℕ} 0 1 = cc in absurd (omega arith)
 
--- it keeps every rule, no other cause holds, and its profit is the one given
+-- passed exactly when no cause of the case holds, the schedule keeps it, and the profit is formula (7)'s
+pub passed-exactly : (u : UnitRecord) (prices : List ℤ) (s : List ℕ) (p : ℤ)
+    → (assessed u prices s ≡ answer.Profit p) ↔ ((caseChecked u prices ≡ Passed) × Rival u prices s × (profit u prices s ≡ p))
+passed-exactly u prices s p = (told, given)
+  where
+    told : assessed u prices s ≡ answer.Profit p → (caseChecked u prices ≡ Passed) × Rival u prices s × (profit u prices s ≡ p)
+    told e =
+        let a = answered-profit (handInChecked u prices s) (profit u prices s) p e in
+        let b = then-passed (caseChecked u prices) (handedIn u prices s) (a .0) in
+        let c = unless-passed (eqb (length s) (length prices)) Length _ (b .1) in
+        let d = unless-passed (isSchedule u (length prices) s && keepsCase u s) NotKept Passed (c .1) in
+        let k = both (isSchedule u (length prices) s) (keepsCase u s) (d .0) in
+        (b .0, record { schedule = k .0; kept = k .1 }, a .1)
+
+    given : (caseChecked u prices ≡ Passed) × Rival u prices s × (profit u prices s ≡ p) → assessed u prices s ≡ answer.Profit p
+    given h =
+        let long = both (eqb (length s) (length prices)) (every (isOutput u) s) (h .1 .schedule) .0 in
+        let handed : handedIn u prices s ≡ Passed =
+        ap₂ (λ (a b : Bool). unless a Length (unless b NotKept Passed)) long (ap₂ _&&_ (h .1 .schedule) (h .1 .kept)) in
+        ap₂ (λ (k l : Checked). answered (checkedThen k l) (profit u prices s)) (h .0) handed ∙ ap answer.Profit (h .2)
+
+-- and each rule by itself
 pub passed-keeps : (u : UnitRecord) (prices : List ℤ) (s : List ℕ) (p : ℤ) → assessed u prices s ≡ answer.Profit p → PassedSchedule u prices s p
 passed-keeps u prices s p e =
-    let a = answered-profit (handInChecked u prices s) (profit u prices s) p e in
-    let b = then-passed (caseChecked u prices) (handedIn u prices s) (a .0) in
-    let c = unless-passed (eqb (length s) (length prices)) Length _ (b .1) in
-    let d = unless-passed (isSchedule u (length prices) s && keepsCase u s) NotKept Passed (c .1) in
-    let k = both (isSchedule u (length prices) s) (keepsCase u s) (d .0) in
-    let f5 = both (keepsStarts u s && keepsRuns u s && keepsSpells u s && keepsHours u s) (keepsMwh u s) (k .1) in
+    let a = passed-exactly u prices s p .0 e in
+    let k = both (eqb (length s) (length prices)) (every (isOutput u) s) (a .1 .schedule) in
+    let f5 = both (keepsStarts u s && keepsRuns u s && keepsSpells u s && keepsHours u s) (keepsMwh u s) (a .1 .kept) in
     let f4 = both (keepsStarts u s && keepsRuns u s && keepsSpells u s) (keepsHours u s) (f5 .0) in
     let f3 = both (keepsStarts u s && keepsRuns u s) (keepsSpells u s) (f4 .0) in
     let f2 = both (keepsStarts u s) (keepsRuns u s) (f3 .0) in
     record {
-      no-other-cause = b .0;
-      one-an-interval = eqb-true (length s) (length prices) (c .0);
-      outputs = both (eqb (length s) (length prices)) (every (isOutput u) s) (k .0) .1;
+      no-other-cause = a .0;
+      one-an-interval = eqb-true (length s) (length prices) (k .0);
+      outputs = k .1;
       starts = f2 .0;
       runs = f2 .1;
       spells = f3 .1;
       hours = f4 .1;
       mwh = f5 .1;
-      earns = a .1;
+      earns = a .2;
     }
 
 -- ---- a split of the horizon
