@@ -3,9 +3,10 @@
 mod support;
 
 use ralwinga::{assess, cells_needed, plan_into, report_into, value, Report, Unit};
-use support::{damage, paper, small_case, Lent, Random};
+use support::{damage, long_case, paper, recursion, small_case, Lent, Random};
 
 const CASES: usize = 100_000;
+const LONG_CASES: usize = 600;
 
 fn number<T>(answer: Result<T, ralwinga::Refusal>) -> Result<T, u64> {
     answer.map_err(|refusal| refusal.number())
@@ -136,6 +137,42 @@ fn planning_and_valuing() {
             seen[number]
         );
     }
+}
+
+/// Cases too long to try every list, whose rows are longer than their outputs are many.
+#[test]
+fn longer_cases() {
+    let mut random = Random::new(11);
+    let mut refused = 0;
+    for _ in 0..LONG_CASES {
+        let (unit, prices) = long_case(&mut random);
+        let mut scratch = vec![0; paper::cells(&unit, prices.len())];
+        let mut schedule = vec![0; prices.len()];
+        let answer = report_into(unit, &prices, &mut scratch, &mut schedule);
+        match recursion::best(&unit, &prices) {
+            None => {
+                assert_eq!(number(answer), Err(9));
+                refused += 1;
+            }
+            Some((profit, plan)) => {
+                let outcomes = recursion::outcomes(&unit, &prices);
+                let count = plan.len();
+                assert_eq!(
+                    number(answer),
+                    Ok(Report {
+                        count,
+                        profit,
+                        outcomes
+                    })
+                );
+                assert_eq!(schedule, plan);
+            }
+        }
+    }
+    assert!(
+        refused > 0 && refused < LONG_CASES / 2,
+        "{refused} refusals"
+    );
 }
 
 /// A schedule near what the unit can do, or anything.

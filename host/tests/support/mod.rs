@@ -2,6 +2,7 @@
 #![allow(dead_code)]
 
 pub mod paper;
+pub mod recursion;
 
 use ralwinga::Unit;
 use std::io::Write;
@@ -75,6 +76,35 @@ pub fn small_case(random: &mut Random) -> (Unit, Vec<i64>) {
         1 => (0..n).map(|_| random.between(-3000, 9000)).collect(),
         _ => (0..n).map(|_| random.between(2000, 4000)).collect(),
     };
+    (unit, prices)
+}
+
+/// A longer case in order, of up to 24 intervals and 20 outputs, with at most two limitations.
+pub fn long_case(random: &mut Random) -> (Unit, Vec<i64>) {
+    let n = 6 + random.below(19);
+    let pmin = 1 + random.below(6);
+    let block = random.from(&[1, 2, 5]);
+    let mut unit = Unit {
+        block,
+        pmin,
+        pmax: pmin + random.below(20),
+        mot: 1 + random.below(6),
+        mdt: 1 + random.below(6),
+        was: random.below(2),
+        held: 1 + random.below(6),
+        vec: random.from(&[1000, 3000]),
+        mlc: random.from(&[500, 30_000]),
+        suc: random.from(&[0, 5000, 50_000]),
+        starts: Some(random.below(5)),
+        hours: Some(random.below(n / 4 + 1)),
+        mwh: Some(random.below(n * block * 4)),
+    };
+    match random.below(3) {
+        0 => unit.starts = None,
+        1 => unit.hours = None,
+        _ => unit.mwh = None,
+    }
+    let prices = (0..n).map(|_| random.between(-2000, 9000)).collect();
     (unit, prices)
 }
 
