@@ -16,10 +16,10 @@ pub fn put(scratch: &mut [i64], to: usize, count: usize, v: i64)
     requires { ⌜ to + count ≤ length (now scratch) ⌝ }
     ensures { λ _. ⌜ now (scratch .exit) ≡ take to (now (scratch .entry)) ++ (replicate count v ++ drop (to + count) (now (scratch .entry))) ⌝ }
 {
-    let mut i = 0;
-    while i < count {
-        scratch[to + i] = v;
-        i += 1;
+    let mut done = 0;
+    while done < count {
+        scratch[to + done] = v;
+        done += 1;
     }
 }
 

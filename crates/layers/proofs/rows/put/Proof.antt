@@ -1,4 +1,4 @@
--- The invariant: the first i of the stretch hold the number, and what lies around them is as it was. The turns left fall.
+-- The invariant: the first of the stretch, as many as are done, hold the number, and what lies around them is as it was. The turns left fall.
 use mathlib.Core.Path.{_≡_, refl, sym, _∙_}
 use mathlib.Core.List.{_++_}
 use Prim.Native.Nat.{_+_, _-_, _≤_}
@@ -12,11 +12,11 @@ use Rattle.layers.proofs.rows.put.Statement.{statement}
 use Rattle.layers.proofs.rows.put.Tie as tie
 
 abbrev Inv-loop : tie.InvT-loop
-Inv-loop scratch₀ to count v i₀ scratch i =
-    (i ≤ count) × (scratch ≡ take to scratch₀ ++ (replicate i (toZ w64 v) ++ drop (to + i) scratch₀)) × (length scratch ≡ length scratch₀)
+Inv-loop scratch₀ to count v done₀ scratch done =
+    (done ≤ count) × (scratch ≡ take to scratch₀ ++ (replicate done (toZ w64 v) ++ drop (to + done) scratch₀)) × (length scratch ≡ length scratch₀)
 
 abbrev μ-loop : tie.MeasureT-loop
-μ-loop scratch₀ to count v i₀ scratch i = count - i
+μ-loop scratch₀ to count v done₀ scratch done = count - done
 
 loop-holds : tie.Need-loop-holds Inv-loop μ-loop
 loop-holds c = let e : c .args .to + 0 ≡ c .args .to = omega arith in (omega arith, rw e (sym (take-append-drop (c .args .to) (c .args .scratch .now))), refl)
@@ -30,8 +30,8 @@ mul-v c = omega arith
 slice-set-from-v : tie.Need-slice-set-from-v Inv-loop μ-loop
 slice-set-from-v c = omega arith
 
-add-i : tie.Need-add-i Inv-loop μ-loop
-add-i c = omega arith
+add-done : tie.Need-add-done Inv-loop μ-loop
+add-done c = omega arith
 
 loop-less : tie.Need-loop-less Inv-loop μ-loop
 loop-less c = omega arith
@@ -40,7 +40,7 @@ loop-again : tie.Need-loop-again Inv-loop μ-loop
 loop-again c =
     let a = c .before .before .args in
     let l = c .before .loop in
-    (omega arith, rw (l .inv .1) (put-next (a .scratch .now) (a .to) (l .i) _ (omega arith)), length-set (l .scratch) (a .to + l .i) _ ∙ l .inv .2)
+    (omega arith, rw (l .inv .1) (put-next (a .scratch .now) (a .to) (l .done) _ (omega arith)), length-set (l .scratch) (a .to + l .done) _ ∙ l .inv .2)
 
 same-length : tie.Need-same-length Inv-loop μ-loop
 same-length c = c .before .loop .inv .2
@@ -48,8 +48,8 @@ same-length c = c .before .loop .inv .2
 returns : tie.Need-returns Inv-loop μ-loop
 returns c =
     let l = c .before .loop in
-    let e : l .i ≡ c .before .before .args .count = omega arith in
+    let e : l .done ≡ c .before .before .args .count = omega arith in
     rw (e, plain-fits (c .before .before .fits .v)) at (l .inv .1)
 
 pub put-spec : {M : Type 1} → statement M
-put-spec = tie.close (tie.spec Inv-loop μ-loop loop-holds add-v mul-v slice-set-from-v add-i loop-less loop-again same-length returns)
+put-spec = tie.close (tie.spec Inv-loop μ-loop loop-holds add-v mul-v slice-set-from-v add-done loop-less loop-again same-length returns)
