@@ -110,8 +110,7 @@ fn options(mut arguments: impl Iterator<Item = String>) -> Result<Options, Stop>
                 cells = Some(number.ok_or_else(Stop::bad_arguments)?);
             }
             "--svg" => svg = Some(arguments.next().ok_or_else(Stop::bad_arguments)?),
-            "-" => case = Some(word),
-            flag if flag.starts_with('-') => return Err(Stop::bad_arguments()),
+            flag if flag.starts_with('-') && flag != "-" => return Err(Stop::bad_arguments()),
             _ if case.is_some() => return Err(Stop::bad_arguments()),
             _ => case = Some(word),
         }

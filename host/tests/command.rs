@@ -74,6 +74,7 @@ fn bad_arguments_and_files() {
         vec!["--cells", "many", "case"],
         vec!["--svg"],
         vec!["one", "two"],
+        vec!["one", "-"],
     ] {
         let answer = command().args(&arguments).output().expect("runs");
         stops(&answer, 2, "", "usage: ralwinga");
