@@ -60,7 +60,8 @@ impl Stop {
 }
 
 fn main() -> ExitCode {
-    match run(std::env::args().skip(1)) {
+    let words = std::env::args_os().map(|word| word.to_string_lossy().into_owned());
+    match run(words.skip(1)) {
         Ok(()) => ExitCode::SUCCESS,
         Err(stop) => {
             if let Some(refusal) = stop.refusal {
