@@ -7,12 +7,11 @@ use Rattle.casefile.specs.declared.CaseRead.the-variants as read
 use Rattle.casefile.specs.Answers.{readCase}
 use Rattle.casefile.specs.Reading.{pricesIn}
 use Rattle.commitment.specs.declared.UnitRecord.{UnitRecord}
-use Rattle.commitment.specs.Best.{best}
 use Rattle.commitment.specs.Causes.{numberOf}
 use Rattle.listing.specs.Listing.{listing, refusal}
 use Rattle.planner.specs.declared.Reported.{Reported}
 use Rattle.planner.specs.declared.Reported.the-variants.{Report, Refused}
-use Rattle.planner.specs.Planning.{planChecked, plannedPart}
+use Rattle.planner.specs.Planning.{partGiven}
 use Rattle.planner.specs.Reporting.{reported}
 
 -- a report and the outputs planned: their listing; a refusal: its line
@@ -23,7 +22,7 @@ reportPrinted (Refused cause) outputs = refusal (numberOf cause)
 -- of a case: its best plan with profit and outcomes
 unfoldable pub casePrinted : UnitRecord → List ℤ → ℕ → ℕ → List ℕ
 casePrinted unit prices cells entries =
-    reportPrinted (reported unit prices cells entries) (plannedPart (planChecked unit prices cells entries) (best unit prices))
+    reportPrinted (reported unit prices cells entries) (partGiven unit prices cells entries)
 
 -- of what was read: the case, or the line of the refusal
 abbrev pub readPrinted : CaseRead → List ℤ → ℕ → ℕ → List ℕ

@@ -7,13 +7,11 @@ use listing::Written;
 use planner::Reported;
 ghost use mathlib.Core.Path.{_≡_};
 ghost use lib.ListN.{length};
-ghost use Rattle.commitment.specs.Best.{best};
 ghost use Rattle.commitment.specs.Causes.{numberOf};
-ghost use Rattle.commitment.specs.Cells.{cellsNeeded};
 ghost use Rattle.casefile.specs.Answers.{readCase, readPrices};
 ghost use Rattle.casefile.specs.Reading.{pricesIn};
 ghost use Rattle.listing.specs.Listing.{refusal, fitted, answered, bufferAfter};
-ghost use Rattle.planner.specs.Planning.{planLent, planChecked, scheduleAfter, scratchAfter};
+ghost use Rattle.planner.specs.Planning as planning;
 ghost use Rattle.answers.specs.Printing.{casePrinted, printed};
 ghost use Rattle.answers.specs.Slices.{scheduleLeft, scratchLeft};
 
@@ -47,8 +45,8 @@ fn report(
 ) -> Written
     ensures { λ r. ⌜ r ≡ answered (fitted (length (casePrinted unit (now (prices .entry)) (length (now (scratch .entry))) (length (now (schedule .entry))))) (length (now (out .entry)))) ⌝ }
     ensures { λ _. ⌜ now (out .exit) ≡ bufferAfter (casePrinted unit (now (prices .entry)) (length (now (scratch .entry))) (length (now (schedule .entry)))) (now (out .entry)) ⌝ }
-    ensures { λ _. ⌜ now (schedule .exit) ≡ scheduleAfter (planChecked unit (now (prices .entry)) (length (now (scratch .entry))) (length (now (schedule .entry)))) (best unit (now (prices .entry))) (now (schedule .entry)) ⌝ }
-    ensures { λ _. ⌜ now (scratch .exit) ≡ scratchAfter (planLent unit (now (prices .entry)) (length (now (scratch .entry))) (length (now (schedule .entry)))) (cellsNeeded unit (length (now (prices .entry)))) (now (scratch .entry)) ⌝ }
+    ensures { λ _. ⌜ now (schedule .exit) ≡ planning.scheduleLeft unit (now (prices .entry)) (length (now (scratch .entry))) (now (schedule .entry)) ⌝ }
+    ensures { λ _. ⌜ now (scratch .exit) ≡ planning.scratchLeft unit (now (prices .entry)) (length (now (schedule .entry))) (now (scratch .entry)) ⌝ }
 {
     match planner::report_into(unit, prices, scratch, &mut *schedule) {
         Reported::Refused(cause) => refuse(cause, out),

@@ -19,15 +19,14 @@ use numbers::ValueNumbers;
 use numbers::WrittenNumbers;
 ghost use mathlib.Core.Path.{_≡_};
 ghost use lib.ListN.{length};
-ghost use Rattle.commitment.specs.Best.{best};
 ghost use Rattle.commitment.specs.Cells.{cellsNeeded};
 ghost use Rattle.assessment.specs.Assessed.{assessed};
 ghost use Rattle.casefile.specs.Answers.{readCase, readPrices};
 ghost use Rattle.costs.specs.Answers.{costed};
 ghost use Rattle.listing.specs.Listing.{listing, refusal, fitted, answered, bufferAfter};
-ghost use Rattle.planner.specs.Planning.{planLent, planChecked, planned, scheduleAfter, scratchAfter};
+ghost use Rattle.planner.specs.Planning.{planned, scheduleLeft, scratchLeft};
 ghost use Rattle.planner.specs.Reporting.{reported};
-ghost use Rattle.planner.specs.Valuing.{valueLent, valued};
+ghost use Rattle.planner.specs.Valuing.{valued, scratchValued};
 ghost use Rattle.exports.specs.Records.{recordOf, outcomesFrom};
 ghost use Rattle.exports.specs.Answers.{assessNumbers, caseNumbers, cellsChecked, cellsNumbers, figuresNumbers, planNumbers, reportNumbers, valueNumbers, writtenNumbers};
 
@@ -102,8 +101,8 @@ pub extern "C" fn ralwinga_plan(
     schedule: &mut [u64],
 ) -> PlanNumbers
     ensures { λ r. ⌜ r ≡ planNumbers (planned (recordOf unit) (now (prices .entry)) (length (now (scratch .entry))) (length (now (schedule .entry)))) ⌝ }
-    ensures { λ _. ⌜ now (schedule .exit) ≡ scheduleAfter (planChecked (recordOf unit) (now (prices .entry)) (length (now (scratch .entry))) (length (now (schedule .entry)))) (best (recordOf unit) (now (prices .entry))) (now (schedule .entry)) ⌝ }
-    ensures { λ _. ⌜ now (scratch .exit) ≡ scratchAfter (planLent (recordOf unit) (now (prices .entry)) (length (now (scratch .entry))) (length (now (schedule .entry)))) (cellsNeeded (recordOf unit) (length (now (prices .entry)))) (now (scratch .entry)) ⌝ }
+    ensures { λ _. ⌜ now (schedule .exit) ≡ scheduleLeft (recordOf unit) (now (prices .entry)) (length (now (scratch .entry))) (now (schedule .entry)) ⌝ }
+    ensures { λ _. ⌜ now (scratch .exit) ≡ scratchLeft (recordOf unit) (now (prices .entry)) (length (now (schedule .entry))) (now (scratch .entry)) ⌝ }
 {
     numbers::of_plan(planner::plan_into(numbers::record_of(unit), prices, scratch, schedule))
 }
@@ -116,7 +115,7 @@ pub extern "C" fn ralwinga_value(
     scratch: &mut [i64],
 ) -> ValueNumbers
     ensures { λ r. ⌜ r ≡ valueNumbers (valued (recordOf unit) (now (prices .entry)) (length (now (scratch .entry)))) ⌝ }
-    ensures { λ _. ⌜ now (scratch .exit) ≡ scratchAfter (valueLent (recordOf unit) (now (prices .entry)) (length (now (scratch .entry)))) (cellsNeeded (recordOf unit) (length (now (prices .entry)))) (now (scratch .entry)) ⌝ }
+    ensures { λ _. ⌜ now (scratch .exit) ≡ scratchValued (recordOf unit) (now (prices .entry)) (now (scratch .entry)) ⌝ }
 {
     numbers::of_value(planner::value(numbers::record_of(unit), prices, scratch))
 }
@@ -130,8 +129,8 @@ pub extern "C" fn ralwinga_report(
     schedule: &mut [u64],
 ) -> ReportNumbers
     ensures { λ r. ⌜ r ≡ reportNumbers (reported (recordOf unit) (now (prices .entry)) (length (now (scratch .entry))) (length (now (schedule .entry)))) ⌝ }
-    ensures { λ _. ⌜ now (schedule .exit) ≡ scheduleAfter (planChecked (recordOf unit) (now (prices .entry)) (length (now (scratch .entry))) (length (now (schedule .entry)))) (best (recordOf unit) (now (prices .entry))) (now (schedule .entry)) ⌝ }
-    ensures { λ _. ⌜ now (scratch .exit) ≡ scratchAfter (planLent (recordOf unit) (now (prices .entry)) (length (now (scratch .entry))) (length (now (schedule .entry)))) (cellsNeeded (recordOf unit) (length (now (prices .entry)))) (now (scratch .entry)) ⌝ }
+    ensures { λ _. ⌜ now (schedule .exit) ≡ scheduleLeft (recordOf unit) (now (prices .entry)) (length (now (scratch .entry))) (now (schedule .entry)) ⌝ }
+    ensures { λ _. ⌜ now (scratch .exit) ≡ scratchLeft (recordOf unit) (now (prices .entry)) (length (now (schedule .entry))) (now (scratch .entry)) ⌝ }
 {
     numbers::of_report(planner::report_into(numbers::record_of(unit), prices, scratch, schedule))
 }

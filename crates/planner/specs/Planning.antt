@@ -64,6 +64,13 @@ abbrev pub scratchAfter : Checked → ℕ → List ℤ → List ℤ
 scratchAfter Passed needed was = replicate needed (pos 0) ++ drop needed was
 scratchAfter (checked.Refused cause) needed was = was
 
+-- both as a call leaves them, beside a scratch of so many cells, and beside a schedule slice of so many entries
+abbrev pub scheduleLeft : UnitRecord → List ℤ → ℕ → List ℕ → List ℕ
+scheduleLeft u prices cells was = scheduleAfter (planChecked u prices cells (length was)) (best u prices) was
+
+abbrev pub scratchLeft : UnitRecord → List ℤ → ℕ → List ℤ → List ℤ
+scratchLeft u prices entries was = scratchAfter (planLent u prices (length was) entries) (cellsNeeded u (length prices)) was
+
 -- ---- the number, the profit and the count of an answer: 0 where there is none; the part that comes back, empty on a refusal
 
 abbrev pub plannedNumber : Planned → ℕ
@@ -82,3 +89,7 @@ abbrev pub plannedPart : Checked → Plan → List ℕ
 plannedPart Passed (plan s p) = s
 plannedPart Passed nothing = []
 plannedPart (checked.Refused cause) best = []
+
+-- the part that a call gives back
+abbrev pub partGiven : UnitRecord → List ℤ → ℕ → ℕ → List ℕ
+partGiven u prices cells entries = plannedPart (planChecked u prices cells entries) (best u prices)

@@ -11,11 +11,12 @@ use Rattle.commitment.specs.declared.Outcome.{Outcome}
 use Rattle.commitment.specs.declared.Outcomes.{Outcomes}
 use Rattle.commitment.specs.declared.UnitRecord.{UnitRecord}
 use Rattle.commitment.specs.Causes.{numberOf, checkedThen}
+use Rattle.commitment.specs.Cells.{cellsNeeded}
 use Rattle.commitment.specs.Ranges.{caseChecked}
 use Rattle.commitment.specs.Valuing.{startsOutcome, hoursOutcome, mwhOutcome, outcomesOf, noOutcomes}
 use Rattle.optimality.specs.declared.Cell.{Cell}
 use Rattle.optimality.specs.Runs.{startsCell, hoursCell, mwhCell}
-use Rattle.planner.specs.Planning.{scratchChecked, scheduleChecked}
+use Rattle.planner.specs.Planning.{scratchChecked, scheduleChecked, scratchAfter}
 use Rattle.planner.specs.declared.Limitation.{Limitation}
 use Rattle.planner.specs.declared.Limitation.the-variants.{Starts, Hours, Mwh}
 use Rattle.planner.specs.declared.Valued.{Valued}
@@ -37,6 +38,10 @@ valuedBy (checked.Refused cause) outcomes = Refused cause
 
 abbrev pub valued : UnitRecord → List ℤ → ℕ → Valued
 valued u prices scratch = valuedBy (valueChecked u prices scratch) (outcomesOf u prices)
+
+-- the scratch, beside which valuing takes no slice
+abbrev pub scratchValued : UnitRecord → List ℤ → List ℤ → List ℤ
+scratchValued u prices was = scratchAfter (valueLent u prices (length was)) (cellsNeeded u (length prices)) was
 
 abbrev pub valuedNumber : Valued → ℕ
 valuedNumber (Given outcomes) = 0

@@ -24,10 +24,10 @@ ghost use Rattle.commitment.specs.Valuing.{outcomesOf};
 ghost use Rattle.optimality.specs.Cells.{figuresOf, opening, valueAt};
 ghost use Rattle.optimality.specs.Runs.{AtMost, outcomeAt};
 ghost use Rattle.layers.specs.Layers.{width};
-ghost use Rattle.planner.specs.Planning.{scratchChecked, lentChecked, planLent, scheduleChecked, planChecked, planned, scheduleAfter, scratchAfter, plannedNumber, plannedProfit, plannedCount, plannedPart};
+ghost use Rattle.planner.specs.Planning.{scratchChecked, lentChecked, planLent, scheduleChecked, planned, scheduleAfter, scratchAfter, scheduleLeft, scratchLeft, plannedNumber, plannedProfit, plannedCount, partGiven};
 ghost use Rattle.planner.specs.Reporting.{reportedBy, reported, planIn};
 ghost use Rattle.planner.specs.Tables.{Worked, profitIn, gapOf};
-ghost use Rattle.planner.specs.Valuing.{valueLent, valuedBy, valued, limitOf, outcomeOf, runCell};
+ghost use Rattle.planner.specs.Valuing.{valueLent, valuedBy, valued, scratchValued, limitOf, outcomeOf, runCell};
 
 // What planning answers.
 pub enum Planned {
@@ -68,8 +68,8 @@ pub fn plan_into(
     schedule: &mut [u64],
 ) -> Planned
     ensures { λ r. ⌜ r ≡ planned unit (now (prices .entry)) (length (now (scratch .entry))) (length (now (schedule .entry))) ⌝ }
-    ensures { λ _. ⌜ now (schedule .exit) ≡ scheduleAfter (planChecked unit (now (prices .entry)) (length (now (scratch .entry))) (length (now (schedule .entry)))) (best unit (now (prices .entry))) (now (schedule .entry)) ⌝ }
-    ensures { λ _. ⌜ now (scratch .exit) ≡ scratchAfter (planLent unit (now (prices .entry)) (length (now (scratch .entry))) (length (now (schedule .entry)))) (cellsNeeded unit (length (now (prices .entry)))) (now (scratch .entry)) ⌝ }
+    ensures { λ _. ⌜ now (schedule .exit) ≡ scheduleLeft unit (now (prices .entry)) (length (now (scratch .entry))) (now (schedule .entry)) ⌝ }
+    ensures { λ _. ⌜ now (scratch .exit) ≡ scratchLeft unit (now (prices .entry)) (length (now (schedule .entry))) (now (scratch .entry)) ⌝ }
 {
     plan_of(report_into(unit, prices, scratch, schedule))
 }
@@ -77,7 +77,7 @@ pub fn plan_into(
 // The three outcomes; or 3, 4, 5, 8 or 9.
 pub fn value(unit: UnitRecord, prices: &[i64], scratch: &mut [i64]) -> Valued
     ensures { λ r. ⌜ r ≡ valued unit (now (prices .entry)) (length (now (scratch .entry))) ⌝ }
-    ensures { λ _. ⌜ now (scratch .exit) ≡ scratchAfter (valueLent unit (now (prices .entry)) (length (now (scratch .entry)))) (cellsNeeded unit (length (now (prices .entry)))) (now (scratch .entry)) ⌝ }
+    ensures { λ _. ⌜ now (scratch .exit) ≡ scratchValued unit (now (prices .entry)) (now (scratch .entry)) ⌝ }
 {
     match check_value_lent(unit, prices, scratch.len()) {
         Checked::Refused(cause) => Valued::Refused(cause),
@@ -93,8 +93,8 @@ pub fn report_into(
     schedule: &mut [u64],
 ) -> Reported
     ensures { λ r. ⌜ r ≡ reported unit (now (prices .entry)) (length (now (scratch .entry))) (length (now (schedule .entry))) ⌝ }
-    ensures { λ _. ⌜ now (schedule .exit) ≡ scheduleAfter (planChecked unit (now (prices .entry)) (length (now (scratch .entry))) (length (now (schedule .entry)))) (best unit (now (prices .entry))) (now (schedule .entry)) ⌝ }
-    ensures { λ _. ⌜ now (scratch .exit) ≡ scratchAfter (planLent unit (now (prices .entry)) (length (now (scratch .entry))) (length (now (schedule .entry)))) (cellsNeeded unit (length (now (prices .entry)))) (now (scratch .entry)) ⌝ }
+    ensures { λ _. ⌜ now (schedule .exit) ≡ scheduleLeft unit (now (prices .entry)) (length (now (scratch .entry))) (now (schedule .entry)) ⌝ }
+    ensures { λ _. ⌜ now (scratch .exit) ≡ scratchLeft unit (now (prices .entry)) (length (now (schedule .entry))) (now (scratch .entry)) ⌝ }
 {
     match check_plan_lent(unit, prices, scratch.len(), schedule.len()) {
         Checked::Refused(cause) => Reported::Refused(cause),
@@ -111,11 +111,11 @@ pub fn plan<'a>(
     number: &mut u64,
     profit: &mut i64,
 ) -> &'a mut [u64]
-    ensures { λ r. ⌜ now r ≡ plannedPart (planChecked unit (now (prices .entry)) (length (now (scratch .entry))) (length (now (schedule .entry)))) (best unit (now (prices .entry))) ⌝ }
+    ensures { λ r. ⌜ now r ≡ partGiven unit (now (prices .entry)) (length (now (scratch .entry))) (length (now (schedule .entry))) ⌝ }
     ensures { λ r. ⌜ ptr r ≡ ptr (schedule .entry) ⌝ }
     ensures { λ _. ⌜ now (number .exit) ≡ plannedNumber (planned unit (now (prices .entry)) (length (now (scratch .entry))) (length (now (schedule .entry)))) ⌝ }
     ensures { λ _. ⌜ now (profit .exit) ≡ plannedProfit (planned unit (now (prices .entry)) (length (now (scratch .entry))) (length (now (schedule .entry)))) ⌝ }
-    ensures { λ _. ⌜ now (scratch .exit) ≡ scratchAfter (planLent unit (now (prices .entry)) (length (now (scratch .entry))) (length (now (schedule .entry)))) (cellsNeeded unit (length (now (prices .entry)))) (now (scratch .entry)) ⌝ }
+    ensures { λ _. ⌜ now (scratch .exit) ≡ scratchLeft unit (now (prices .entry)) (length (now (schedule .entry))) (now (scratch .entry)) ⌝ }
 {
     let answer = plan_into(unit, prices, scratch, &mut *schedule);
     *number = planned_number(answer);

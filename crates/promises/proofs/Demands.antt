@@ -12,7 +12,6 @@ use Rattle.commitment.specs.declared.CostInputs.{CostInputs}
 use Rattle.commitment.specs.declared.Limit.the-variants.{At}
 use Rattle.commitment.specs.declared.Outcomes.{Outcomes}
 use Rattle.commitment.specs.declared.UnitRecord.{UnitRecord}
-use Rattle.commitment.specs.Best.{best}
 use Rattle.commitment.specs.Profit.{profit}
 use Rattle.commitment.specs.Ranges.{caseChecked}
 use Rattle.commitment.specs.Rivals.{Rival, IsBest}
@@ -32,12 +31,11 @@ use Rattle.listing.specs.declared.Written.the-variants as writing
 use Rattle.listing.specs.Listing.{fitted, answered}
 use Rattle.planner.specs.declared.Planned.the-variants as planning
 use Rattle.planner.specs.declared.Valued.the-variants as valuing
-use Rattle.planner.specs.Planning.{planLent, planChecked, planned, scheduleAfter}
+use Rattle.planner.specs.Planning.{planLent, planned, scheduleLeft, partGiven}
 use Rattle.planner.specs.Valuing.{valueLent, valued}
 use Rattle.answers.specs.Printing.{printed}
 use Rattle.promises.proofs.Causes.{ReadCause, CostCause, HandCause, PlanCause, NoRival}
 use Rattle.promises.proofs.Causes as causes
-use Rattle.promises.proofs.Planning.{planOf}
 use Rattle.promises.proofs.Planning as plans
 use Rattle.promises.proofs.Printed as printing
 use Rattle.promises.proofs.Untouched as untouched
@@ -73,7 +71,7 @@ pub prices-untouched : (text : List ℕ) (slice : List ℤ) {cause : Cause} → 
 prices-untouched = untouched.prices-untouched
 
 pub schedule-untouched : (u : UnitRecord) (prices : List ℤ) (cells : ℕ) (slice : List ℕ) {cause : Cause} → planned u prices cells (length slice) ≡ planning.Refused cause
-    → scheduleAfter (planChecked u prices cells (length slice)) (best u prices) slice ≡ slice
+    → scheduleLeft u prices cells slice ≡ slice
 schedule-untouched = untouched.schedule-untouched
 
 -- "A text that is not refused is read as the figures written in it."
@@ -96,13 +94,13 @@ half-a-cent = within-half-a-cent
 -- ---- Demand 3. "No rival schedule of the same case earns more than the plan, and one that earns as much is not earlier."
 
 pub planned-is-best : (u : UnitRecord) (prices : List ℤ) (cells entries n : ℕ) (p : ℤ)
-    → planned u prices cells entries ≡ planning.Plan n p → IsBest u prices (planOf u prices cells entries) p
+    → planned u prices cells entries ≡ planning.Plan n p → IsBest u prices (partGiven u prices cells entries) p
 planned-is-best = plans.planned-is-best
 
 -- and the plan handed in is passed with its profit
 
 pub plan-is-passed : (u : UnitRecord) (prices : List ℤ) (cells entries n : ℕ) (p : ℤ)
-    → planned u prices cells entries ≡ planning.Plan n p → assessed u prices (planOf u prices cells entries) ≡ assessing.Profit p
+    → planned u prices cells entries ≡ planning.Plan n p → assessed u prices (partGiven u prices cells entries) ≡ assessing.Profit p
 plan-is-passed = plans.plan-is-passed
 
 -- "Planning and valuing are refused for want of a schedule exactly when there is none", where no other cause holds.

@@ -26,14 +26,13 @@ use Rattle.assessment.specs.Assessed.{assessed}
 use Rattle.assessment.proofs.Passed.{passed-exactly}
 use Rattle.planner.specs.declared.Planned.the-variants as plans
 use Rattle.planner.specs.declared.Valued.the-variants as values
-use Rattle.planner.specs.Planning.{scratchChecked, lentChecked, planLent, hasSchedule, scheduleChecked, planChecked, plannedBy, planned, plannedPart}
+use Rattle.planner.specs.Planning.{scratchChecked, lentChecked, planLent, hasSchedule, scheduleChecked, planChecked, plannedBy, planned, plannedPart, partGiven}
 use Rattle.planner.specs.Valuing.{valueLent, valueChecked, valuedBy, valued}
 use Rattle.promises.proofs.Causes.{NoRival, planning-refused, valuing-refused}
 
 module _ (u : UnitRecord) (prices : List ℤ) (cells entries : ℕ) where
-  -- the plan, which `planner::plan` gives back as the part of the caller's slice
-  abbrev pub planOf : List ℕ
-  planOf = plannedPart (planChecked u prices cells entries) (best u prices)
+  abbrev planOf : List ℕ
+  planOf = partGiven u prices cells entries
 
   lent-case : planLent u prices cells entries ≡ Passed → caseChecked u prices ≡ Passed
   unfolding planLent

@@ -14,7 +14,7 @@ use Rattle.casefile.specs.declared.CaseRead.the-variants as reading
 use Rattle.casefile.specs.Answers.{answered, filled, readCase, readPrices}
 use Rattle.casefile.specs.Reading.{unitIn, pricesIn, textChecked}
 use Rattle.planner.specs.declared.Planned.the-variants as planning
-use Rattle.planner.specs.Planning.{planChecked, plannedBy, planned, scheduleAfter}
+use Rattle.planner.specs.Planning.{planChecked, plannedBy, planned, scheduleAfter, scheduleLeft}
 
 pub prices-untouched : (text : List ℕ) (slice : List ℤ) {cause : Cause} → readCase text (length slice) ≡ reading.Refused cause → readPrices text slice ≡ slice
 unfolding readCase readPrices
@@ -25,7 +25,7 @@ prices-untouched text slice {cause} e = by (textChecked text (length slice)) e
     by (Refused c) e = refl
 
 pub schedule-untouched : (u : UnitRecord) (prices : List ℤ) (cells : ℕ) (slice : List ℕ) {cause : Cause} → planned u prices cells (length slice) ≡ planning.Refused cause
-    → scheduleAfter (planChecked u prices cells (length slice)) (best u prices) slice ≡ slice
+    → scheduleLeft u prices cells slice ≡ slice
 schedule-untouched u prices cells slice {cause} e = by (planChecked u prices cells (length slice)) (best u prices) e
   where
     by : (k : Checked) (b : Plan) → plannedBy k b ≡ planning.Refused cause → scheduleAfter k b slice ≡ slice
