@@ -155,7 +155,9 @@ fn longer_cases() {
                 refused += 1;
             }
             Some((profit, plan)) => {
-                let outcomes = recursion::outcomes(&unit, &prices);
+                let profit_of =
+                    |unit| recursion::best(&unit, &prices).map(|(earned, _)| earned.into());
+                let outcomes = paper::outcomes_by(&unit, profit_of);
                 let count = plan.len();
                 assert_eq!(
                     number(answer),

@@ -202,27 +202,30 @@ pub fn text_of(random: &mut Random, u: &Unit, prices: &[i64]) -> String {
     text
 }
 
-/// A byte taken out, put in or changed, or a field or a line doubled, dropped or replaced.
+/// What a damaged text gains.
+const PIECES: [&str; 16] = [
+    "none",
+    "-",
+    "0",
+    "-0",
+    "00",
+    ",",
+    "\n",
+    "\n\n",
+    "price",
+    "starts",
+    "9999999999",
+    "10000000000",
+    "-1",
+    " ",
+    "A",
+    "\u{e9}",
+];
+
+/// A byte taken out, put in or changed, the end cut off, a piece put in or put for a whole field.
 pub fn damage_text(random: &mut Random, text: &mut Vec<u8>) {
-    const PIECES: [&str; 16] = [
-        "none",
-        "-",
-        "0",
-        "-0",
-        "00",
-        ",",
-        "\n",
-        "\n\n",
-        "price",
-        "starts",
-        "9999999999",
-        "10000000000",
-        "-1",
-        " ",
-        "A",
-        "\u{e9}",
-    ];
     let at = random.below(text.len() as u64) as usize;
+    let piece = random.from(&PIECES).bytes();
     match random.below(6) {
         0 => {
             text.remove(at);
@@ -231,21 +234,23 @@ pub fn damage_text(random: &mut Random, text: &mut Vec<u8>) {
         2 => text.insert(at, random.from(b"0123456789-,\nanoeprics")),
         3 => text.truncate(at),
         4 => {
-            let piece = random.from(&PIECES).as_bytes();
-            text.splice(at..at, piece.iter().copied());
+            text.splice(at..at, piece);
         }
         _ => {
-            // a whole field for another
-            let is_mark = |byte: &u8| *byte == b',' || *byte == b'\n';
-            let begin = text[..at].iter().rposition(is_mark).map_or(0, |i| i + 1);
-            let end = text[at..]
-                .iter()
-                .position(is_mark)
-                .map_or(text.len(), |i| at + i);
-            let piece = random.from(&PIECES).as_bytes();
-            text.splice(begin..end, piece.iter().copied());
+            text.splice(field_at(text, at), piece);
         }
     }
+}
+
+/// The field about a place of a text.
+fn field_at(text: &[u8], at: usize) -> std::ops::Range<usize> {
+    let is_mark = |byte: &u8| *byte == b',' || *byte == b'\n';
+    let begin = text[..at].iter().rposition(is_mark).map_or(0, |i| i + 1);
+    let end = text[at..]
+        .iter()
+        .position(is_mark)
+        .map_or(text.len(), |i| at + i);
+    begin..end
 }
 
 /// What a program makes of a text on its standard input.

@@ -126,22 +126,26 @@ fn outcome(limit: Option<u64>, best_at: impl Fn(u64) -> Option<i128>) -> Outcome
     }
 }
 
+/// The three outcomes by enumeration.
 pub fn outcomes(u: &Unit, prices: &[i64]) -> Outcomes {
-    let earned = |unit: Unit| best(&unit, prices).map(|(earned, _)| earned);
+    outcomes_by(u, |unit| best(&unit, prices).map(|(earned, _)| earned))
+}
+
+/// The three outcomes, by whatever finds a case's best profit.
+pub fn outcomes_by(u: &Unit, earned: impl Fn(Unit) -> Option<i128>) -> Outcomes {
+    let with_starts = |k| Unit {
+        starts: Some(k),
+        ..*u
+    };
+    let with_hours = |k| Unit {
+        hours: Some(k),
+        ..*u
+    };
+    let with_mwh = |k| Unit { mwh: Some(k), ..*u };
     Outcomes {
-        starts: outcome(u.starts, |k| {
-            earned(Unit {
-                starts: Some(k),
-                ..*u
-            })
-        }),
-        hours: outcome(u.hours, |k| {
-            earned(Unit {
-                hours: Some(k),
-                ..*u
-            })
-        }),
-        mwh: outcome(u.mwh, |k| earned(Unit { mwh: Some(k), ..*u })),
+        starts: outcome(u.starts, |k| earned(with_starts(k))),
+        hours: outcome(u.hours, |k| earned(with_hours(k))),
+        mwh: outcome(u.mwh, |k| earned(with_mwh(k))),
     }
 }
 

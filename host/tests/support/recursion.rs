@@ -1,6 +1,6 @@
 //! The best plan by a plain recursion with a memory, from the front and by what was used so far: for cases too long to try every list.
 
-use ralwinga::{Outcome, Outcomes, Unit};
+use ralwinga::Unit;
 use std::collections::HashMap;
 
 /// Where a schedule stands after some intervals, and what it used.
@@ -110,37 +110,4 @@ pub fn best(unit: &Unit, prices: &[i64]) -> Option<(i64, Vec<u64>)> {
         place = search.step(place, output).expect("it was allowed").0;
     }
     Some((profit, plan))
-}
-
-fn outcome(limit: Option<u64>, best_at: impl Fn(u64) -> Option<i64>) -> Outcome {
-    let Some(whole) = limit else {
-        return Outcome::None;
-    };
-    let figure = 9 * whole / 10;
-    if figure == 0 {
-        return Outcome::Empty;
-    }
-    match (best_at(figure), best_at(figure - 1)) {
-        (Some(first), Some(lower)) => Outcome::Gap(first - lower),
-        _ => Outcome::Never,
-    }
-}
-
-pub fn outcomes(u: &Unit, prices: &[i64]) -> Outcomes {
-    let earned = |unit: Unit| best(&unit, prices).map(|(earned, _)| earned);
-    Outcomes {
-        starts: outcome(u.starts, |k| {
-            earned(Unit {
-                starts: Some(k),
-                ..*u
-            })
-        }),
-        hours: outcome(u.hours, |k| {
-            earned(Unit {
-                hours: Some(k),
-                ..*u
-            })
-        }),
-        mwh: outcome(u.mwh, |k| earned(Unit { mwh: Some(k), ..*u })),
-    }
 }
