@@ -18,6 +18,7 @@ use commitment::UnitRecord;
 use planner::Planned;
 use planner::Reported;
 use planner::Valued;
+ghost use Rattle.trials.specs.Expecting.{ExpectedOf};
 
 // What no output of a small case is: entries that a call leaves as they were still hold it.
 const UNTOUCHED: u64 = 7777;
@@ -41,7 +42,9 @@ pub struct Agreed {
     pub assess: bool,
 }
 
-pub fn expected_of(case: Case) -> Expected {
+pub fn expected_of(case: Case) -> Expected
+    ensures { λ r. ⌜ ExpectedOf case r ⌝ }
+{
     let best = enumerator::best_of(case);
     if !best.any {
         return Expected {

@@ -7,7 +7,9 @@ use crate::numbers::times;
 use crate::numbers::wide8;
 use crate::numbers::wide16;
 use crate::numbers::wide32;
-ghost use Prim.Native.Nat.{_+_, _<_, _≤_, _^_};
+ghost use mathlib.Core.Path.{_≡_};
+ghost use Prim.Native.Nat.{_+_, _*_, _/_, _<_, _≤_, _^_};
+ghost use Rattle.trials.specs.Expecting.{capOf, profitOf, WorthOf};
 
 // A limitation: at most so much, where it is limited.
 pub struct Cap {
@@ -348,13 +350,16 @@ pub fn best_of(case: Case) -> Found
 
 pub fn profit_of(found: Found) -> i64
     requires { ⌜ (found .earned < 2 ^ 60) × (found .spent < 2 ^ 60) ⌝ }
+    ensures { λ r. ⌜ r ≡ profitOf found ⌝ }
 {
     difference(found.earned, found.spent)
 }
 
 // ---- "Valuing a limitation"
 
-fn cap_of(case: Case, which: Which) -> Cap {
+fn cap_of(case: Case, which: Which) -> Cap
+    ensures { λ r. ⌜ r ≡ capOf case which ⌝ }
+{
     match which {
         Which::Starts => case.starts,
         Which::Hours => case.hours,
@@ -377,12 +382,20 @@ fn with_figure(case: Case, which: Which, figure: u32) -> Case {
     lowered
 }
 
-pub fn worth_of(case: Case, which: Which) -> Worth {
+fn nine_tenths(figure: u32) -> u32
+    ensures { λ r. ⌜ r ≡ figure * 9 / 10 ⌝ }
+{
+    (figure as u64 * 9 / 10) as u32
+}
+
+pub fn worth_of(case: Case, which: Which) -> Worth
+    ensures { λ r. ⌜ WorthOf (capOf case which) r ⌝ }
+{
     let cap = cap_of(case, which);
     if !cap.limited {
         return Worth::None;
     }
-    let figure = (wide32(cap.most) * 9 / 10) as u32;
+    let figure = nine_tenths(cap.most);
     if figure == 0 {
         return Worth::Empty;
     }

@@ -5,6 +5,8 @@ use crate::enumerator::Case;
 use crate::numbers::times;
 use crate::numbers::wide32;
 ghost use Prim.Native.Nat.{_+_, _<_, _≤_};
+ghost use Rattle.trials.specs.Cases.{OfKind};
+ghost use mathlib.Core.Path.{_≡_};
 
 pub fn draws_from(seed: u32) -> [u32; 24] {
     let mut draws = [0u32; 24];
@@ -19,7 +21,9 @@ pub fn draws_from(seed: u32) -> [u32; 24] {
 }
 
 // The number's lowest three bits say which limitations there are, the next one whether the unit was on; the next two choose the prices.
-pub fn case_of(number: u64, draws: [u32; 24]) -> Case {
+pub fn case_of(number: u64, draws: [u32; 24]) -> Case
+    ensures { λ r. ⌜ OfKind number r ⌝ }
+{
     let spread = number / 16 % 4;
     let pmin = pick(draws[1], 1, 2);
     Case {
@@ -52,6 +56,7 @@ fn pick(draw: u32, low: u8, choices: u32) -> u8
 
 fn cap(limited: bool, draw: u32, choices: u32) -> Cap
     requires { ⌜ 0 < choices ⌝ }
+    ensures { λ r. ⌜ r .limited ≡ limited ⌝ }
 {
     Cap {
         limited,

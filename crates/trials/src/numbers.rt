@@ -1,6 +1,9 @@
 // Small arithmetic whose bounds come from the types.
 
+ghost use mathlib.Core.Path.{_≡_};
 ghost use Prim.Native.Nat.{_<_, _≤_, _^_};
+ghost use lib.IntN.{pos, _-ℤ_};
+ghost use Rattle.trials.specs.Counting as counting;
 
 pub fn wide8(x: u8) -> u64
     ensures { λ r. ⌜ r < 2 ^ 8 ⌝ }
@@ -37,6 +40,7 @@ pub fn times(a: u64, b: u64) -> u64
 // a − b as a signed number.
 pub fn difference(a: u64, b: u64) -> i64
     requires { ⌜ (a < 2 ^ 62) × (b < 2 ^ 62) ⌝ }
+    ensures { λ r. ⌜ r ≡ pos a -ℤ pos b ⌝ }
 {
     if b <= a {
         return (a - b) as i64;
@@ -45,6 +49,11 @@ pub fn difference(a: u64, b: u64) -> i64
 }
 
 // A count, one higher where `yes`.
-pub fn counted(count: u64, yes: bool) -> u64 {
-    std::num::wrapping_add_u64(count, one_if(yes))
+pub fn counted(count: u64, yes: bool) -> u64
+    ensures { λ r. ⌜ r ≡ counting.counted count yes ⌝ }
+{
+    if yes {
+        return std::num::wrapping_add_u64(count, 1);
+    }
+    count
 }

@@ -10,7 +10,10 @@ use crate::numbers::one_if;
 use crate::printing::line;
 use crate::printing::row;
 use crate::printing::text;
+ghost use mathlib.Core.Path.{_≡_};
+ghost use mathlib.Core.Bool.{true, not};
 ghost use Prim.Native.Nat.{_<_};
+ghost use Rattle.trials.specs.Counting as counting;
 
 // `limited` goes by which limitations there are; `starts`, `hours` and `mwh` by their outcomes in the cases planned.
 pub struct Tally {
@@ -28,7 +31,9 @@ pub struct Tally {
     pub mwh: [u64; 6],
 }
 
-pub fn nothing() -> Tally {
+pub fn nothing() -> Tally
+    ensures { λ r. ⌜ r ≡ counting.nothing ⌝ }
+{
     Tally {
         cases: 0,
         planned: 0,
@@ -45,7 +50,9 @@ pub fn nothing() -> Tally {
     }
 }
 
-pub fn with_case(tally: Tally, case: Case) -> Tally {
+pub fn with_case(tally: Tally, case: Case) -> Tally
+    ensures { λ r. ⌜ (r .cases ≡ counting.counted (tally .cases) true) × (r .«was_on» ≡ counting.counted (tally .«was_on») (case .«was_on»)) × (r .differences ≡ tally .differences) ⌝ }
+{
     let at = limits_in(case);
     let mut t = tally;
     t.cases = counted(t.cases, true);
@@ -80,7 +87,9 @@ fn has_negative_price(case: Case) -> bool {
     false
 }
 
-pub fn with_expected(tally: Tally, expected: Expected) -> Tally {
+pub fn with_expected(tally: Tally, expected: Expected) -> Tally
+    ensures { λ r. ⌜ (r .planned ≡ counting.counted (tally .planned) (expected .planned)) × (r .refused ≡ counting.counted (tally .refused) (not (expected .planned))) × (r .differences ≡ tally .differences) ⌝ }
+{
     let mut t = tally;
     t.planned = counted(t.planned, expected.planned);
     t.refused = counted(t.refused, !expected.planned);
@@ -120,7 +129,9 @@ fn column_of(worth: Worth) -> usize
 }
 
 // A call that differs is printed with the number of its case.
-pub fn with_agreed(tally: Tally, number: u64, agreed: Agreed) -> Tally {
+pub fn with_agreed(tally: Tally, number: u64, agreed: Agreed) -> Tally
+    ensures { λ r. ⌜ (r .differences ≡ counting.differing (tally .differences) agreed) × (r .cases ≡ tally .cases) ⌝ }
+{
     let mut t = tally;
     t.differences = differing(t.differences, number, b"plan differs on case ", agreed.plan);
     t.differences = differing(
@@ -144,7 +155,9 @@ pub fn with_agreed(tally: Tally, number: u64, agreed: Agreed) -> Tally {
     t
 }
 
-fn differing(differences: u64, number: u64, words: &[u8], agrees: bool) -> u64 {
+fn differing(differences: u64, number: u64, words: &[u8], agrees: bool) -> u64
+    ensures { λ r. ⌜ r ≡ counting.counted differences (not agrees) ⌝ }
+{
     if agrees {
         return differences;
     }

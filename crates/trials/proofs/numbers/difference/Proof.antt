@@ -2,8 +2,10 @@
 use borrow.Author.Needs.{needs}
 use native.Mathlib.Omega.{arith}
 use Prim.Native.Nat.{_-_, _<_, _^_}
-use mir.Facts.{toZ-pos}
+use lib.IntN.{pos}
+use mir.Facts.{toZ-pos, toZ-ofZ}
 use mir.Syntax.{w64}
+use Rattle.integers.proofs.Linear.{zarith, zdiff, up-pos, dn-pos}
 use Rattle.integers.proofs.Ranges.{within-at, within-diff, within-fits}
 use Rattle.trials.proofs.numbers.difference.Statement.{statement}
 use Rattle.trials.proofs.numbers.difference.Tie as tie
@@ -12,7 +14,12 @@ cast-result : tie.Need-cast-result
 cast-result c = search needs
 
 returns : tie.Need-returns
-returns c = search needs
+returns c =
+    let a = c .before .args .a in
+    let b = c .before .args .b in
+    let small : a - b < 2 ^ 63 = omega arith in
+    rw (toZ-pos w64 small)
+    (omega (zarith, zdiff (pos a) (pos b), up-pos a, dn-pos a, up-pos b, dn-pos b, up-pos (a - b), dn-pos (a - b)))
 
 sub-result : tie.Need-sub-result
 sub-result c = search needs
@@ -26,7 +33,12 @@ sub-result-2 c =
     rw (toZ-pos w64 small) (within-fits (within-diff (within-at 0) (within-at (c .before .args .b - c .before .args .a))) (omega arith))
 
 returns-2 : tie.Need-returns-2
-returns-2 c = search needs
+returns-2 c =
+    let a = c .before .args .a in
+    let b = c .before .args .b in
+    let small : b - a < 2 ^ 63 = omega arith in
+    rw (toZ-pos w64 small, toZ-ofZ (within-fits (within-diff (within-at 0) (within-at (b - a))) (omega arith)))
+    (omega (zarith, zdiff (pos 0) (pos (b - a)), zdiff (pos a) (pos b), up-pos 0, dn-pos 0, up-pos a, dn-pos a, up-pos b, dn-pos b, up-pos (b - a), dn-pos (b - a)))
 
 pub difference-spec : {M : Type 1} → statement M
 difference-spec =

@@ -1,0 +1,83 @@
+-- Each answer by the tests that led to it.
+use mathlib.Core.Path.{_≡_, sym, ap, _∙_}
+use mathlib.Core.Bool.{true}
+use Prim.Native.Nat.{_*_, _/_}
+use borrow.Author.Needs.{needs}
+use borrow.Author.Tests.{not-true, not-false}
+use Rattle.trials.specs.declared.enumerator.Cap.{Cap}
+use Rattle.trials.specs.declared.enumerator.Worth.the-variants.{Never}
+use Rattle.trials.specs.Expecting.{capOf, WorthOf}
+use Rattle.trials.proofs.enumerator.worth_of.Statement.{statement}
+use Rattle.trials.proofs.enumerator.worth_of.Tie as tie
+
+-- the limitation is there, and its nine tenths
+limited : (c : tie.Else1) → let s = c .before .before .before in capOf (s .args .case) (s .args .which) .limited ≡ true
+limited c = sym (ap (λ (x : Cap). x .limited) (c .before .before .cap-of .ensures)) ∙ not-false _ (c .if1 .left)
+
+tenths : (c : tie.After-nine-tenths) → let s = c .before .before .before .before in
+    c .nine-tenths .result ≡ capOf (s .args .case) (s .args .which) .most * 9 / 10
+tenths c = c .nine-tenths .ensures ∙ ap (λ (x : Cap). x .most * 9 / 10) (c .before .before .before .cap-of .ensures)
+
+some : (c : tie.Else2) → let s = c .before .before .before .before .before in WorthOf (capOf (s .args .case) (s .args .which)) Never
+some c = (limited (c .before .before), λ e. c .if2 .left (tenths (c .before) ∙ e))
+
+cap-of-requires : tie.Need-cap-of-requires
+cap-of-requires c κs = search needs
+
+returns : tie.Need-returns
+returns c = sym (ap (λ (x : Cap). x .limited) (c .before .before .cap-of .ensures)) ∙ not-true _ (c .if1 .taken)
+
+nine-tenths-requires : tie.Need-nine-tenths-requires
+nine-tenths-requires c κs = search needs
+
+returns-2 : tie.Need-returns-2
+returns-2 c = (limited (c .before .before), sym (tenths (c .before)) ∙ c .if2 .taken)
+
+with-figure-requires : tie.Need-with-figure-requires
+with-figure-requires c κs = search needs
+
+best-of-requires : tie.Need-best-of-requires
+best-of-requires c κs = search needs
+
+sub-with-figure : tie.Need-sub-with-figure
+sub-with-figure c = search needs
+
+with-figure-requires-2 : tie.Need-with-figure-requires-2
+with-figure-requires-2 c κs = search needs
+
+best-of-requires-2 : tie.Need-best-of-requires-2
+best-of-requires-2 c κs = search needs
+
+returns-3 : tie.Need-returns-3
+returns-3 c = some (c .before .before .before .before .before .before)
+
+add-difference : tie.Need-add-difference
+add-difference c = search needs
+
+add-difference-2 : tie.Need-add-difference-2
+add-difference-2 c = search needs
+
+difference-requires : tie.Need-difference-requires
+difference-requires c κs = search needs
+
+returns-4 : tie.Need-returns-4
+returns-4 c = some (c .before .before .before .before .before .before .before .before .before .before .before)
+
+pub worth-of-spec : {M : Type 1} → statement M
+worth-of-spec =
+    tie.close
+    (tie.spec
+    cap-of-requires
+    returns
+    nine-tenths-requires
+    returns-2
+    with-figure-requires
+    best-of-requires
+    sub-with-figure
+    with-figure-requires-2
+    best-of-requires-2
+    returns-3
+    add-difference
+    add-difference-2
+    difference-requires
+    returns-4)

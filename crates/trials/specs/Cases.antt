@@ -1,0 +1,12 @@
+-- Which kind a generated case is of: the bits of its number say which limitations there are and whether the unit was on.
+use mathlib.Core.Path.{_≡_}
+use Prim.Native.Nat.{ℕ, _/_, _%_, _≤_}
+use lib.Dec.{eqb}
+use Rattle.trials.specs.declared.enumerator.Case.{Case}
+
+pub record OfKind (number : ℕ) (case : Case) : Type 0 where
+  pub starts : case .starts .limited ≡ eqb (number % 2) 1
+  pub hours : case .hours .limited ≡ eqb (number / 2 % 2) 1
+  pub mwh : case .mwh .limited ≡ eqb (number / 4 % 2) 1
+  pub was-on : case .«was_on» ≡ eqb (number / 8 % 2) 1
+  pub intervals : case .intervals ≤ 5

@@ -1,0 +1,36 @@
+-- What the enumerator's answers say of a limitation and of a case.
+use mathlib.Core.Path.{_≡_}
+use mathlib.Core.Bool.{true, false}
+use Prim.Native.Nat.{ℕ, _*_, _/_}
+use lib.IntN.{ℤ, pos, _-ℤ_}
+use Rattle.trials.specs.declared.comparison.Expected.{Expected}
+use Rattle.trials.specs.declared.enumerator.Cap.{Cap}
+use Rattle.trials.specs.declared.enumerator.Case.{Case}
+use Rattle.trials.specs.declared.enumerator.Found.{Found}
+use Rattle.trials.specs.declared.enumerator.Which.{Which}
+use Rattle.trials.specs.declared.enumerator.Which.the-variants.{Starts, Hours, Mwh}
+use Rattle.trials.specs.declared.enumerator.Worth.{Worth}
+use Rattle.trials.specs.declared.enumerator.Worth.the-variants.{None, Empty, Never, Gap}
+
+abbrev pub capOf : Case → Which → Cap
+capOf case Starts = case .starts
+capOf case Hours = case .hours
+capOf case Mwh = case .mwh
+
+-- what is earned less what is spent
+abbrev pub profitOf : Found → ℤ
+profitOf found = pos (found .earned) -ℤ pos (found .spent)
+
+-- `none`: not limited; `empty`: nine tenths rounds to 0; else limited, and it does not
+abbrev pub WorthOf : Cap → Worth → Type 0
+WorthOf cap None = cap .limited ≡ false
+WorthOf cap Empty = (cap .limited ≡ true) × (cap .most * 9 / 10 ≡ 0)
+WorthOf cap Never = (cap .limited ≡ true) × (cap .most * 9 / 10 ≡ 0 → ⊥)
+WorthOf cap (Gap gap) = (cap .limited ≡ true) × (cap .most * 9 / 10 ≡ 0 → ⊥)
+
+-- without a plan nothing is earned and nothing is worth anything; with one, each limitation has its outcome
+pub record ExpectedOf (case : Case) (expected : Expected) : Type 0 where
+  pub refused : expected .planned ≡ false
+      → (expected .profit ≡ pos 0) × (expected .starts ≡ None) × (expected .hours ≡ None) × (expected .mwh ≡ None)
+  pub valued : expected .planned ≡ true
+      → WorthOf (case .starts) (expected .starts) × WorthOf (case .hours) (expected .hours) × WorthOf (case .mwh) (expected .mwh)
