@@ -1,12 +1,19 @@
 //! A safe wrapper over the proved static library: types, the refusals with their meaning, and the calls over slices.
 //!
 //! The calls are proved to meet their contracts for any record and any slices. What is not proved is this crate: the
-//! wrapper, the reader of long texts (`reader`), the command and the drawing.
+//! wrapper, the readers (`reader`, over `text`), what is told of a plan (`explanation`), the drawing, the page and the command.
 
+pub mod amounts;
+pub mod explanation;
 mod ffi;
+pub mod html;
 pub mod reader;
+mod refusal;
+pub mod runs;
 pub mod svg;
+pub mod text;
 
+pub use refusal::Refusal;
 use std::fmt;
 
 /// A limitation of the permit: `None` where the unit is not limited.
@@ -38,6 +45,13 @@ pub struct Unit {
     pub starts: Limit,
     pub hours: Limit,
     pub mwh: Limit,
+}
+
+/// A unit and the price of each interval, cents per MWh.
+#[derive(Clone, Debug, PartialEq, Eq)]
+pub struct Case {
+    pub unit: Unit,
+    pub prices: Vec<i64>,
 }
 
 /// The inputs of the cost figures but for the segments. Laid out as the library takes it.
@@ -89,6 +103,17 @@ pub struct Outcomes {
     pub mwh: Outcome,
 }
 
+impl fmt::Display for Outcome {
+    fn fmt(&self, f: &mut fmt::Formatter) -> fmt::Result {
+        match self {
+            Outcome::None => f.write_str("none"),
+            Outcome::Empty => f.write_str("empty"),
+            Outcome::Never => f.write_str("never"),
+            Outcome::Gap(gap) => gap.fmt(f),
+        }
+    }
+}
+
 /// A plan's length and profit, and the three outcomes.
 #[derive(Clone, Copy, Debug, PartialEq, Eq)]
 pub struct Report {
@@ -96,70 +121,6 @@ pub struct Report {
     pub profit: i64,
     pub outcomes: Outcomes,
 }
-
-/// Why a call refuses, by the specification's numbers.
-#[derive(Clone, Copy, Debug, PartialEq, Eq)]
-pub enum Refusal {
-    Form = 1,
-    Name = 2,
-    Range = 3,
-    Shape = 4,
-    Horizon = 5,
-    Segments = 6,
-    Length = 7,
-    Scratch = 8,
-    NoSchedule = 9,
-    NotKept = 10,
-}
-
-impl Refusal {
-    pub const ALL: [Refusal; 10] = [
-        Refusal::Form,
-        Refusal::Name,
-        Refusal::Range,
-        Refusal::Shape,
-        Refusal::Horizon,
-        Refusal::Segments,
-        Refusal::Length,
-        Refusal::Scratch,
-        Refusal::NoSchedule,
-        Refusal::NotKept,
-    ];
-
-    pub fn number(self) -> u64 {
-        self as u64
-    }
-
-    fn from_number(number: u64) -> Refusal {
-        *Refusal::ALL
-            .iter()
-            .find(|refusal| refusal.number() == number)
-            .expect("the library gives numbers from 1 to 10")
-    }
-
-    pub fn meaning(self) -> &'static str {
-        match self {
-            Refusal::Form => "the text is too long, or a line is not of the form",
-            Refusal::Name => "a name is unknown, repeated or missing",
-            Refusal::Range => "a value or a count of entries is outside its range",
-            Refusal::Shape => "pmin is over pmax, or pmax times block is over 500 MW",
-            Refusal::Horizon => "there are no prices, or more than 2,976",
-            Refusal::Segments => "the segments' MW do not add up",
-            Refusal::Length => "a slice is too short, or a schedule is of another length",
-            Refusal::Scratch => "the scratch is shorter than the case needs",
-            Refusal::NoSchedule => "no schedule keeps the case",
-            Refusal::NotKept => "the schedule handed in does not keep the case",
-        }
-    }
-}
-
-impl fmt::Display for Refusal {
-    fn fmt(&self, f: &mut fmt::Formatter) -> fmt::Result {
-        write!(f, "refused, {}: {}", self.number(), self.meaning())
-    }
-}
-
-impl std::error::Error for Refusal {}
 
 /// 0 is no refusal.
 fn unless_refused<T>(number: u64, answer: T) -> Result<T, Refusal> {
@@ -399,4 +360,22 @@ pub fn write_refusal(refusal: Refusal, out: &mut [u8]) -> Result<usize, Refusal>
     // Sound: as in `read_into`.
     let answer = unsafe { ffi::ralwinga_refusal(refusal.number(), out.as_mut_ptr(), out.len()) };
     unless_refused(answer.number, answer.bytes)
+}
+
+/// The listing of a plan, as the proved program prints it.
+pub fn listing(schedule: &[u64], profit: i64, outcomes: Outcomes) -> Vec<u8> {
+    // two numbers of at most 20 digits, a comma and a line end to an interval
+    let mut out = vec![0; 42 * schedule.len() + 256];
+    let bytes =
+        write_listing(schedule, profit, outcomes, &mut out).expect("the buffer holds any listing");
+    out.truncate(bytes);
+    out
+}
+
+/// The line of a refusal, as the proved program prints it.
+pub fn refusal_line(refusal: Refusal) -> Vec<u8> {
+    let mut out = vec![0; 64];
+    let bytes = write_refusal(refusal, &mut out).expect("the buffer holds any refusal");
+    out.truncate(bytes);
+    out
 }

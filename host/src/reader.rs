@@ -1,126 +1,223 @@
-//! A reader for texts longer than the proved one takes (12,288 bytes). It is not proved: tests hold it to the proved reader on shorter texts.
-//! Form and names are judged here; the ranges, the shape and the horizon are the library's to judge.
+//! What a host reads: a case of any length, the schedule of a listing, and cost inputs.
+//!
+//! A case goes through the proved reader wherever that takes its text, and only longer texts through the reader here, which tests hold to the
+//! proved one. Form and names are judged here; the ranges, the shape, the horizon and the segments are the library's to judge. Nothing here is proved.
 
-use crate::{assess, Limit, Refusal, Unit};
+use crate::text::{leading_table, two_tables, Cell, Fault, Table, Value};
+use crate::{assess, cells_needed, figures, read_into};
+use crate::{Case, CostFigures, CostInputs, Refusal, Unit};
 
-/// What a field holds that the record cannot: below 0, or `none` where it may not stand. No range reaches it.
-const BEYOND: i64 = 10_000_000_000;
+/// The longest text that the proved reader takes, and the prices that no such text outgrows.
+pub const MOST_BYTES: usize = 12_288;
+const MOST_PRICES: usize = 6_144;
+
+/// What a field holds that its record cannot: below 0, or `none` where it may not stand. No range reaches it.
+const BEYOND: u64 = 10_000_000_000;
 
 const UNIT_NAMES: [&str; 13] = [
     "block", "pmin", "pmax", "mot", "mdt", "was", "held", "vec", "mlc", "suc", "starts", "hours",
     "mwh",
 ];
 
-/// A value of the text: `None` is the word `none`.
-type Value = Option<i64>;
+const COST_NAMES: [&str; 15] = [
+    "block",
+    "pmin",
+    "pmax",
+    "gas",
+    "transport",
+    "allowance",
+    "om",
+    "gmc",
+    "rate",
+    "minheat",
+    "fuel",
+    "aux",
+    "minutes",
+    "startadder",
+    "loadadder",
+];
 
-/// The record and the prices of a text of any length, or the lowest of 1 to 5 that holds.
-pub fn read(text: &[u8]) -> Result<(Unit, Vec<i64>), Refusal> {
-    let (unit, prices) = parse(text)?;
-    // A schedule of no intervals is refused for the case's own causes first, and for its length where the case is in order.
-    match assess(unit, &prices, &[]) {
-        Err(Refusal::Length) => Ok((unit, prices)),
+/// The case of a text of any length, or the refusal with its place where it is 1, 2 or 3.
+pub fn read_case(text: &[u8]) -> Result<Case, Fault> {
+    if text.len() > MOST_BYTES {
+        return read_long_case(text);
+    }
+    read_short_case(text).map_err(|refusal| match read_long_case(text) {
+        // the number is the proved reader's; the place is told where both readers see the same cause
+        Err(fault) if fault.refusal == refusal => fault,
+        _ => refusal.into(),
+    })
+}
+
+/// The case of a text of at most `MOST_BYTES`, by the proved reader.
+fn read_short_case(text: &[u8]) -> Result<Case, Refusal> {
+    let mut prices = vec![0; MOST_PRICES];
+    let (unit, count) = read_into(text, &mut prices)?;
+    prices.truncate(count);
+    Ok(Case { unit, prices })
+}
+
+/// The case of a text of any length, by the reader here.
+pub fn read_long_case(text: &[u8]) -> Result<Case, Fault> {
+    let (unit_table, price_table) = two_tables(text, "price")?;
+    let unit_rows = unit_table.rows(UNIT_NAMES)?;
+    let price_rows = price_table.rows(["price"])?;
+    let unit = unit_of(unit_rows[0].map(|cell| cell.value));
+    let prices: Vec<i64> = price_rows.iter().map(|[cell]| price(cell.value)).collect();
+    match judge(unit, &prices) {
+        Ok(()) => Ok(Case { unit, prices }),
+        Err(Refusal::Range) => Err(out_of_case(&unit_rows, &price_rows)),
+        Err(refusal) => Err(refusal.into()),
+    }
+}
+
+/// 3, 4 or 5 of a case, by the library: a schedule of no interval is refused for the case's own causes first, and for its length where the case is
+/// in order.
+fn judge(unit: Unit, prices: &[i64]) -> Result<(), Refusal> {
+    match assess(unit, prices, &[]) {
+        Err(Refusal::Length) => Ok(()),
         Err(refusal) => Err(refusal),
         Ok(_) => unreachable!("a case has prices, and this schedule has no interval"),
     }
 }
 
-fn parse(text: &[u8]) -> Result<(Unit, Vec<i64>), Refusal> {
-    let lines = lines(text)?;
-    let [unit_head, unit_row, gap, price_head, price_rows @ ..] = lines.as_slice() else {
-        return Err(Refusal::Form);
-    };
-    if !gap.is_empty() {
-        return Err(Refusal::Form);
-    }
-    let unit_names = names(unit_head)?;
-    let unit_values = values(unit_row, unit_names.len())?;
-    let price_names = names(price_head)?;
-    let mut prices = Vec::with_capacity(price_rows.len());
-    for row in price_rows {
-        prices.push(values(row, price_names.len())?[0].unwrap_or(BEYOND));
-    }
-    let each_once = UNIT_NAMES
-        .iter()
-        .all(|name| unit_names.iter().filter(|field| *field == name).count() == 1);
-    if !each_once || unit_names.len() != UNIT_NAMES.len() || price_names != ["price"] {
-        return Err(Refusal::Name);
-    }
-    Ok((unit_of(&unit_names, &unit_values), prices))
-}
-
-/// A line end closes each line, the last too.
-fn lines(text: &[u8]) -> Result<Vec<&[u8]>, Refusal> {
-    let closed = text.strip_suffix(b"\n").ok_or(Refusal::Form)?;
-    Ok(closed.split(|byte| *byte == b'\n').collect())
-}
-
-fn names(line: &[u8]) -> Result<Vec<&str>, Refusal> {
-    line.split(|byte| *byte == b',')
-        .map(|field| match std::str::from_utf8(field) {
-            Ok(name) if !name.is_empty() && name.bytes().all(|b| b.is_ascii_lowercase()) => {
-                Ok(name)
+/// The outputs of a listing in MW, from its first table. What is no output of the unit is left to the library, which gives 10.
+pub fn read_schedule(text: &[u8]) -> Result<Vec<u64>, Fault> {
+    let rows = leading_table(text)?.rows(["interval", "mw"])?;
+    rows.into_iter()
+        .zip(1..)
+        .map(|([interval, mw], place)| match interval.value {
+            Some(number) if number == place => Ok(natural(mw.value)),
+            _ => {
+                let said = format!("{} stands where interval {place} belongs", interval.field);
+                Err(Fault::at(Refusal::Range, interval.field, said))
             }
-            _ => Err(Refusal::Form),
         })
         .collect()
 }
 
-fn values(line: &[u8], count: usize) -> Result<Vec<Value>, Refusal> {
-    let values: Vec<Value> = line
-        .split(|byte| *byte == b',')
-        .map(value)
-        .collect::<Result<_, _>>()?;
-    if values.len() != count {
-        return Err(Refusal::Form);
-    }
-    Ok(values)
+/// The cost figures of a text of inputs.
+pub fn read_figures(text: &[u8]) -> Result<CostFigures, Fault> {
+    let (input_table, segment_table) = two_tables(text, "mw,heat")?;
+    let input_rows = input_table.rows(COST_NAMES)?;
+    let segments = segment_table.rows(["mw", "heat"])?;
+    let mws: Vec<u64> = segments.iter().map(|[mw, _]| natural(mw.value)).collect();
+    let heats: Vec<u64> = segments.iter().map(|[_, h]| natural(h.value)).collect();
+    let inputs = inputs_of(input_rows[0].map(|cell| cell.value));
+    figures(inputs, &mws, &heats).map_err(|refusal| match refusal {
+        Refusal::Range => out_of_inputs(&input_rows, &segment_table, &segments),
+        _ => refusal.into(),
+    })
 }
 
-/// `none`, or 1 to 10 digits without needless leading zeros, a minus allowed except on 0.
-fn value(field: &[u8]) -> Result<Value, Refusal> {
-    if field == b"none" {
-        return Ok(None);
-    }
-    let (negative, digits) = match field {
-        [b'-', rest @ ..] => (true, rest),
-        _ => (false, field),
+/// The first value of a case that is outside its range.
+fn out_of_case(unit_rows: &[[Cell; 13]], price_rows: &[[Cell; 1]]) -> Fault {
+    let unit = unit_of(in_order());
+    first_out(UNIT_NAMES, unit_rows, |values| {
+        cells_needed(unit_of(values), 1).err()
+    })
+    .or_else(|| {
+        first_out(["price"], price_rows, |[value]| {
+            judge(unit, &[price(value)]).err()
+        })
+    })
+    .unwrap_or(Refusal::Range.into())
+}
+
+/// The first value of cost inputs that is outside its range, or else the number of segments.
+fn out_of_inputs(input_rows: &[[Cell; 15]], table: &Table, segments: &[[Cell; 2]]) -> Fault {
+    let inputs = inputs_of(in_order());
+    first_out(COST_NAMES, input_rows, |values| {
+        figures(inputs_of(values), &[], &[]).err()
+    })
+    .or_else(|| {
+        first_out(["mw", "heat"], segments, |[mw, heat]| {
+            figures(inputs, &[natural(mw)], &[natural(heat)]).err()
+        })
+    })
+    .unwrap_or_else(|| {
+        let said = format!("{} segments, more than there may be", segments.len());
+        Fault::in_line(Refusal::Range, table.line(), said)
+    })
+}
+
+/// The first cell that is outside its range when it alone takes its place among values in order. The library is asked, so that the ranges stand
+/// there alone.
+fn first_out<const N: usize>(
+    names: [&str; N],
+    rows: &[[Cell; N]],
+    asked: impl Fn([Value; N]) -> Option<Refusal>,
+) -> Option<Fault> {
+    let is_out = |row: &[Cell; N], place: usize| {
+        let mut values = in_order();
+        values[place] = row[place].value;
+        asked(values) == Some(Refusal::Range)
     };
-    let leads = match digits {
-        [] => false,
-        [b'0'] => !negative,
-        [first, ..] => *first != b'0',
-    };
-    if !leads || digits.len() > 10 || !digits.iter().all(u8::is_ascii_digit) {
-        return Err(Refusal::Form);
-    }
-    let number = digits
+    let (row, place) = rows
         .iter()
-        .fold(0, |number, digit| number * 10 + i64::from(digit - b'0'));
-    Ok(Some(if negative { -number } else { number }))
+        .flat_map(|row| (0..N).map(move |place| (row, place)))
+        .find(|(row, place)| is_out(row, *place))?;
+    let field = row[place].field;
+    let said = format!("{} {field} is outside its range", names[place]);
+    Some(Fault::at(Refusal::Range, field, said))
 }
 
-fn unit_of(names: &[&str], values: &[Value]) -> Unit {
-    let under = |name: &str| {
-        let place = names.iter().position(|field| *field == name);
-        values[place.expect("each name stands once")]
-    };
-    let natural = |number: i64| u64::try_from(number).unwrap_or(BEYOND as u64);
-    let whole = |name: &str| natural(under(name).unwrap_or(BEYOND));
-    let limit = |name: &str| -> Limit { under(name).map(natural) };
+/// Values that are in order: 1 is in every range.
+const fn in_order<const N: usize>() -> [Value; N] {
+    [Some(1); N]
+}
+
+/// A number of a record that has none below 0.
+fn natural(value: Value) -> u64 {
+    value
+        .and_then(|number| u64::try_from(number).ok())
+        .unwrap_or(BEYOND)
+}
+
+fn price(value: Value) -> i64 {
+    value.unwrap_or(BEYOND as i64)
+}
+
+/// The record of the values under `UNIT_NAMES`.
+fn unit_of(values: [Value; 13]) -> Unit {
+    let limit = |value: Value| value.map(|number| natural(Some(number)));
+    let [block, pmin, pmax, mot, mdt, was, held, vec, mlc, suc, starts, hours, mwh] = values;
     Unit {
-        block: whole("block"),
-        pmin: whole("pmin"),
-        pmax: whole("pmax"),
-        mot: whole("mot"),
-        mdt: whole("mdt"),
-        was: whole("was"),
-        held: whole("held"),
-        vec: whole("vec"),
-        mlc: whole("mlc"),
-        suc: whole("suc"),
-        starts: limit("starts"),
-        hours: limit("hours"),
-        mwh: limit("mwh"),
+        block: natural(block),
+        pmin: natural(pmin),
+        pmax: natural(pmax),
+        mot: natural(mot),
+        mdt: natural(mdt),
+        was: natural(was),
+        held: natural(held),
+        vec: natural(vec),
+        mlc: natural(mlc),
+        suc: natural(suc),
+        starts: limit(starts),
+        hours: limit(hours),
+        mwh: limit(mwh),
+    }
+}
+
+/// The inputs of the values under `COST_NAMES`.
+fn inputs_of(values: [Value; 15]) -> CostInputs {
+    let [block, pmin, pmax, gas, transport, allowance, om, gmc, rate, min_heat, fuel, aux, minutes, start_adder, load_adder] =
+        values.map(natural);
+    CostInputs {
+        block,
+        pmin,
+        pmax,
+        gas,
+        transport,
+        allowance,
+        om,
+        gmc,
+        rate,
+        min_heat,
+        fuel,
+        aux,
+        minutes,
+        start_adder,
+        load_adder,
     }
 }

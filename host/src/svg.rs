@@ -1,5 +1,8 @@
-//! A drawing of prices and output over the intervals, for a person to look at.
+//! A drawing of prices and output over the intervals, for a person to look at. A run tells its times and earnings where the pointer is on it.
 
+use crate::amounts::{beginning, dollars, ending, quarters, time_of_day, PER_DAY};
+use crate::explanation::Explanation;
+use crate::runs::Run;
 use std::fmt::Write;
 
 const WIDTH: f64 = 1400.0;
@@ -9,8 +12,16 @@ const PRICE_TOP: f64 = 60.0;
 const PRICE_HEIGHT: f64 = 240.0;
 const OUTPUT_TOP: f64 = 350.0;
 const OUTPUT_HEIGHT: f64 = 140.0;
+const BOTTOM: f64 = OUTPUT_TOP + OUTPUT_HEIGHT;
 const HEIGHT: f64 = 540.0;
-const PER_DAY: usize = 96;
+const TIP_WIDTH: f64 = 380.0;
+const TIP_HEIGHT: f64 = 66.0;
+
+/// So that a run's tip shows where the pointer or the keyboard is on the run.
+const STYLE: &str = "<style>.run rect.reach{fill:#e08a2e;fill-opacity:0}\
+.run:hover rect.reach,.run:focus rect.reach{fill-opacity:0.15}\
+.run .tip{visibility:hidden;pointer-events:none}\
+.run:hover .tip,.run:focus .tip{visibility:visible}</style>";
 
 /// A panel: values from `low` at the bottom to `high` at the top.
 struct Panel {
@@ -24,139 +35,206 @@ impl Panel {
     fn y(&self, value: f64) -> f64 {
         self.top + self.height * (self.high - value) / (self.high - self.low)
     }
+
+    fn of_prices(prices: &[i64]) -> Panel {
+        let low = prices.iter().copied().min().unwrap_or(0).min(0);
+        let high = prices.iter().copied().max().unwrap_or(0).max(low + 100);
+        Panel {
+            top: PRICE_TOP,
+            height: PRICE_HEIGHT,
+            low: in_dollars(low),
+            high: in_dollars(high),
+        }
+    }
+
+    fn of_outputs(schedule: &[u64]) -> Panel {
+        let most = schedule.iter().copied().max().unwrap_or(0).max(1);
+        Panel {
+            top: OUTPUT_TOP,
+            height: OUTPUT_HEIGHT,
+            low: 0.0,
+            high: most as f64,
+        }
+    }
 }
 
-/// Dollars of quarter-cents.
-fn dollars(quarter_cents: i64) -> String {
-    let sign = if quarter_cents < 0 { "-" } else { "" };
-    let cents = (quarter_cents.unsigned_abs() + 2) / 4;
-    format!("{sign}${}.{:02}", cents / 100, cents % 100)
+fn in_dollars(cents: i64) -> f64 {
+    cents as f64 / 100.0
 }
 
-/// Prices above, output in MW below, a line for each day.
-pub fn draw(prices: &[i64], schedule: &[u64], profit: i64) -> String {
-    let n = prices.len();
-    let step = (WIDTH - LEFT - RIGHT) / n.max(1) as f64;
-    let x = |i: usize| LEFT + step * i as f64;
-    let in_dollars = |price: i64| price as f64 / 100.0;
-    let low = prices.iter().copied().min().unwrap_or(0).min(0);
-    let high = prices.iter().copied().max().unwrap_or(0).max(low + 100);
-    let price_panel = Panel {
-        top: PRICE_TOP,
-        height: PRICE_HEIGHT,
-        low: in_dollars(low),
-        high: in_dollars(high),
+/// Where intervals stand across the drawing.
+struct Across {
+    intervals: usize,
+}
+
+impl Across {
+    fn x(&self, place: usize) -> f64 {
+        LEFT + (WIDTH - LEFT - RIGHT) * place as f64 / self.intervals.max(1) as f64
+    }
+
+    /// The corners of a line that stays level through each interval.
+    fn steps(&self, levels: impl Iterator<Item = f64>) -> String {
+        let mut line = String::new();
+        for (i, y) in levels.enumerate() {
+            let _ = write!(line, "{:.1},{y:.1} {:.1},{y:.1} ", self.x(i), self.x(i + 1));
+        }
+        line.trim_end().to_string()
+    }
+}
+
+/// Prices above, output in MW below, a line where each day begins (or some hours of a day), and the runs.
+pub fn draw(prices: &[i64], schedule: &[u64], told: &Explanation) -> String {
+    let across = Across {
+        intervals: prices.len(),
     };
-    let most = schedule.iter().copied().max().unwrap_or(0).max(1);
-    let output_panel = Panel {
-        top: OUTPUT_TOP,
-        height: OUTPUT_HEIGHT,
-        low: 0.0,
-        high: most as f64,
-    };
+    let (price_panel, output_panel) = (Panel::of_prices(prices), Panel::of_outputs(schedule));
     let mut out = String::new();
-    heading(&mut out, n, schedule, profit);
-    days(&mut out, n, &x);
+    heading(&mut out, told);
+    times(&mut out, &across);
     axis(&mut out, &price_panel, "$/MWh");
     axis(&mut out, &output_panel, "MW");
-    let levels: Vec<f64> = prices
-        .iter()
-        .map(|p| price_panel.y(in_dollars(*p)))
-        .collect();
-    let line = steps(&levels, &x);
+    let line = across.steps(prices.iter().map(|p| price_panel.y(in_dollars(*p))));
     let _ = writeln!(
         out,
         r##"<path d="M{line}" fill="none" stroke="#1f5fa8" stroke-width="1"/>"##
     );
-    let levels: Vec<f64> = schedule
-        .iter()
-        .map(|mw| output_panel.y(*mw as f64))
-        .collect();
     let base = output_panel.y(0.0);
-    let line = steps(&levels, &x);
+    let line = across.steps(schedule.iter().map(|mw| output_panel.y(*mw as f64)));
     let _ = writeln!(
         out,
         r##"<path d="M{LEFT:.1},{base:.1} L{line} L{:.1},{base:.1} Z" fill="#e08a2e" fill-opacity="0.75" stroke="#a85f14" stroke-width="0.6"/>"##,
-        x(schedule.len())
+        across.x(schedule.len())
     );
+    for (run, number) in told.runs.iter().zip(1..) {
+        reach(&mut out, &across, run, number);
+    }
     out.push_str("</svg>\n");
     out
 }
 
-fn heading(out: &mut String, n: usize, schedule: &[u64], profit: i64) {
-    let on = schedule.iter().filter(|mw| **mw > 0).count();
-    let quarter_mwh: u64 = schedule.iter().sum();
+fn heading(out: &mut String, told: &Explanation) {
+    let [_, hours, mwh] = told.usages;
     let _ = writeln!(
         out,
         r##"<svg xmlns="http://www.w3.org/2000/svg" width="{WIDTH}" height="{HEIGHT}" viewBox="0 0 {WIDTH} {HEIGHT}" font-family="sans-serif" font-size="12">
+{STYLE}
 <rect width="{WIDTH}" height="{HEIGHT}" fill="white"/>
-<text x="{LEFT}" y="28" font-size="17">Plan of {n} quarter-hours: profit {}, {} run-hours, {} MWh</text>"##,
-        dollars(profit),
-        quarters(on as u64),
-        quarters(quarter_mwh),
+<text x="{LEFT}" y="28" font-size="17">Plan of {} quarter-hours: profit {}, {} run-hours, {} MWh</text>"##,
+        told.intervals,
+        dollars(told.profit),
+        quarters(hours.used),
+        quarters(mwh.used),
     );
 }
 
-/// A number of quarters as a decimal.
-fn quarters(count: u64) -> String {
-    match count % 4 {
-        0 => format!("{}", count / 4),
-        1 => format!("{}.25", count / 4),
-        2 => format!("{}.5", count / 4),
-        _ => format!("{}.75", count / 4),
+/// The least width at which a run can be pointed at.
+const LEAST_REACH: f64 = 4.0;
+
+/// The stretch of the drawing that is a run's, and its tip.
+fn reach(out: &mut String, across: &Across, run: &Run, number: usize) {
+    let (from, to) = (across.x(run.first()), across.x(run.last() + 1));
+    let (middle, width) = ((from + to) / 2.0, (to - from).max(LEAST_REACH));
+    let x = (middle - TIP_WIDTH / 2.0).clamp(LEFT, WIDTH - RIGHT - TIP_WIDTH);
+    let _ = writeln!(
+        out,
+        r##"<g class="run" tabindex="0"><rect class="reach" x="{:.1}" y="{PRICE_TOP}" width="{width:.1}" height="{:.1}"/>
+<g class="tip"><rect x="{x:.1}" y="{PRICE_TOP}" width="{TIP_WIDTH}" height="{TIP_HEIGHT}" rx="4" fill="white" stroke="#a85f14"/>"##,
+        middle - width / 2.0,
+        BOTTOM - PRICE_TOP
+    );
+    for (said, row) in tip_lines(run, number).iter().zip(1u8..) {
+        let (x, y) = (x + 10.0, PRICE_TOP + 19.0 * f64::from(row));
+        let _ = writeln!(out, r##"<text x="{x:.1}" y="{y:.1}">{said}</text>"##);
     }
+    out.push_str("</g></g>\n");
 }
 
-/// A line where each day begins, and every so many days its number.
-fn days(out: &mut String, n: usize, x: &dyn Fn(usize) -> f64) {
-    let count = n.div_ceil(PER_DAY);
-    let every = count.div_ceil(16).max(1);
-    let bottom = OUTPUT_TOP + OUTPUT_HEIGHT;
-    for day in 0..count {
-        let at = x(day * PER_DAY);
+/// What a run's tip says.
+fn tip_lines(run: &Run, number: usize) -> [String; 3] {
+    let start = match run.start {
+        Some(cost) => format!("start {}", dollars(cost)),
+        None => "on before".to_string(),
+    };
+    [
+        format!(
+            "run {number}: {} to {}",
+            beginning(run.first()),
+            ending(run.last())
+        ),
+        format!(
+            "{} MW, {} hours, {} MWh",
+            run.mw(),
+            quarters(run.length()),
+            quarters(run.output())
+        ),
+        format!(
+            "earns {}, {start}, in all {}",
+            dollars(run.earned()),
+            dollars(run.earned() - run.start_cost())
+        ),
+    ]
+}
+
+/// The steps between marks, in quarter-hours: hours of a day, then days.
+const STEPS: [usize; 8] = [4, 8, 12, 24, 48, PER_DAY, 2 * PER_DAY, 4 * PER_DAY];
+const MOST_MARKS: usize = 16;
+
+/// A line where each day begins, or each few hours of a short case, with the time or the day.
+fn times(out: &mut String, across: &Across) {
+    let fits = |step: &usize| across.intervals.div_ceil(*step) <= MOST_MARKS;
+    let step = STEPS.into_iter().find(fits).unwrap_or(8 * PER_DAY);
+    for place in (0..across.intervals).step_by(step.min(PER_DAY)) {
+        let at = across.x(place);
         let _ = writeln!(
             out,
-            r##"<line x1="{at:.1}" y1="{PRICE_TOP}" x2="{at:.1}" y2="{bottom}" stroke="#dddddd"/>"##
+            r##"<line x1="{at:.1}" y1="{PRICE_TOP}" x2="{at:.1}" y2="{BOTTOM}" stroke="#dddddd"/>"##
         );
-        if day % every == 0 {
+        if place % step == 0 {
+            let said = match place % PER_DAY {
+                0 => format!("day {}", place / PER_DAY + 1),
+                quarters => time_of_day(quarters),
+            };
             let _ = writeln!(
                 out,
-                r##"<text x="{:.1}" y="{}" fill="#444444">day {}</text>"##,
+                r##"<text x="{:.1}" y="{}" fill="#444444">{said}</text>"##,
                 at + 3.0,
-                bottom + 18.0,
-                day + 1
+                BOTTOM + 18.0,
             );
         }
     }
 }
 
-/// Four values at the left of a panel with lines across, and its unit.
+/// About so many values stand beside a panel.
+const LEVELS: f64 = 5.0;
+
+/// The round numbers from the bottom of a panel to its top.
+fn levels(panel: &Panel) -> impl Iterator<Item = f64> {
+    let least = (panel.high - panel.low) / LEVELS;
+    let power = 10f64.powf(least.log10().floor());
+    let step = [1.0, 2.0, 5.0, 10.0]
+        .map(|round| round * power)
+        .into_iter()
+        .find(|step| *step >= least)
+        .unwrap_or(least);
+    let (first, last) = ((panel.low / step).ceil(), (panel.high / step).floor());
+    (first as i64..=last as i64).map(move |level| level as f64 * step)
+}
+
+/// Round values at the left of a panel with lines across, and its unit.
 fn axis(out: &mut String, panel: &Panel, unit: &str) {
-    let right = WIDTH - RIGHT;
-    for part in 0..=3 {
-        let value = panel.low + (panel.high - panel.low) * f64::from(part) / 3.0;
+    let (left, right) = (LEFT - 8.0, WIDTH - RIGHT);
+    for value in levels(panel) {
         let y = panel.y(value);
         let _ = writeln!(
             out,
             r##"<line x1="{LEFT}" y1="{y:.1}" x2="{right}" y2="{y:.1}" stroke="#cccccc"/>
-<text x="{:.1}" y="{:.1}" text-anchor="end">{value:.0}</text>"##,
-            LEFT - 8.0,
+<text x="{left:.1}" y="{:.1}" text-anchor="end">{value}</text>"##,
             y + 4.0
         );
     }
     let _ = writeln!(
         out,
-        r##"<text x="{:.1}" y="{:.1}" text-anchor="end" fill="#444444">{unit}</text>"##,
-        LEFT - 8.0,
+        r##"<text x="{left:.1}" y="{:.1}" text-anchor="end" fill="#444444">{unit}</text>"##,
         panel.top - 14.0
     );
-}
-
-/// The corners of a line that stays level through each interval.
-fn steps(levels: &[f64], x: &dyn Fn(usize) -> f64) -> String {
-    let mut line = String::new();
-    for (i, y) in levels.iter().enumerate() {
-        let _ = write!(line, "{:.1},{y:.1} {:.1},{y:.1} ", x(i), x(i + 1));
-    }
-    line.trim_end().to_string()
 }

@@ -2,8 +2,11 @@
 
 mod support;
 
-use ralwinga::{assess, cells_needed, plan_into, report_into, value, Report, Unit};
-use support::{damage, long_case, paper, recursion, small_case, Lent, Random};
+use ralwinga::{assess, cells_needed, plan_into, report_into, value, Case, Report, Unit};
+use support::{
+    any_case, any_schedule, damage, each_came_up, long_case, paper, recursion, small_case,
+};
+use support::{Lent, Random};
 
 const CASES: usize = 100_000;
 const LONG_CASES: usize = 600;
@@ -27,16 +30,6 @@ fn judge_lent(
         return Err(8);
     }
     Ok(())
-}
-
-fn reported(u: &Unit, prices: &[i64]) -> Result<(Report, Vec<u64>), u64> {
-    let (profit, plan) = paper::best(u, prices).ok_or(9u64)?;
-    let report = Report {
-        count: plan.len(),
-        profit: profit as i64,
-        outcomes: paper::outcomes(u, prices),
-    };
-    Ok((report, plan))
 }
 
 /// Scratch and schedule of lengths about what is needed, with numbers in them.
@@ -71,7 +64,7 @@ fn cleared(scratch: &[i64], needed: usize) -> Vec<i64> {
 fn try_case(random: &mut Random, u: Unit, prices: &[i64], seen: &mut [usize; 11]) {
     let (scratch, schedule) = slices(random, &u, prices);
     let lent = judge_lent(&u, prices, scratch.len(), Some(schedule.len()));
-    let expected = lent.and_then(|()| reported(&u, prices));
+    let expected = lent.and_then(|()| paper::reported(&u, prices));
     seen[expected.as_ref().err().map_or(0, |n| *n as usize)] += 1;
     let scratch_after = match lent {
         Ok(()) => cleared(&scratch, paper::cells(&u, prices.len())),
@@ -103,7 +96,7 @@ fn try_case(random: &mut Random, u: Unit, prices: &[i64], seen: &mut [usize; 11]
 
     let lent = judge_lent(&u, prices, scratch.len(), None);
     let outcomes = lent
-        .and_then(|()| reported(&u, prices))
+        .and_then(|()| paper::reported(&u, prices))
         .map(|(report, _)| report.outcomes);
     let scratch_after = match lent {
         Ok(()) => cleared(&scratch, paper::cells(&u, prices.len())),
@@ -123,20 +116,10 @@ fn planning_and_valuing() {
     let mut random = Random::new(1);
     let mut seen = [0; 11];
     for _ in 0..CASES {
-        let (mut unit, mut prices) = small_case(&mut random);
-        if random.one_in(4) {
-            damage(&mut random, &mut unit, &mut prices);
-        }
+        let Case { unit, prices } = any_case(&mut random);
         try_case(&mut random, unit, &prices, &mut seen);
     }
-    println!("answers by number, 0 a plan: {seen:?}");
-    for number in [0, 3, 4, 5, 7, 8, 9] {
-        assert!(
-            seen[number] > 20,
-            "number {number} came {} times",
-            seen[number]
-        );
-    }
+    each_came_up(&seen, &[0, 3, 4, 5, 7, 8, 9]);
 }
 
 /// Cases too long to try every list, whose rows are longer than their outputs are many.
@@ -177,24 +160,6 @@ fn longer_cases() {
     );
 }
 
-/// A schedule near what the unit can do, or anything.
-fn any_schedule(random: &mut Random, u: &Unit, n: usize) -> Vec<u64> {
-    let n = match random.below(12) {
-        0 => n + 1,
-        1 => n.saturating_sub(1),
-        _ => n,
-    };
-    let anything = random.one_in(6);
-    let off = random.below(3);
-    (0..n)
-        .map(|_| match (anything, random.below(3) < off) {
-            (true, _) => random.from(&[0, 1, 7, 10, 20, 500, u64::MAX]),
-            (false, true) => 0,
-            (false, false) => u.block.wrapping_mul(u.pmin.wrapping_add(random.below(3))),
-        })
-        .collect()
-}
-
 #[test]
 fn handing_in() {
     let mut random = Random::new(2);
@@ -205,36 +170,18 @@ fn handing_in() {
             damage(&mut random, &mut unit, &mut prices);
         }
         let schedule = any_schedule(&mut random, &unit, prices.len());
-        let expected = paper::judge_case(&unit, &prices).and_then(|()| {
-            if schedule.len() != prices.len() {
-                return Err(7);
-            }
-            if !paper::keeps(&unit, &schedule) {
-                return Err(10);
-            }
-            Ok(paper::profit(&unit, &prices, &schedule) as i64)
-        });
+        let expected = paper::assessed(&unit, &prices, &schedule);
         seen[expected.err().map_or(0, |n| n as usize)] += 1;
         assert_eq!(number(assess(unit, &prices, &schedule)), expected);
     }
-    println!("answers by number, 0 a profit: {seen:?}");
-    for number in [0, 3, 4, 5, 7, 10] {
-        assert!(
-            seen[number] > 20,
-            "number {number} came {} times",
-            seen[number]
-        );
-    }
+    each_came_up(&seen, &[0, 3, 4, 5, 7, 10]);
 }
 
 #[test]
 fn cells() {
     let mut random = Random::new(3);
     for _ in 0..CASES {
-        let (mut unit, mut prices) = small_case(&mut random);
-        if random.one_in(4) {
-            damage(&mut random, &mut unit, &mut prices);
-        }
+        let Case { unit, prices } = any_case(&mut random);
         // the prices' own ranges are not asked here
         let zeros = vec![0; prices.len()];
         let expected = paper::judge_case(&unit, &zeros).map(|()| paper::cells(&unit, zeros.len()));

@@ -1,54 +1,37 @@
-//! The command beside the proved program, byte for byte, and its own lines and exits.
+//! The command on one case: beside the proved program, byte for byte, and its own lines and exits.
 
 mod support;
 
-use std::path::{Path, PathBuf};
-use std::process::{Command, Output};
-use support::{damage, damage_text, run_on, small_case, text_of, Random};
+use std::process::{Command, Output, Stdio};
+use support::{answer_on, any_case, damage_text, month, paper, proved_program, ralwinga};
+use support::{run_on, run_unread, text_of, Folder, Random, C1};
 
 const CASES: usize = 500;
-
-fn command() -> Command {
-    Command::new(env!("CARGO_BIN_EXE_ralwinga"))
-}
-
-/// The proved program, which `rt check plan` builds.
-fn proved_program() -> PathBuf {
-    let path = Path::new(env!("CARGO_MANIFEST_DIR")).join("../target/bin/plan");
-    assert!(
-        path.exists(),
-        "{} is missing: run `rt check plan` first",
-        path.display()
-    );
-    path
-}
 
 #[test]
 fn the_listing_is_the_proved_programs() {
     let mut random = Random::new(9);
     let mut refused = 0;
     for _ in 0..CASES {
-        let (mut unit, mut prices) = small_case(&mut random);
-        if random.one_in(4) {
-            damage(&mut random, &mut unit, &mut prices);
-        }
-        let mut text = text_of(&mut random, &unit, &prices).into_bytes();
-        if random.one_in(4) {
+        let case = any_case(&mut random);
+        let mut text = text_of(&mut random, &case.unit, &case.prices).into_bytes();
+        let damaged = random.one_in(4);
+        if damaged {
             damage_text(&mut random, &mut text);
         }
         if text.len() > 12_288 {
             continue;
         }
-        let expected = run_on(Command::new(proved_program()), &text);
-        let mut ours = command();
-        ours.args(["--cells", "4000", "-"]);
-        let answer = run_on(ours, &text);
-        assert_eq!(
-            answer.stdout,
-            expected.stdout,
-            "{}",
-            String::from_utf8_lossy(&text)
-        );
+        let expected = run_on(proved_program(), &text);
+        let answer = answer_on(&["--cells", "4000", "-"], &text);
+        let shown = String::from_utf8_lossy(&text);
+        assert_eq!(answer.stdout, expected.stdout, "{shown}");
+        assert_eq!(answer_on(&["plan", "--cells", "4000", "-"], &text), answer);
+        if !damaged {
+            let by_enumeration =
+                paper::printed(&paper::answer_to_text(&case.unit, &case.prices, 4000));
+            assert_eq!(answer.stdout, by_enumeration.as_bytes(), "{shown}");
+        }
         let is_refusal = expected.stdout.starts_with(b"refused,");
         refused += is_refusal as usize;
         assert_eq!(answer.status.code(), Some(is_refusal as i32));
@@ -62,78 +45,165 @@ fn stops(answer: &Output, status: i32, stdout: &str, said: &str) {
     assert_eq!(String::from_utf8_lossy(&answer.stdout), stdout);
     let line = String::from_utf8_lossy(&answer.stderr);
     assert_eq!(line.lines().count(), 1, "{line}");
-    assert!(line.contains(said), "{line}");
-}
-
-#[test]
-fn bad_arguments_and_files() {
-    for arguments in [
-        vec![],
-        vec!["--unknown", "case"],
-        vec!["--cells"],
-        vec!["--cells", "many", "case"],
-        vec!["--svg"],
-        vec!["one", "two"],
-        vec!["one", "-"],
-    ] {
-        let answer = command().args(&arguments).output().expect("runs");
-        stops(&answer, 2, "", "usage: ralwinga");
-    }
-    let answer = command().arg("no such file").output().expect("runs");
-    stops(&answer, 1, "", "cannot read no such file");
-    let mut ours = command();
-    ours.arg("-");
-    stops(
-        &run_on(ours, b"\xff\x00"),
-        1,
-        "refused,1\n",
-        "refused, 1: the text",
+    assert!(
+        line.starts_with("ralwinga: ") && line.contains(said),
+        "{line}"
     );
 }
 
-const C1: &str = "block,pmin,pmax,mot,mdt,was,held,vec,mlc,suc,starts,hours,mwh\n\
-                  10,1,2,2,2,0,2,3000,30000,5000,2,2,none\n\
-                  \n\
-                  price\n2000\n9000\n8000\n1000\n7000\n10000\n";
+/// Words, and what is said of them.
+#[rustfmt::skip]
+const BAD_ARGUMENTS: [(&[&str], &str); 14] = [
+    (&[], "<CASE>...; usage: ralwinga <CASE>..."),
+    (&["--unknown", "case"], "'--unknown'"),
+    (&["--cells"], "usage: ralwinga "),
+    (&["--cells", "many", "case"], "'many'"),
+    (&["--svg"], "usage: ralwinga "),
+    (&["plan"], "usage: ralwinga plan "),
+    (&["plan", "--jobs", "0", "case"], "'0'"),
+    (&["assess", "case"], "usage: ralwinga assess <CASE> <LISTING>"),
+    (&["assess", "-", "-"], "cannot both be standard input"),
+    (&["costs", "one", "two"], "'two'"),
+    (&["explain"], "usage: ralwinga explain "),
+    (&["completion", "no-shell"], "'no-shell'"),
+    (&["one", "two", "--svg", "drawing"], "--svg and --html are for one case"),
+    (&["one", "--out", "folder", "--html", "page"], "--svg and --html are for one case"),
+];
+
+#[test]
+fn bad_arguments() {
+    for (words, said) in BAD_ARGUMENTS {
+        let answer = ralwinga(words).output().expect("runs");
+        stops(&answer, 2, "", said);
+    }
+}
+
+#[test]
+fn bad_files() {
+    for words in [
+        &["no such file"][..],
+        &["costs", "no such file"],
+        &["explain", "no such file"],
+        &["assess", "/dev/null", "no such file"],
+    ] {
+        let answer = ralwinga(words).output().expect("runs");
+        stops(&answer, 1, "", "cannot read no such file: ");
+    }
+}
+
+#[test]
+fn refusals_and_drawings_that_fail() {
+    stops(
+        &answer_on(&["-"], b"\xff\x00"),
+        1,
+        "refused,1\n",
+        "(refused, 1: the text",
+    );
+    let answer = answer_on(&["-"], C1.replacen("mot", "mob", 1).as_bytes());
+    let said = "standard input: line 1, column 17: 'mob' is unknown";
+    stops(&answer, 1, "refused,2\n", said);
+    let drawing = "/no/such/folder/drawing";
+    let answer = answer_on(&["-", "--svg", drawing], C1.as_bytes());
+    assert_eq!(answer.status.code(), Some(1));
+    assert!(answer.stdout.starts_with(b"interval,mw\n"));
+    let said = String::from_utf8_lossy(&answer.stderr);
+    assert!(
+        said.contains(&format!("cannot write {drawing}: ")),
+        "{said}"
+    );
+}
+
+#[rustfmt::skip]
+const HELP: [(&[&str], &str); 7] = [
+    (&["--help"], "What is proved: "),
+    (&["-h"], "Usage: ralwinga [OPTIONS] <CASE>..."),
+    (&["plan", "--help"], "Usage: ralwinga plan [OPTIONS] <CASE>..."),
+    (&["assess", "--help"], "Usage: ralwinga assess <CASE> <LISTING>"),
+    (&["costs", "--help"], "Usage: ralwinga costs <INPUTS>"),
+    (&["explain", "--help"], "Usage: ralwinga explain [OPTIONS] <CASE>"),
+    (&["completion", "--help"], "Usage: ralwinga completion <SHELL>"),
+];
+
+#[test]
+fn help_and_version() {
+    let version = concat!("ralwinga ", env!("CARGO_PKG_VERSION"), "\n");
+    for (words, expected) in HELP.into_iter().chain([(&["--version"][..], version)]) {
+        let answer = ralwinga(words).output().expect("runs");
+        assert_eq!(answer.status.code(), Some(0));
+        assert!(answer.stderr.is_empty());
+        let said = String::from_utf8(answer.stdout).expect("text");
+        assert!(said.contains(expected), "{said}");
+    }
+}
 
 #[test]
 fn memory_is_said_and_capped() {
-    let mut ours = command();
-    ours.args(["--cells", "588", "-"]);
-    let answer = run_on(ours, C1.as_bytes());
+    let answer = answer_on(&["--cells", "588", "-"], C1.as_bytes());
     assert!(answer.stdout.starts_with(b"interval,mw\n1,0\n2,20\n"));
-    assert!(String::from_utf8_lossy(&answer.stderr).contains("588 cells, 4.6 KiB"));
-    let mut ours = command();
-    ours.args(["--cells", "587", "-"]);
-    let answer = run_on(ours, C1.as_bytes());
+    assert_eq!(answer.stderr, b"ralwinga: 588 cells, 4.6 KiB of scratch\n");
+    let answer = answer_on(&["--cells", "587", "-"], C1.as_bytes());
     stops(&answer, 1, "refused,8\n", "needs 588 cells");
-    assert!(String::from_utf8_lossy(&answer.stderr).contains("the first 5 of the 6 prices"));
+    stops(&answer, 1, "refused,8\n", "--cells allows 587; it fits with 588 cells, or the first 5 of the 6 prices, or starts none, or hours none");
 }
 
 /// A month is longer than the proved reader takes.
 #[test]
 fn a_month_with_a_drawing() {
-    let folder = std::env::temp_dir().join(format!("ralwinga-{}", std::process::id()));
-    std::fs::create_dir_all(&folder).expect("a folder for the files");
-    let (case, drawing) = (folder.join("month"), folder.join("month.svg"));
-    let mut text = C1.lines().take(4).collect::<Vec<_>>().join("\n") + "\n";
-    for t in 0..2976 {
-        text.push_str(if t % 96 < 40 { "1000\n" } else { "10000\n" });
-    }
+    let folder = Folder::new("month");
+    let text = month();
     assert!(text.len() > 12_288);
-    std::fs::write(&case, &text).expect("written");
-    let answer = command()
-        .arg(&case)
-        .arg("--svg")
-        .arg(&drawing)
-        .output()
-        .expect("runs");
+    let case = folder.file("month", &text);
+    let drawing = folder.path("month.svg");
+    let answer = ralwinga([case.as_os_str(), "--svg".as_ref(), drawing.as_os_str()]).output();
+    let answer = answer.expect("runs");
     assert_eq!(answer.status.code(), Some(0));
     let listing = String::from_utf8(answer.stdout).expect("bytes of the listing");
     assert_eq!(listing.lines().count(), 1 + 2976 + 1 + 5);
     // two hours: 8 intervals at 20 MW and 10,000 cents in one run, less what they cost and one start
     assert!(listing.contains("\nprofit,1100000\n"), "{listing}");
-    let svg = std::fs::read_to_string(&drawing).expect("drawn");
+    let svg = folder.read("month.svg");
     assert!(svg.starts_with("<svg") && svg.ends_with("</svg>\n"));
-    std::fs::remove_dir_all(&folder).expect("removed");
+}
+
+/// A reader that goes away after some bytes leaves no trace; a disk that is full does.
+#[test]
+fn output_that_is_not_taken() {
+    let folder = Folder::new("pipe");
+    let case = folder.file("month", month());
+    for subcommand in ["plan", "explain"] {
+        let (status, said) = run_unread(ralwinga([subcommand.as_ref(), case.as_os_str()]));
+        assert_eq!(status, Some(0), "{said}");
+        assert_eq!(said.lines().count(), 1, "{said}");
+    }
+    // with nobody at standard error either
+    let mut command = ralwinga(["no such file"]);
+    command.stdout(Stdio::piped()).stderr(Stdio::piped());
+    let mut child = command.spawn().expect("starts");
+    drop((child.stdout.take(), child.stderr.take()));
+    assert_eq!(child.wait().expect("ends").code(), Some(1));
+    let full = std::fs::File::options().write(true).open("/dev/full");
+    let mut command = ralwinga([&case]);
+    command
+        .stdout(full.expect("a device that is always full"))
+        .stderr(Stdio::piped());
+    let answer = command.output().expect("runs");
+    assert_eq!(answer.status.code(), Some(1));
+    assert!(String::from_utf8_lossy(&answer.stderr).contains("cannot write standard output: "));
+}
+
+/// What bash offers for words begun.
+#[test]
+fn completion() {
+    let script = ralwinga(["completion", "bash"]).output().expect("runs");
+    let script = String::from_utf8(script.stdout).expect("text");
+    for (words, offered) in [("ex", "explain"), ("plan --o", "--out"), ("--ht", "--html")] {
+        let last = words.rsplit(' ').next().expect("a word");
+        let count = words.split(' ').count();
+        let asked = format!(
+            "{script}\nCOMP_WORDS=(ralwinga {words}); COMP_CWORD={count}; _ralwinga ralwinga '{last}'; echo \"${{COMPREPLY[@]}}\""
+        );
+        let answer = Command::new("bash").args(["-c", &asked]).output();
+        let answer = String::from_utf8(answer.expect("bash").stdout).expect("text");
+        assert_eq!(answer.trim(), offered);
+    }
 }

@@ -4,14 +4,14 @@ mod support;
 
 use std::path::{Path, PathBuf};
 use std::process::Command;
-use support::{damage, run_on, small_case, text_of, Random};
+use support::{answer_on, any_case, run_on, text_of, Folder, Random};
 
 const CASES: usize = 200;
 
 /// The host in C, compiled with the linker that Rust links with, warnings as errors.
-fn compiled(folder: &Path) -> PathBuf {
+fn compiled(folder: &Folder) -> PathBuf {
     let root = Path::new(env!("CARGO_MANIFEST_DIR"));
-    let program = folder.join("host");
+    let program = folder.path("host");
     let library = std::env::var("RALWINGA_LIBRARY")
         .map_or_else(|_| root.join("../target/staticlib"), PathBuf::from);
     let status = Command::new("cc")
@@ -29,24 +29,17 @@ fn compiled(folder: &Path) -> PathBuf {
 
 #[test]
 fn a_host_in_c() {
-    let folder = std::env::temp_dir().join(format!("ralwinga-c-{}", std::process::id()));
-    std::fs::create_dir_all(&folder).expect("a folder for the program");
+    let folder = Folder::new("c");
     let program = compiled(&folder);
     let mut random = Random::new(10);
     for _ in 0..CASES {
-        let (mut unit, mut prices) = small_case(&mut random);
-        if random.one_in(4) {
-            damage(&mut random, &mut unit, &mut prices);
-        }
-        let text = text_of(&mut random, &unit, &prices).into_bytes();
+        let case = any_case(&mut random);
+        let text = text_of(&mut random, &case.unit, &case.prices).into_bytes();
         if text.len() > 12_288 {
             continue;
         }
-        let mut ours = Command::new(env!("CARGO_BIN_EXE_ralwinga"));
-        ours.arg("-");
-        let expected = run_on(ours, &text);
+        let expected = answer_on(&["-"], &text);
         let answer = run_on(Command::new(&program), &text);
         assert_eq!(answer.stdout, expected.stdout);
     }
-    std::fs::remove_dir_all(&folder).expect("removed");
 }

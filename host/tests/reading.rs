@@ -1,22 +1,27 @@
-//! The proved reader and the one for long texts beside each other, on texts in order and damaged, and beside the case that was written.
+//! The proved reader and the one for long texts beside each other, on texts in order and damaged, and beside the case that was written; and
+//! what is said of a fault's place.
 
 mod support;
 
-use ralwinga::{read_into, reader, Refusal, Unit};
-use support::{damage, damage_text, small_case, text_of, Lent, Random};
+use ralwinga::reader::{read_case, read_long_case};
+use ralwinga::{read_into, Case, Refusal};
+use support::{any_case, damage_text, each_came_up, small_case, text_of, Lent, Random, C1};
 
 const CASES: usize = 100_000;
 const MOST_BYTES: usize = 12_288;
 
 /// The proved reader's answer with prices lent beyond any need, and the slice held to it.
-fn proved(text: &[u8]) -> Result<(Unit, Vec<i64>), Refusal> {
+fn proved(text: &[u8]) -> Result<Case, Refusal> {
     let lent: Vec<i64> = (0..6144).collect();
     let mut prices = Lent::new(lent.clone(), 77);
     let answer = read_into(text, prices.slice());
     let mut after = lent;
-    let read = answer.map(|(unit, count)| (unit, prices.slice()[..count].to_vec()));
-    if let Ok((_, taken)) = &read {
-        after[..taken.len()].copy_from_slice(taken);
+    let read = answer.map(|(unit, count)| Case {
+        unit,
+        prices: prices.slice()[..count].to_vec(),
+    });
+    if let Ok(case) = &read {
+        after[..case.prices.len()].copy_from_slice(&case.prices);
     }
     prices.holds(&after);
     read
@@ -27,10 +32,7 @@ fn both_readers_agree() {
     let mut random = Random::new(5);
     let mut seen = [0; 11];
     for _ in 0..CASES {
-        let (mut unit, mut prices) = small_case(&mut random);
-        if random.one_in(4) {
-            damage(&mut random, &mut unit, &mut prices);
-        }
+        let Case { unit, prices } = any_case(&mut random);
         let mut text = text_of(&mut random, &unit, &prices).into_bytes();
         for _ in 0..random.below(3) {
             if !text.is_empty() {
@@ -40,26 +42,22 @@ fn both_readers_agree() {
         if text.len() > MOST_BYTES {
             continue;
         }
+        let shown = String::from_utf8_lossy(&text);
         let answer = proved(&text);
-        seen[answer
-            .as_ref()
-            .err()
-            .map_or(0, |refusal| refusal.number() as usize)] += 1;
+        let refused = answer.as_ref().err().map_or(0, |r| r.number());
+        seen[refused as usize] += 1;
+        let long = read_long_case(&text);
         assert_eq!(
-            reader::read(&text),
-            answer,
-            "{}",
-            String::from_utf8_lossy(&text)
+            long.as_ref().map_err(|f| f.refusal),
+            answer.as_ref().map_err(|r| *r),
+            "{shown}"
         );
+        // the command's reader gives the proved one's number, and a place for each of 1 to 3
+        assert_eq!(read_case(&text), long, "{shown}");
+        let placed = long.is_err_and(|fault| fault.place.is_some());
+        assert_eq!(placed, (1..=3).contains(&refused), "{shown}");
     }
-    println!("answers by number, 0 a case: {seen:?}");
-    for number in [0, 1, 2, 3, 4, 5] {
-        assert!(
-            seen[number] > 20,
-            "number {number} came {} times",
-            seen[number]
-        );
-    }
+    each_came_up(&seen, &[0, 1, 2, 3, 4, 5]);
 }
 
 #[test]
@@ -68,7 +66,7 @@ fn what_was_written_is_read() {
     for _ in 0..CASES / 10 {
         let (unit, prices) = small_case(&mut random);
         let text = text_of(&mut random, &unit, &prices);
-        assert_eq!(proved(text.as_bytes()), Ok((unit, prices)));
+        assert_eq!(proved(text.as_bytes()), Ok(Case { unit, prices }));
     }
 }
 
@@ -96,10 +94,10 @@ fn the_longest_text() {
     let longest = text_of_length(MOST_BYTES);
     let answer = proved(&longest);
     assert!(answer.is_ok());
-    assert_eq!(reader::read(&longest), answer);
+    assert_eq!(read_long_case(&longest).ok(), answer.ok());
     let longer = text_of_length(MOST_BYTES + 1);
     assert_eq!(proved(&longer), Err(Refusal::Form));
-    assert!(reader::read(&longer).is_ok());
+    assert!(read_case(&longer).is_ok());
 }
 
 #[test]
@@ -115,5 +113,57 @@ fn a_price_slice_too_short() {
             Err(Refusal::Length)
         );
         slice.holds(&lent);
+    }
+}
+
+/// C1 with one thing put for another, the number, and what is said of it.
+#[rustfmt::skip]
+const FAULTS: [(&str, &str, u64, &str); 18] = [
+    ("10000\n", "10000", 1, "line 10: no line end closes the last line"),
+    ("block,", "Block,", 1, "line 1, column 1: 'Block' is no name"),
+    ("5000,2,2", "5000,02,2", 1, "line 2, column 32: '02' is no value"),
+    ("5000,2,2", "5000,2 ,2", 1, "line 2, column 32: '2 ' is no value"),
+    ("10,1,2", "10,1", 1, "line 2: 12 values under 13 names"),
+    ("\n\n", "\n", 1, "line 3: this line has to be empty"),
+    ("\n\n", "\r\n\n", 1, "line 2, column 36: 'none\\r' is no value"),
+    ("8000", "", 1, "line 7, column 1: '' is no value"),
+    ("8000", "99999999999", 1, "line 7, column 1: '99999999999' is no value"),
+    ("mot", "mob", 2, "line 1, column 17: 'mob' is unknown, 'mot' is missing"),
+    ("mot", "mdt", 2, "line 1, column 21: 'mdt' is repeated, 'mot' is missing"),
+    ("price", "prices", 2, "line 4, column 1: 'prices' is unknown, 'price' is missing"),
+    ("10,1,2,2", "10,1,2,97", 3, "line 2, column 8: mot '97' is outside its range"),
+    ("10,1,2,2", "10,2,2,97", 3, "line 2, column 8: mot '97' is outside its range"),
+    ("10,1,2", "10,none,2", 3, "line 2, column 4: pmin 'none' is outside its range"),
+    ("2,none", "2,-1", 3, "line 2, column 36: mwh '-1' is outside its range"),
+    ("8000", "200001", 3, "line 7, column 1: price '200001' is outside its range"),
+    ("8000", "none", 3, "line 7, column 1: price 'none' is outside its range"),
+];
+
+#[test]
+fn places_of_faults() {
+    for (from, to, number, said) in FAULTS {
+        assert!(C1.contains(from), "{from}");
+        let text = C1.replacen(from, to, 1);
+        let fault = read_case(text.as_bytes()).expect_err(&text);
+        assert_eq!(fault.refusal.number(), number, "{text}");
+        let line = fault.to_string();
+        assert!(line.starts_with(said), "{line}");
+        assert!(line.ends_with(&format!("({})", fault.refusal)), "{line}");
+    }
+}
+
+/// A text that ends before its prices.
+#[test]
+fn lines_that_are_missing() {
+    for (lines, said) in [
+        (0, "line 1: the text is empty"),
+        (1, "line 2: the line of values is missing"),
+        (2, "line 3: the empty line is missing"),
+        (3, "line 4: 'price' is missing"),
+    ] {
+        let text: String = C1.split_inclusive('\n').take(lines).collect();
+        let fault = read_case(text.as_bytes()).expect_err(&text);
+        assert_eq!(fault.refusal, Refusal::Form);
+        assert!(fault.to_string().starts_with(said), "{fault}");
     }
 }

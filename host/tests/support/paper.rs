@@ -1,7 +1,7 @@
 //! The specification once more in plain Rust, by enumeration: every list of outputs is tried. It shares no code with the library or the wrapper
 //! but the types.
 
-use ralwinga::{CostFigures, CostInputs, Outcome, Outcomes, Unit};
+use ralwinga::{CostFigures, CostInputs, Outcome, Outcomes, Report, Unit};
 
 type Refused = u64;
 
@@ -146,6 +146,98 @@ pub fn outcomes_by(u: &Unit, earned: impl Fn(Unit) -> Option<i128>) -> Outcomes 
         starts: outcome(u.starts, |k| earned(with_starts(k))),
         hours: outcome(u.hours, |k| earned(with_hours(k))),
         mwh: outcome(u.mwh, |k| earned(with_mwh(k))),
+    }
+}
+
+/// The number of a case that is refused, or its best plan with profit and outcomes.
+pub fn reported(u: &Unit, prices: &[i64]) -> Result<(Report, Vec<u64>), Refused> {
+    judge_case(u, prices)?;
+    let (profit, plan) = best(u, prices).ok_or(9u64)?;
+    let report = Report {
+        count: plan.len(),
+        profit: profit as i64,
+        outcomes: outcomes(u, prices),
+    };
+    Ok((report, plan))
+}
+
+/// Whether the figures can be written in a text, where a value has at most ten digits.
+pub fn writable(u: &Unit, prices: &[i64]) -> bool {
+    let limits = [u.starts, u.hours, u.mwh].into_iter().flatten();
+    let others = [
+        u.block, u.pmin, u.pmax, u.mot, u.mdt, u.was, u.held, u.vec, u.mlc, u.suc,
+    ];
+    let all = limits.chain(others);
+    all.chain(prices.iter().map(|price| price.unsigned_abs()))
+        .all(|figure| figure <= 9_999_999_999)
+}
+
+/// The same of the text of a case, planned with at most so many cells.
+pub fn answer_to_text(
+    u: &Unit,
+    prices: &[i64],
+    most: usize,
+) -> Result<(Report, Vec<u64>), Refused> {
+    if !writable(u, prices) {
+        return Err(1);
+    }
+    judge_case(u, prices)?;
+    if cells(u, prices.len()) > most {
+        return Err(8);
+    }
+    reported(u, prices)
+}
+
+/// The number or the profit of a schedule handed in.
+pub fn assessed(u: &Unit, prices: &[i64], schedule: &[u64]) -> Result<i64, Refused> {
+    judge_case(u, prices)?;
+    if schedule.len() != prices.len() {
+        return Err(7);
+    }
+    if !keeps(u, schedule) {
+        return Err(10);
+    }
+    Ok(profit(u, prices, schedule) as i64)
+}
+
+fn word(outcome: Outcome) -> String {
+    match outcome {
+        Outcome::None => "none".to_string(),
+        Outcome::Empty => "empty".to_string(),
+        Outcome::Never => "never".to_string(),
+        Outcome::Gap(gap) => gap.to_string(),
+    }
+}
+
+/// The profit and the three outcomes as they are printed.
+pub fn figures_printed(report: &Report) -> [String; 4] {
+    let Outcomes { starts, hours, mwh } = report.outcomes;
+    [
+        report.profit.to_string(),
+        word(starts),
+        word(hours),
+        word(mwh),
+    ]
+}
+
+/// The table of a schedule.
+pub fn table(schedule: &[u64]) -> String {
+    let rows = schedule.iter().zip(1..);
+    let lines = rows.map(|(mw, interval)| format!("{interval},{mw}\n"));
+    format!("interval,mw\n{}", lines.collect::<String>())
+}
+
+/// What is printed for a case.
+pub fn printed(answer: &Result<(Report, Vec<u64>), Refused>) -> String {
+    match answer {
+        Err(number) => format!("refused,{number}\n"),
+        Ok((report, plan)) => {
+            let [profit, starts, hours, mwh] = figures_printed(report);
+            let table = table(plan);
+            format!(
+                "{table}\nwhat,value\nprofit,{profit}\nstarts,{starts}\nhours,{hours}\nmwh,{mwh}\n"
+            )
+        }
     }
 }
 

@@ -1,0 +1,172 @@
+//! The command's words. `ralwinga CASE` is short for `ralwinga plan CASE`.
+
+use clap::{Args, CommandFactory, Parser, Subcommand, ValueHint};
+use clap_complete::Shell;
+use std::path::PathBuf;
+
+const PROVED: &str = "What is proved: each plan, profit, opportunity cost and cost figure is an answer of the proved static library: the plan \
+is the best of all schedules that keep the case, and the figures are what the specification defines. A case of at most 12,288 bytes is read by the \
+proved reader too. What is not proved, but tested: this command, its readers of longer cases, of listings and of cost inputs, the sums of `explain`, \
+the drawing and the page.";
+
+const EXITS: &str = "Exit status: 0 when all was answered, 1 when a case was refused or a file could not be read or written, 2 for bad arguments.";
+
+const LONG_VERSION: &str = concat!(
+    env!("CARGO_PKG_VERSION"),
+    "\nThe library's answers are proved; the command around it is tested (see --help)."
+);
+
+/// Plans use-limited generating units over the proved library.
+#[derive(Parser)]
+#[command(
+    name = "ralwinga",
+    version,
+    long_version = LONG_VERSION,
+    after_help = EXITS,
+    after_long_help = format!("{PROVED}\n\n{EXITS}"),
+    args_conflicts_with_subcommands = true,
+    subcommand_negates_reqs = true
+)]
+pub struct Arguments {
+    #[command(subcommand)]
+    pub command: Option<Command>,
+    #[command(flatten)]
+    pub plan: PlanWords,
+}
+
+#[derive(Subcommand)]
+pub enum Command {
+    /// Print the best plan of a case; of many, a table of their profits and opportunity costs
+    Plan(PlanWords),
+    /// Hand in the outputs of a listing and print their profit
+    Assess(AssessWords),
+    /// Print the cost figures vec, suc and mlc of a unit
+    Costs(CostsWords),
+    /// Tell the plan of a case as runs, limitations used and adders for the bid
+    Explain(ExplainWords),
+    /// Print the completion of the command for a shell
+    Completion(CompletionWords),
+}
+
+#[derive(Args)]
+pub struct PlanWords {
+    /// Files with a case each, or - for standard input
+    #[arg(value_name = "CASE", required = true, value_hint = ValueHint::FilePath)]
+    pub cases: Vec<PathBuf>,
+    /// Write what is printed for each case to DIR/NAME.listing.csv, NAME being the file's name without its ending
+    #[arg(long, value_name = "DIR", value_hint = ValueHint::DirPath)]
+    pub out: Option<PathBuf>,
+    /// At most N cases side by side; fewer where the memory for all at once is not there [default: the cores]
+    #[arg(long, value_name = "N", value_parser = positive)]
+    pub jobs: Option<usize>,
+    #[command(flatten)]
+    pub options: CaseOptions,
+}
+
+#[derive(Args)]
+pub struct ExplainWords {
+    /// A file with a case, or - for standard input
+    #[arg(value_name = "CASE", value_hint = ValueHint::FilePath)]
+    pub case: PathBuf,
+    #[command(flatten)]
+    pub options: CaseOptions,
+}
+
+/// What concerns a case wherever it is planned.
+#[derive(Args)]
+pub struct CaseOptions {
+    /// At most N cells of 8 bytes for a case [default: what free memory holds]
+    #[arg(long, value_name = "N")]
+    pub cells: Option<usize>,
+    /// Draw prices and output to FILE (one case)
+    #[arg(long, value_name = "FILE", value_hint = ValueHint::FilePath)]
+    pub svg: Option<PathBuf>,
+    /// Write a page with drawing, runs, limitations and adders, or with the refusal, to FILE (one case)
+    #[arg(long, value_name = "FILE", value_hint = ValueHint::FilePath)]
+    pub html: Option<PathBuf>,
+}
+
+#[derive(Args)]
+pub struct AssessWords {
+    /// A file with a case, or - for standard input
+    #[arg(value_name = "CASE", value_hint = ValueHint::FilePath)]
+    pub case: PathBuf,
+    /// A file with a listing as `plan` prints it, of which the table interval,mw is read; or -
+    #[arg(value_name = "LISTING", value_hint = ValueHint::FilePath)]
+    pub listing: PathBuf,
+}
+
+#[derive(Args)]
+pub struct CostsWords {
+    /// A file with cost inputs, or - for standard input
+    #[arg(value_name = "INPUTS", value_hint = ValueHint::FilePath)]
+    pub inputs: PathBuf,
+}
+
+#[derive(Args)]
+pub struct CompletionWords {
+    #[arg(value_name = "SHELL")]
+    pub shell: Shell,
+}
+
+fn positive(word: &str) -> Result<usize, String> {
+    match word.parse() {
+        Ok(0) | Err(_) => Err("a number from 1 on belongs here".to_string()),
+        Ok(number) => Ok(number),
+    }
+}
+
+/// What is wrong with the words and how they go, in one line.
+pub fn in_one_line(error: &clap::Error) -> String {
+    let text = error.to_string();
+    let usage = Arguments::command().render_usage().to_string();
+    let wrong = text.split("\n\n").next().unwrap_or_default();
+    let usage = text
+        .split("\n\n")
+        .find(|part| part.starts_with("Usage:"))
+        .unwrap_or(&usage);
+    let trimmed = |part: &str, front: &str, between: &str| {
+        let part = part.trim_start_matches(front);
+        part.lines()
+            .map(str::trim)
+            .collect::<Vec<_>>()
+            .join(between)
+    };
+    format!(
+        "{}; usage: {}; --help tells more",
+        trimmed(wrong, "error: ", " "),
+        trimmed(usage, "Usage: ", ", or ")
+    )
+}
+
+#[cfg(test)]
+mod tests {
+    use super::*;
+
+    const PAGE: &str = include_str!("../../../ralwinga.1");
+
+    #[test]
+    fn words_are_in_order() {
+        Arguments::command().debug_assert();
+    }
+
+    /// The manual page has each subcommand and each option of each.
+    #[test]
+    fn the_manual_page_has_every_word() {
+        let page = PAGE.replace("\\-", "-");
+        let command = Arguments::command();
+        for subcommand in command.get_subcommands() {
+            let name = subcommand.get_name();
+            assert!(page.contains(&format!("\nralwinga {name}")), "{name}");
+            let options = subcommand.get_arguments().filter_map(|a| a.get_long());
+            for option in options {
+                assert!(
+                    page.contains(&format!("\n.BR --{option}"))
+                        || page.contains(&format!("\n.BI --{option} ")),
+                    "{option}"
+                );
+            }
+        }
+        assert!(page.contains(env!("CARGO_PKG_VERSION")));
+    }
+}

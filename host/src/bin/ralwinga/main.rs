@@ -1,0 +1,71 @@
+//! The command that a shift works with. It reads, asks the proved library and writes; what is proved of that is said by `--help`.
+
+mod arguments;
+mod calls;
+mod many;
+mod memory;
+mod one;
+mod pictures;
+mod planning;
+mod progress;
+mod stop;
+
+use arguments::{in_one_line, Arguments, Command, CompletionWords, PlanWords};
+use clap::{CommandFactory, Parser};
+use ralwinga::refusal_line;
+use std::process::ExitCode;
+use stop::{print, say, Stop};
+
+fn main() -> ExitCode {
+    let answer = match Arguments::try_parse() {
+        Ok(words) => run(words),
+        Err(error) if error.use_stderr() => Err(Stop::words(in_one_line(&error))),
+        // help and version are answers
+        Err(error) => print(error.to_string().as_bytes()).map(|()| true),
+    };
+    match answer {
+        Ok(true) => ExitCode::SUCCESS,
+        Ok(false) => ExitCode::FAILURE,
+        Err(stop) => {
+            if let Some(refusal) = stop.refusal() {
+                let _ = print(&refusal_line(refusal));
+            }
+            say(&stop);
+            ExitCode::from(stop.status())
+        }
+    }
+}
+
+/// Whether all was answered.
+fn run(words: Arguments) -> Result<bool, Stop> {
+    match words.command.unwrap_or(Command::Plan(words.plan)) {
+        Command::Plan(words) => return plan(&words),
+        Command::Assess(words) => calls::assess(&words)?,
+        Command::Costs(words) => calls::costs(&words)?,
+        Command::Explain(words) => one::explain(&words.case, &words.options)?,
+        Command::Completion(words) => complete(&words)?,
+    }
+    Ok(true)
+}
+
+/// The listing of one case, or the table of many.
+fn plan(words: &PlanWords) -> Result<bool, Stop> {
+    match words.cases.as_slice() {
+        [case] if words.out.is_none() => one::plan(case, &words.options).map(|()| true),
+        _ if words.options.svg.is_some() || words.options.html.is_some() => Err(Stop::words(
+            "--svg and --html are for one case, without --out",
+        )),
+        _ => many::plan(words),
+    }
+}
+
+fn complete(words: &CompletionWords) -> Result<(), Stop> {
+    let mut script = Vec::new();
+    clap_complete::generate(
+        words.shell,
+        &mut Arguments::command(),
+        "ralwinga",
+        &mut script,
+    );
+    print(&script)
+}

@@ -1,0 +1,184 @@
+//! Many cases side by side: their listings into a folder, a table of their answers to standard output.
+
+use crate::arguments::PlanWords;
+use crate::memory::{at_once, free_cells, scratch_of, side_by_side, Cap, Scratch};
+use crate::planning::{printed, Planned, Prepared};
+use crate::progress::Progress;
+use crate::stop::{is_standard_input, print, say, shown, Stop};
+use rayon::prelude::*;
+use rayon::ThreadPoolBuilder;
+use std::cell::RefCell;
+use std::collections::{HashMap, HashSet};
+use std::fs;
+use std::path::{Path, PathBuf};
+
+thread_local! {
+    /// Each thread's own. Together they are at most as large as the largest cases that may go side by side.
+    static SCRATCH: RefCell<Scratch> = RefCell::default();
+}
+
+/// What came of a case: its answer, and whether that could be written to the folder.
+struct Entry {
+    answer: Result<Planned, Stop>,
+    written: Result<(), Stop>,
+}
+
+impl Entry {
+    fn stops(&self) -> impl Iterator<Item = &Stop> {
+        let answer = self.answer.as_ref().err();
+        answer.into_iter().chain(self.written.as_ref().err())
+    }
+}
+
+/// Plans every case, whatever becomes of the others. Whether all were answered and written.
+pub fn plan(words: &PlanWords) -> Result<bool, Stop> {
+    let standard_inputs = words.cases.iter().filter(|file| is_standard_input(file));
+    if standard_inputs.count() > 1 {
+        return Err(Stop::words("standard input can be one of the cases alone"));
+    }
+    let listings = listing_files(words)?;
+    if let Some(folder) = &words.out {
+        fs::create_dir_all(folder).map_err(|error| Stop::unwritten(folder, error))?;
+    }
+    let cap = Cap::new(words.options.cells);
+    let prepared: Vec<Result<Prepared, Stop>> = words
+        .cases
+        .iter()
+        .map(|file| Prepared::from_file(file, cap))
+        .collect();
+    let entries = planned(prepared, &listings, words.jobs)?;
+    let mut all = true;
+    for stop in entries.iter().flat_map(Entry::stops) {
+        say(stop);
+        all = false;
+    }
+    let mut table = b"file,number,profit,starts,hours,mwh\n".to_vec();
+    for (file, entry) in words.cases.iter().zip(&entries) {
+        table.extend(row(file, &entry.answer));
+    }
+    print(&table)?;
+    Ok(all)
+}
+
+/// Where each case's listing goes. A listing that would take the place of another or of a case is no order to plan by, and nothing is planned.
+fn listing_files(words: &PlanWords) -> Result<Vec<Option<PathBuf>>, Stop> {
+    let Some(folder) = &words.out else {
+        return Ok(vec![None; words.cases.len()]);
+    };
+    let cases: HashSet<PathBuf> = words.cases.iter().flat_map(fs::canonicalize).collect();
+    let mut takers: HashMap<PathBuf, &Path> = HashMap::new();
+    let mut files = Vec::new();
+    for case in &words.cases {
+        let file = folder.join(listing_name(case));
+        if let Some(other) = takers.insert(file.clone(), case) {
+            let (other, case, file) = (shown(other), shown(case), file.display());
+            return Err(Stop::words(format!(
+                "{other} and {case} would both be written to {file}"
+            )));
+        }
+        if fs::canonicalize(&file).is_ok_and(|path| cases.contains(&path)) {
+            let file = file.display();
+            return Err(Stop::words(format!(
+                "{file} is a case itself, and would be written over"
+            )));
+        }
+        files.push(Some(file));
+    }
+    Ok(files)
+}
+
+fn listing_name(case: &Path) -> PathBuf {
+    let stem = if is_standard_input(case) {
+        "stdin".as_ref()
+    } else {
+        case.file_stem().unwrap_or("case".as_ref())
+    };
+    let mut name = stem.to_os_string();
+    name.push(".listing.csv");
+    PathBuf::from(name)
+}
+
+/// The entries in the order of the cases, worked out as many at a time as there are cores and as memory allows.
+fn planned(
+    prepared: Vec<Result<Prepared, Stop>>,
+    listings: &[Option<PathBuf>],
+    jobs: Option<usize>,
+) -> Result<Vec<Entry>, Stop> {
+    let ready: Vec<&Prepared> = prepared.iter().flatten().collect();
+    let needs: Vec<usize> = ready.iter().map(|case| case.cells).collect();
+    let threads = jobs.unwrap_or_else(cores);
+    let jobs = side_by_side(&needs, threads, free_cells());
+    say(format!(
+        "{}, {jobs} at a time, at most {}",
+        counted(prepared.len()),
+        scratch_of(at_once(&needs, jobs))
+    ));
+    let progress = Progress::over(&ready, jobs);
+    let entry = |(prepared, listing): (Result<Prepared, Stop>, &Option<PathBuf>)| {
+        let answer = prepared
+            .and_then(|case| SCRATCH.with_borrow_mut(|scratch| case.plan(scratch, &progress)));
+        let written = write(listing.as_deref(), printed(&answer));
+        Entry { answer, written }
+    };
+    let pool = ThreadPoolBuilder::new().num_threads(jobs).build();
+    let pool =
+        pool.map_err(|error| Stop::words(format!("cannot start {jobs} threads: {error}")))?;
+    let cases = prepared.into_par_iter().zip(listings).with_max_len(1);
+    Ok(pool.install(|| cases.map(entry).collect()))
+}
+
+fn cores() -> usize {
+    std::thread::available_parallelism().map_or(1, usize::from)
+}
+
+fn counted(cases: usize) -> String {
+    match cases {
+        1 => "1 case".to_string(),
+        _ => format!("{cases} cases"),
+    }
+}
+
+fn write(file: Option<&Path>, content: Option<Vec<u8>>) -> Result<(), Stop> {
+    match (file, content) {
+        (Some(file), Some(bytes)) => {
+            fs::write(file, bytes).map_err(|error| Stop::unwritten(file, error))
+        }
+        _ => Ok(()),
+    }
+}
+
+/// The file, 0 and the answer; or the number of a refusal, with which every other number is 0 and every outcome none; or `unread`.
+fn row(file: &Path, answer: &Result<Planned, Stop>) -> Vec<u8> {
+    let figures = match answer {
+        Ok(planned) => {
+            let (profit, outcomes) = (planned.report.profit, planned.report.outcomes);
+            format!(
+                "0,{profit},{},{},{}",
+                outcomes.starts, outcomes.hours, outcomes.mwh
+            )
+        }
+        Err(stop) => {
+            let number = stop.refusal().map(|refusal| refusal.number().to_string());
+            format!(
+                "{},0,none,none,none",
+                number.unwrap_or("unread".to_string())
+            )
+        }
+    };
+    let mut row = quoted(file.as_os_str().as_encoded_bytes());
+    row.extend(format!(",{figures}\n").bytes());
+    row
+}
+
+/// A field of the table: between quotes where it has a comma, a quote or a line end, each quote in it doubled.
+fn quoted(field: &[u8]) -> Vec<u8> {
+    if !field.iter().any(|byte| b",\"\r\n".contains(byte)) {
+        return field.to_vec();
+    }
+    let mut out = vec![b'"'];
+    for byte in field {
+        out.extend(std::iter::repeat_n(*byte, 1 + usize::from(*byte == b'"')));
+    }
+    out.push(b'"');
+    out
+}

@@ -1,0 +1,128 @@
+//! The examples of README: each block is found by how it begins, and is what is printed.
+
+mod support;
+
+use ralwinga::amounts::grouped;
+use ralwinga::reader::read_case;
+use ralwinga::{cells_needed, Unit};
+use std::process::Command;
+use support::{answer_on, proved_program, ralwinga, run_on, Folder};
+
+const README: &str = include_str!("../../README.md");
+
+/// The one block between fences that begins so.
+fn block(begins: &str) -> &'static str {
+    let blocks = README.split("```\n").skip(1).step_by(2);
+    let found: Vec<&str> = blocks.filter(|block| block.starts_with(begins)).collect();
+    assert_eq!(found.len(), 1, "blocks that begin with {begins}");
+    found[0]
+}
+
+fn case() -> &'static str {
+    block("block,pmin,pmax,mot,")
+}
+
+fn printed(words: &[&str], text: &str) -> String {
+    String::from_utf8(answer_on(words, text.as_bytes()).stdout).expect("text")
+}
+
+#[test]
+fn the_case_and_its_listing() {
+    let listing = block("interval,mw\n");
+    assert_eq!(printed(&["-"], case()), listing);
+    assert_eq!(
+        run_on(proved_program(), case().as_bytes()).stdout,
+        listing.as_bytes()
+    );
+    let folder = Folder::new("readme-case");
+    let file = folder.file("case.csv", case());
+    let assess = ralwinga(["assess".as_ref(), file.as_os_str(), "-".as_ref()]);
+    assert_eq!(
+        run_on(assess, listing.as_bytes()).stdout,
+        b"profit,400000\n"
+    );
+}
+
+#[test]
+fn the_explanation_and_the_costs() {
+    assert_eq!(printed(&["explain", "-"], case()), block("profit $"));
+    let inputs = block("block,pmin,pmax,gas,");
+    assert_eq!(printed(&["costs", "-"], inputs), block("vec,"));
+}
+
+#[test]
+fn the_table_and_the_message() {
+    let folder = Folder::new("readme-table");
+    folder.file("north.csv", case());
+    folder.file("south.csv", case().replacen("mot", "mob", 1));
+    folder.file("unit.csv", case().replacen("mot", "mob", 1));
+    let run = |words: &[&str]| {
+        let mut command = ralwinga(words);
+        command
+            .current_dir(folder.path("."))
+            .output()
+            .expect("runs")
+    };
+    let table = run(&["plan", "north.csv", "south.csv"]).stdout;
+    assert_eq!(String::from_utf8_lossy(&table), block("file,number,"));
+    let message = String::from_utf8(run(&["unit.csv"]).stderr).expect("text");
+    assert!(
+        README.contains(&format!("`{}`", message.trim_end())),
+        "{message}"
+    );
+}
+
+/// The shell's part of the line for Slurm, whose task number is given here.
+#[test]
+fn the_line_for_an_array_of_jobs() {
+    let line = README
+        .lines()
+        .find(|line| line.contains("sbatch --array"))
+        .expect("a line");
+    let (_, wrapped) = line.split_once("--wrap '").expect("what is run");
+    let wrapped = wrapped.strip_suffix('\'').expect("a quote");
+    let folder = Folder::new("readme-array");
+    folder.file("units/north.csv", case());
+    folder.file("units/south.csv", case());
+    let program = env!("CARGO_BIN_EXE_ralwinga");
+    let line = wrapped.replacen("ralwinga", &format!("'{program}'"), 1);
+    let answer = Command::new("sh")
+        .args(["-c", &line])
+        .env("SLURM_ARRAY_TASK_ID", "2")
+        .current_dir(folder.path("."))
+        .output()
+        .expect("a shell");
+    assert!(answer.status.success());
+    assert_eq!(
+        folder.read("plans/south.listing.csv"),
+        block("interval,mw\n")
+    );
+    assert!(!folder.path("plans/north.listing.csv").exists());
+}
+
+/// The months of the table of memory.
+#[test]
+fn the_cells_of_a_month() {
+    let unit = read_case(case().as_bytes()).expect("a case in order").unit;
+    for (starts, hours, mwh) in [
+        (Some(30), None, None),
+        (None, Some(200), None),
+        (None, None, Some(5000)),
+        (Some(30), Some(200), None),
+    ] {
+        let limited = Unit {
+            block: 5,
+            mot: 4,
+            mdt: 4,
+            starts,
+            hours,
+            mwh,
+            ..unit
+        };
+        let cells = cells_needed(limited, 2976).expect("a case in order") as u64;
+        let tenths = (cells as f64 * 80.0 / 1024.0 / 1024.0).round() as u64;
+        let mib = format!("{}.{} MiB", grouped(tenths / 10), tenths % 10);
+        let row = format!("= {} | {mib} |", grouped(cells));
+        assert!(README.contains(&row), "{row}");
+    }
+}

@@ -1,0 +1,91 @@
+//! The texts of cases, written and damaged.
+
+use super::Random;
+use ralwinga::Unit;
+
+const UNIT_NAMES: [&str; 13] = [
+    "block", "pmin", "pmax", "mot", "mdt", "was", "held", "vec", "mlc", "suc", "starts", "hours",
+    "mwh",
+];
+
+/// The text of a case, its names in a random sequence.
+pub fn text_of(random: &mut Random, u: &Unit, prices: &[i64]) -> String {
+    let limit = |figure: Option<u64>| figure.map_or("none".to_string(), |f| f.to_string());
+    let values = [
+        u.block, u.pmin, u.pmax, u.mot, u.mdt, u.was, u.held, u.vec, u.mlc, u.suc,
+    ];
+    let columns: Vec<(&str, String)> = UNIT_NAMES
+        .into_iter()
+        .zip(values.iter().map(u64::to_string).chain([
+            limit(u.starts),
+            limit(u.hours),
+            limit(u.mwh),
+        ]))
+        .collect();
+    let mut text = shuffled_table(random, columns) + "\nprice\n";
+    for price in prices {
+        text.push_str(&format!("{price}\n"));
+    }
+    text
+}
+
+/// A line of names in a random sequence and the line of their values.
+pub fn shuffled_table(random: &mut Random, mut columns: Vec<(&str, String)>) -> String {
+    for i in (1..columns.len()).rev() {
+        columns.swap(i, random.below(i as u64 + 1) as usize);
+    }
+    let names: Vec<&str> = columns.iter().map(|(name, _)| *name).collect();
+    let row: Vec<&str> = columns.iter().map(|(_, value)| value.as_str()).collect();
+    format!("{}\n{}\n", names.join(","), row.join(","))
+}
+
+/// What a damaged text gains.
+const PIECES: [&str; 16] = [
+    "none",
+    "-",
+    "0",
+    "-0",
+    "00",
+    ",",
+    "\n",
+    "\n\n",
+    "price",
+    "starts",
+    "9999999999",
+    "10000000000",
+    "-1",
+    " ",
+    "A",
+    "\u{e9}",
+];
+
+/// A byte taken out, put in or changed, the end cut off, a piece put in or put for a whole field.
+pub fn damage_text(random: &mut Random, text: &mut Vec<u8>) {
+    let at = random.below(text.len() as u64) as usize;
+    let piece = random.from(&PIECES).bytes();
+    match random.below(6) {
+        0 => {
+            text.remove(at);
+        }
+        1 => text[at] = random.from(b"0123456789-,\nanoeprics +\r\t"),
+        2 => text.insert(at, random.from(b"0123456789-,\nanoeprics")),
+        3 => text.truncate(at),
+        4 => {
+            text.splice(at..at, piece);
+        }
+        _ => {
+            text.splice(field_at(text, at), piece);
+        }
+    }
+}
+
+/// The field about a place of a text.
+fn field_at(text: &[u8], at: usize) -> std::ops::Range<usize> {
+    let is_mark = |byte: &u8| *byte == b',' || *byte == b'\n';
+    let begin = text[..at].iter().rposition(is_mark).map_or(0, |i| i + 1);
+    let end = text[at..]
+        .iter()
+        .position(is_mark)
+        .map_or(text.len(), |i| at + i);
+    begin..end
+}
