@@ -1,1 +1,2 @@
+-- Printing: what the parts of an answer print, put together.
 pub mod Printing

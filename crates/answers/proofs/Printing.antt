@@ -7,7 +7,7 @@ use lib.IntN.{ℤ}
 use lib.ListN.{length, take, drop}
 use lib.Seq.{take-append-seam}
 use Rattle.casefile.specs.declared.CaseRead.the-variants as read
-use Rattle.casefile.specs.Answers.{answered as answeredBy, filled, readCase, readPrices, readCount}
+use Rattle.casefile.specs.Answers.{readBy, pricesLeft, readCase, readPrices, readCount}
 use Rattle.casefile.specs.Reading.{unitIn, pricesIn, textChecked}
 use Rattle.casefile.proofs.Checking.{part-fits}
 use Rattle.commitment.specs.declared.Cause.{Cause}
@@ -19,21 +19,21 @@ use Rattle.commitment.specs.Best.{Plan, best}
 use Rattle.commitment.specs.Causes.{numberOf}
 use Rattle.commitment.specs.Valuing.{outcomesOf}
 use Rattle.listing.specs.declared.Written.{Written}
-use Rattle.listing.specs.Listing.{listing, refusal, fitted, answered, bufferAfter}
+use Rattle.listing.specs.Listing.{listing, refusal, fitted, writtenBy, bufferAfter}
 use Rattle.planner.specs.declared.Report.{Report}
 use Rattle.planner.specs.declared.Reported.{Reported}
 use Rattle.planner.specs.declared.Reported.the-variants as reported
 use Rattle.planner.specs.Planning.{planChecked, plannedBy, plannedCount, plannedPart, scheduleAfter}
 use Rattle.planner.specs.Reporting.{reportedBy, planIn}
-use Rattle.planner.proofs.Answers.{plan-in, part-is}
+use Rattle.planner.proofs.Answering.{plan-in, part-is}
 use Rattle.answers.specs.Printing.{reportPrinted, casePrinted}
 
 -- a text written is any list that it equals
 pub written-as : (buffer : List ℕ) {text same : List ℕ} {r : Written} {after : List ℕ} → text ≡ same
-    → (r ≡ answered (fitted (length text) (length buffer))) × (after ≡ bufferAfter text buffer)
-    → (r ≡ answered (fitted (length same) (length buffer))) × (after ≡ bufferAfter same buffer)
+    → (r ≡ writtenBy (fitted (length text) (length buffer))) × (after ≡ bufferAfter text buffer)
+    → (r ≡ writtenBy (fitted (length same) (length buffer))) × (after ≡ bufferAfter same buffer)
 written-as buffer e w =
-    (w .0 ∙ ap (λ (text : List ℕ). answered (fitted (length text) (length buffer))) e, w .1 ∙ ap (λ (text : List ℕ). bufferAfter text buffer) e)
+    (w .0 ∙ ap (λ (text : List ℕ). writtenBy (fitted (length text) (length buffer))) e, w .1 ∙ ap (λ (text : List ℕ). bufferAfter text buffer) e)
 
 -- ---- by the report
 
@@ -73,9 +73,9 @@ module _ (text : List ℕ) (slice : List ℤ) (unit : UnitRecord) (count : ℕ) 
   unfolding readCase readPrices
   prices-read = go (textChecked text (length slice)) e
     where
-      go : (k : Checked) → answeredBy k (unitIn text) (length (pricesIn text)) ≡ read.Case unit count
-          → take count (filled k (pricesIn text) slice) ≡ pricesIn text
+      go : (k : Checked) → readBy k (unitIn text) (length (pricesIn text)) ≡ read.Case unit count
+          → take count (pricesLeft k (pricesIn text) slice) ≡ pricesIn text
       go Passed e =
           let n : length (pricesIn text) ≡ count = ap readCount e in
-          ap (λ (n : ℕ). take n (filled Passed (pricesIn text) slice)) (sym n) ∙ take-append-seam (pricesIn text) (drop (length (pricesIn text)) slice)
+          ap (λ (n : ℕ). take n (pricesLeft Passed (pricesIn text) slice)) (sym n) ∙ take-append-seam (pricesIn text) (drop (length (pricesIn text)) slice)
       go (Refused cause) e = let z : _≡_ {A = ℕ} 0 1 = cc in absurd (omega arith)

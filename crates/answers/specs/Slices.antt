@@ -7,11 +7,11 @@ use Rattle.casefile.specs.declared.CaseRead.the-variants.{Case, Refused}
 use Rattle.planner.specs.Planning as planning
 
 -- beside a scratch of so many cells
-abbrev pub scheduleLeft : CaseRead → List ℤ → ℕ → List ℕ → List ℕ
-scheduleLeft (Case unit count) prices cells was = planning.scheduleLeft unit prices cells was
-scheduleLeft (Refused cause) prices cells was = was
+abbrev pub scheduleAnswered : CaseRead → List ℤ → ℕ → List ℕ → List ℕ
+scheduleAnswered (Case unit count) prices cells was = planning.scheduleLeft unit prices cells was
+scheduleAnswered (Refused cause) prices cells was = was
 
 -- beside a schedule slice of so many entries
-abbrev pub scratchLeft : CaseRead → List ℤ → ℕ → List ℤ → List ℤ
-scratchLeft (Case unit count) prices entries was = planning.scratchLeft unit prices entries was
-scratchLeft (Refused cause) prices entries was = was
+abbrev pub scratchAnswered : CaseRead → List ℤ → ℕ → List ℤ → List ℤ
+scratchAnswered (Case unit count) prices entries was = planning.scratchLeft unit prices entries was
+scratchAnswered (Refused cause) prices entries was = was

@@ -10,10 +10,10 @@ ghost use lib.ListN.{length};
 ghost use Rattle.commitment.specs.Causes.{numberOf};
 ghost use Rattle.casefile.specs.Answers.{readCase, readPrices};
 ghost use Rattle.casefile.specs.Reading.{pricesIn};
-ghost use Rattle.listing.specs.Listing.{refusal, fitted, answered, bufferAfter};
+ghost use Rattle.listing.specs.Listing.{refusal, fitted, writtenBy, bufferAfter};
 ghost use Rattle.planner.specs.Planning as planning;
 ghost use Rattle.answers.specs.Printing.{casePrinted, printed};
-ghost use Rattle.answers.specs.Slices.{scheduleLeft, scratchLeft};
+ghost use Rattle.answers.specs.Slices.{scheduleAnswered, scratchAnswered};
 
 // What is printed for a text, into the front of `out`; or 7, and `out` is as it was. A text that is refused leaves every slice but `out`.
 pub fn answer_into(
@@ -23,11 +23,11 @@ pub fn answer_into(
     schedule: &mut [u64],
     out: &mut [u8],
 ) -> Written
-    ensures { λ r. ⌜ r ≡ answered (fitted (length (printed (now (text .entry)) (length (now (prices .entry))) (length (now (scratch .entry))) (length (now (schedule .entry))))) (length (now (out .entry)))) ⌝ }
+    ensures { λ r. ⌜ r ≡ writtenBy (fitted (length (printed (now (text .entry)) (length (now (prices .entry))) (length (now (scratch .entry))) (length (now (schedule .entry))))) (length (now (out .entry)))) ⌝ }
     ensures { λ _. ⌜ now (out .exit) ≡ bufferAfter (printed (now (text .entry)) (length (now (prices .entry))) (length (now (scratch .entry))) (length (now (schedule .entry)))) (now (out .entry)) ⌝ }
     ensures { λ _. ⌜ now (prices .exit) ≡ readPrices (now (text .entry)) (now (prices .entry)) ⌝ }
-    ensures { λ _. ⌜ now (schedule .exit) ≡ scheduleLeft (readCase (now (text .entry)) (length (now (prices .entry)))) (pricesIn (now (text .entry))) (length (now (scratch .entry))) (now (schedule .entry)) ⌝ }
-    ensures { λ _. ⌜ now (scratch .exit) ≡ scratchLeft (readCase (now (text .entry)) (length (now (prices .entry)))) (pricesIn (now (text .entry))) (length (now (schedule .entry))) (now (scratch .entry)) ⌝ }
+    ensures { λ _. ⌜ now (schedule .exit) ≡ scheduleAnswered (readCase (now (text .entry)) (length (now (prices .entry)))) (pricesIn (now (text .entry))) (length (now (scratch .entry))) (now (schedule .entry)) ⌝ }
+    ensures { λ _. ⌜ now (scratch .exit) ≡ scratchAnswered (readCase (now (text .entry)) (length (now (prices .entry)))) (pricesIn (now (text .entry))) (length (now (schedule .entry))) (now (scratch .entry)) ⌝ }
 {
     match casefile::read_into(text, &mut *prices) {
         CaseRead::Refused(cause) => refuse(cause, out),
@@ -43,7 +43,7 @@ fn report(
     schedule: &mut [u64],
     out: &mut [u8],
 ) -> Written
-    ensures { λ r. ⌜ r ≡ answered (fitted (length (casePrinted unit (now (prices .entry)) (length (now (scratch .entry))) (length (now (schedule .entry))))) (length (now (out .entry)))) ⌝ }
+    ensures { λ r. ⌜ r ≡ writtenBy (fitted (length (casePrinted unit (now (prices .entry)) (length (now (scratch .entry))) (length (now (schedule .entry))))) (length (now (out .entry)))) ⌝ }
     ensures { λ _. ⌜ now (out .exit) ≡ bufferAfter (casePrinted unit (now (prices .entry)) (length (now (scratch .entry))) (length (now (schedule .entry)))) (now (out .entry)) ⌝ }
     ensures { λ _. ⌜ now (schedule .exit) ≡ planning.scheduleLeft unit (now (prices .entry)) (length (now (scratch .entry))) (now (schedule .entry)) ⌝ }
     ensures { λ _. ⌜ now (scratch .exit) ≡ planning.scratchLeft unit (now (prices .entry)) (length (now (schedule .entry))) (now (scratch .entry)) ⌝ }
@@ -61,7 +61,7 @@ fn report(
 
 // The line of a refusal.
 fn refuse(cause: Cause, out: &mut [u8]) -> Written
-    ensures { λ r. ⌜ r ≡ answered (fitted (length (refusal (numberOf cause))) (length (now (out .entry)))) ⌝ }
+    ensures { λ r. ⌜ r ≡ writtenBy (fitted (length (refusal (numberOf cause))) (length (now (out .entry)))) ⌝ }
     ensures { λ _. ⌜ now (out .exit) ≡ bufferAfter (refusal (numberOf cause)) (now (out .entry)) ⌝ }
 {
     let number = commitment::number_of(cause);

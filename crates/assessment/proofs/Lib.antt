@@ -1,3 +1,4 @@
+-- Walking: the walk by the rules. Intervals: one step of it. Bounds: its totals stay small. Passed: what it says of a schedule that it passed.
 pub mod Bounds
 pub mod Intervals
 pub mod Walking

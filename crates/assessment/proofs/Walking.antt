@@ -10,7 +10,7 @@ use borrow.Author.Tests.{eq-eqb}
 use lib.Dec.{leb}
 use lib.IntN.{ℤ, pos, _+ℤ_, _-ℤ_, +ℤ-idl}
 use lib.ListN.{length, drop, getD, drop-of-length-le}
-use Rattle.integers.proofs.Fills.{drop-next}
+use Rattle.lists.proofs.Fills.{drop-next}
 use Rattle.integers.proofs.Linear.{zarith, zsum, zdiff, up-pos, dn-pos}
 use Rattle.commitment.specs.declared.Cause.the-variants.{NotKept}
 use Rattle.commitment.specs.declared.Checked.the-variants.{Passed}
@@ -18,15 +18,15 @@ use Rattle.commitment.specs.declared.UnitRecord.{UnitRecord}
 use Rattle.commitment.specs.Causes.{unless}
 use Rattle.commitment.specs.Keeping.{wasOn, startsIn, runsLast, spellsLast, onIntervals, outputSum, keepsStarts, keepsRuns, keepsSpells, keepsHours, keepsMwh, keepsCase}
 use Rattle.commitment.specs.Profit.{earned, earnedIn, startCost, profit}
-use Rattle.commitment.specs.Ranges.{every}
+use Rattle.lists.specs.Every.{every}
 use Rattle.commitment.specs.Schedule.{isOutput, isSchedule}
 use Rattle.assessment.specs.declared.Assessed.{Assessed}
 use Rattle.assessment.specs.declared.Assessed.the-variants.{Profit, Refused}
 use Rattle.assessment.specs.declared.Walk.{Walk}
 use Rattle.assessment.specs.declared.Walked.{Walked}
 use Rattle.assessment.specs.declared.Walked.the-variants.{Whole, Broken}
-use Rattle.assessment.specs.Assessed.{answered}
-use Rattle.assessment.specs.Walking.{opening, mayFollow, stepped, walkFrom, settled, concluded}
+use Rattle.assessment.specs.Assessed.{assessedBy}
+use Rattle.assessment.specs.Walking.{openingWalk, mayFollow, stepped, walkFrom, settled, concluded}
 
 abbrev standing : Bool → ℕ → ℕ → ℕ → ℕ → ℤ → Walk
 standing on spent starts running output p =
@@ -55,14 +55,14 @@ pull-spell true true e r z = refl
 pull-spell true false e r z = simp and-false
 pull-spell false t e r z = refl
 
--- the outputs and the rules, in the order of the walk and in that of document 01
+-- the outputs and the rules, in the order of the walk and in that of the specification
 in-order : (a r z b d e : Bool) → (e && r && z && (a && b && d)) ≡ (e && (a && r && z && b && d))
 in-order a r z b d false = refl
 in-order true r z b d true = simp and-assoc
 in-order false r z b d true = simp and-false
 
 -- two tests in a row are one of both
-told : (t k : Bool) (p : ℤ) → cond t (cond k (Profit p) (Refused NotKept)) (Refused NotKept) ≡ answered (unless (t && k) NotKept Passed) p
+told : (t k : Bool) (p : ℤ) → cond t (cond k (Profit p) (Refused NotKept)) (Refused NotKept) ≡ assessedBy (unless (t && k) NotKept Passed) p
 told true true p = refl
 told true false p = refl
 told false k p = refl
@@ -70,11 +70,11 @@ told false k p = refl
 module _ (u : UnitRecord) where
   -- outputs of the unit, in runs and off spells that last
   abbrev pub lasting : Bool → ℕ → List ℕ → Bool
-  lasting on spent s = every (isOutput u) s && runsLast (u .mot) on spent s && spellsLast (u .mdt) on spent s
+  lasting on spent s = every (isOutput (u .generator)) s && runsLast (u .generator .mot) on spent s && spellsLast (u .generator .mdt) on spent s
 
   -- what a schedule earns from a state
   abbrev pub profitFrom : Bool → List ℤ → List ℕ → ℤ
-  profitFrom on prices s = earnedIn u prices s -ℤ pos (startCost u * startsIn on s)
+  profitFrom on prices s = earnedIn (u .generator) (u .costs) prices s -ℤ pos (startCost (u .costs) * startsIn on s)
 
   -- ---- one interval of the walk over two slices
 
@@ -103,47 +103,47 @@ module _ (u : UnitRecord) where
   lead true g w a b e f = e ∙ ap (λ (x : Assessed). cond g x (Refused NotKept)) f
   lead false g w a b e f = refl
 
-  same-totals : {a a′ b b′ d d′ : ℕ} {p p′ : ℤ} → a ≡ a′ → b ≡ b′ → d ≡ d′ → p ≡ p′ → settled u a b d p ≡ settled u a′ b′ d′ p′
+  same-totals : {a a′ b b′ d d′ : ℕ} {p p′ : ℤ} → a ≡ a′ → b ≡ b′ → d ≡ d′ → p ≡ p′ → settled (u .limits) a b d p ≡ settled (u .limits) a′ b′ d′ p′
   same-totals e f g h = cc
 
   -- what the walk concludes from any state, of the rest of the schedule
   walk-from : (on : Bool) (spent starts running output : ℕ) (p : ℤ) (prices : List ℤ) (s : List ℕ) → length s ≡ length prices
       → concluded u (walkFrom u (standing on spent starts running output p) prices s)
       ≡ cond (lasting on spent s)
-      (settled u (starts + startsIn on s) (running + onIntervals s) (output + outputSum s) (p +ℤ profitFrom on prices s)) (Refused NotKept)
+      (settled (u .limits) (starts + startsIn on s) (running + onIntervals s) (output + outputSum s) (p +ℤ profitFrom on prices s)) (Refused NotKept)
   unfolding mayFollow stepped
   walk-from on spent starts running output p [] [] e =
-      let f : p +ℤ (pos 0 -ℤ pos (startCost u * 0)) ≡ p = omega (zarith, zdiff (pos 0) (pos (startCost u * 0)), zsum p (pos 0 -ℤ pos (startCost u * 0)), up-pos 0, dn-pos 0, up-pos (startCost u * 0), dn-pos (startCost u * 0)) in
+      let f : p +ℤ (pos 0 -ℤ pos (startCost (u .costs) * 0)) ≡ p = omega (zarith, zdiff (pos 0) (pos (startCost (u .costs) * 0)), zsum p (pos 0 -ℤ pos (startCost (u .costs) * 0)), up-pos 0, dn-pos 0, up-pos (startCost (u .costs) * 0), dn-pos (startCost (u .costs) * 0)) in
       simp (add-zero, f)
   walk-from on spent starts running output p [] (m ∷ s) e = absurd (omega arith)
   walk-from on spent starts running output p (l ∷ ls) [] e = absurd (omega arith)
   walk-from true spent starts running output p (l ∷ ls) (zero ∷ s) e =
-      rw (pull-run true (leb (u .mot) spent) (every (isOutput u) s) (runsLast (u .mot) false 1 s) (spellsLast (u .mdt) false 1 s))
-      (lead (leb (u .mot) spent) (lasting false 1 s) (walkFrom u (standing false 1 starts running output p) ls s) _ _
+      rw (pull-run true (leb (u .generator .mot) spent) (every (isOutput (u .generator)) s) (runsLast (u .generator .mot) false 1 s) (spellsLast (u .generator .mdt) false 1 s))
+      (lead (leb (u .generator .mot) spent) (lasting false 1 s) (walkFrom u (standing false 1 starts running output p) ls s) _ _
       (walk-from false 1 starts running output p ls s (omega arith))
-      (rw (zero-add (outputSum s), +ℤ-idl (earnedIn u ls s))))
+      (rw (zero-add (outputSum s), +ℤ-idl (earnedIn (u .generator) (u .costs) ls s))))
   walk-from false spent starts running output p (l ∷ ls) (zero ∷ s) e =
-      rw (zero-add (outputSum s), +ℤ-idl (earnedIn u ls s), ← add-one spent) (walk-from false (spent + 1) starts running output p ls s (omega arith))
+      rw (zero-add (outputSum s), +ℤ-idl (earnedIn (u .generator) (u .costs) ls s), ← add-one spent) (walk-from false (spent + 1) starts running output p ls s (omega arith))
   walk-from true spent starts running output p (l ∷ ls) (suc m ∷ s) e =
       rw
-      (← add-one spent, pull-run (isOutput u (suc m)) true (every (isOutput u) s) (runsLast (u .mot) true (spent + 1) s) (spellsLast (u .mdt) true (spent + 1) s))
-      (lead (isOutput u (suc m) && true) (lasting true (spent + 1) s) (walkFrom u (standing true (spent + 1) starts (running + 1) (output + suc m) (p +ℤ earned u l (suc m))) ls s) _ _
-      (walk-from true (spent + 1) starts (running + 1) (output + suc m) (p +ℤ earned u l (suc m)) ls s (omega arith))
-      (same-totals refl (omega arith) (omega arith) (sym (gain-next p (earned u l (suc m)) (earnedIn u ls s) (startCost u) (startsIn true s)))))
+      (← add-one spent, pull-run (isOutput (u .generator) (suc m)) true (every (isOutput (u .generator)) s) (runsLast (u .generator .mot) true (spent + 1) s) (spellsLast (u .generator .mdt) true (spent + 1) s))
+      (lead (isOutput (u .generator) (suc m) && true) (lasting true (spent + 1) s) (walkFrom u (standing true (spent + 1) starts (running + 1) (output + suc m) (p +ℤ earned (u .generator) (u .costs) l (suc m))) ls s) _ _
+      (walk-from true (spent + 1) starts (running + 1) (output + suc m) (p +ℤ earned (u .generator) (u .costs) l (suc m)) ls s (omega arith))
+      (same-totals refl (omega arith) (omega arith) (sym (gain-next p (earned (u .generator) (u .costs) l (suc m)) (earnedIn (u .generator) (u .costs) ls s) (startCost (u .costs)) (startsIn true s)))))
   walk-from false spent starts running output p (l ∷ ls) (suc m ∷ s) e =
-      rw (pull-spell (isOutput u (suc m)) (leb (u .mdt) spent) (every (isOutput u) s) (runsLast (u .mot) true 1 s) (spellsLast (u .mdt) true 1 s))
-      (lead (isOutput u (suc m) && leb (u .mdt) spent) (lasting true 1 s) (walkFrom u (standing true 1 (starts + 1) (running + 1) (output + suc m) (p +ℤ (earned u l (suc m) -ℤ pos (startCost u)))) ls s) _ _
-      (walk-from true 1 (starts + 1) (running + 1) (output + suc m) (p +ℤ (earned u l (suc m) -ℤ pos (startCost u))) ls s (omega arith))
-      (same-totals (omega arith) (omega arith) (omega arith) (sym (gain-start p (earned u l (suc m)) (earnedIn u ls s) (startCost u) (startsIn true s)))))
+      rw (pull-spell (isOutput (u .generator) (suc m)) (leb (u .generator .mdt) spent) (every (isOutput (u .generator)) s) (runsLast (u .generator .mot) true 1 s) (spellsLast (u .generator .mdt) true 1 s))
+      (lead (isOutput (u .generator) (suc m) && leb (u .generator .mdt) spent) (lasting true 1 s) (walkFrom u (standing true 1 (starts + 1) (running + 1) (output + suc m) (p +ℤ (earned (u .generator) (u .costs) l (suc m) -ℤ pos (startCost (u .costs))))) ls s) _ _
+      (walk-from true 1 (starts + 1) (running + 1) (output + suc m) (p +ℤ (earned (u .generator) (u .costs) l (suc m) -ℤ pos (startCost (u .costs)))) ls s (omega arith))
+      (same-totals (omega arith) (omega arith) (omega arith) (sym (gain-start p (earned (u .generator) (u .costs) l (suc m)) (earnedIn (u .generator) (u .costs) ls s) (startCost (u .costs)) (startsIn true s)))))
 
   -- what the walk over a whole schedule concludes is what the definitions say
   pub walk-is : (prices : List ℤ) (s : List ℕ) → length s ≡ length prices
-      → concluded u (walkFrom u (opening u) prices s)
-      ≡ answered (unless (isSchedule u (length prices) s && keepsCase u s) NotKept Passed) (profit u prices s)
+      → concluded u (walkFrom u (openingWalk (u .opening)) prices s)
+      ≡ assessedBy (unless (isSchedule (u .generator) (length prices) s && keepsCase u s) NotKept Passed) (profit u prices s)
   walk-is prices s e =
-      walk-from (wasOn u) (u .held) 0 0 0 (pos 0) prices s e
+      walk-from (wasOn (u .opening)) (u .opening .held) 0 0 0 (pos 0) prices s e
       ∙ rw
-      (zero-add (startsIn (wasOn u) s), zero-add (onIntervals s), zero-add (outputSum s), +ℤ-idl (profitFrom (wasOn u) prices s), eq-eqb (length s) (length prices) e)
-      (told (lasting (wasOn u) (u .held) s) (keepsStarts u s && keepsHours u s && keepsMwh u s) (profit u prices s)
-      ∙ ap (λ (t : Bool). answered (unless t NotKept Passed) (profit u prices s))
-      (in-order (keepsStarts u s) (keepsRuns u s) (keepsSpells u s) (keepsHours u s) (keepsMwh u s) (every (isOutput u) s)))
+      (zero-add (startsIn (wasOn (u .opening)) s), zero-add (onIntervals s), zero-add (outputSum s), +ℤ-idl (profitFrom (wasOn (u .opening)) prices s), eq-eqb (length s) (length prices) e)
+      (told (lasting (wasOn (u .opening)) (u .opening .held) s) (keepsStarts u s && keepsHours u s && keepsMwh u s) (profit u prices s)
+      ∙ ap (λ (t : Bool). assessedBy (unless t NotKept Passed) (profit u prices s))
+      (in-order (keepsStarts u s) (keepsRuns u s) (keepsSpells u s) (keepsHours u s) (keepsMwh u s) (every (isOutput (u .generator)) s)))

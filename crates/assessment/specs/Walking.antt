@@ -4,6 +4,9 @@ use mathlib.Core.List.{List, [], _∷_}
 use Prim.Native.Nat.{ℕ, zero, suc, _+_, _^_, _<_}
 use lib.Dec.{leb}
 use lib.IntN.{ℤ, pos, natAbs, _+ℤ_, _-ℤ_}
+use Rattle.commitment.specs.declared.Opening.{Opening}
+use Rattle.commitment.specs.declared.Generator.{Generator}
+use Rattle.commitment.specs.declared.Limits.{Limits}
 use Rattle.commitment.specs.declared.Cause.the-variants.{NotKept}
 use Rattle.commitment.specs.declared.UnitRecord.{UnitRecord}
 use Rattle.commitment.specs.Keeping.{wasOn}
@@ -16,18 +19,18 @@ use Rattle.assessment.specs.declared.Walk.{Walk}
 use Rattle.assessment.specs.declared.Walked.{Walked}
 use Rattle.assessment.specs.declared.Walked.the-variants.{Whole, Broken}
 
-abbrev pub opening : UnitRecord → Walk
-opening u = record { on = wasOn u; spent = u .held; starts = 0; running = 0; output = 0; profit = pos 0 }
+abbrev pub openingWalk : Opening → Walk
+openingWalk o = record { on = wasOn o; spent = o .held; starts = 0; running = 0; output = 0; profit = pos 0 }
 
 -- a run that ends has lasted mot, an off spell that ends mdt
-abbrev pub spellKept : UnitRecord → Bool → ℕ → ℕ → Bool
-spellKept u true spent zero = leb (u .mot) spent
-spellKept u true spent (suc m) = true
-spellKept u false spent zero = true
-spellKept u false spent (suc m) = leb (u .mdt) spent
+abbrev pub spellKept : Generator → Bool → ℕ → ℕ → Bool
+spellKept g true spent zero = leb (g .mot) spent
+spellKept g true spent (suc m) = true
+spellKept g false spent zero = true
+spellKept g false spent (suc m) = leb (g .mdt) spent
 
 unfoldable pub mayFollow : UnitRecord → Walk → ℕ → Bool
-mayFollow u at m = isOutput u m && spellKept u (at .on) (at .spent) m
+mayFollow u at m = isOutput (u .generator) m && spellKept (u .generator) (at .on) (at .spent) m
 
 -- off for so many intervals
 abbrev pub rested : Walk → ℕ → Walk
@@ -42,8 +45,8 @@ ran at spent starts m gain =
 abbrev pub advanced : UnitRecord → Walk → ℤ → Bool → ℕ → Walk
 advanced u at price true zero = rested at 1
 advanced u at price false zero = rested at (at .spent + 1)
-advanced u at price true (suc m) = ran at (at .spent + 1) (at .starts) (suc m) (earned u price (suc m))
-advanced u at price false (suc m) = ran at 1 (at .starts + 1) (suc m) (earned u price (suc m) -ℤ pos (startCost u))
+advanced u at price true (suc m) = ran at (at .spent + 1) (at .starts) (suc m) (earned (u .generator) (u .costs) price (suc m))
+advanced u at price false (suc m) = ran at 1 (at .starts + 1) (suc m) (earned (u .generator) (u .costs) price (suc m) -ℤ pos (startCost (u .costs)))
 
 unfoldable pub stepped : UnitRecord → Walk → ℤ → ℕ → Walk
 stepped u at price m = advanced u at price (at .on) m
@@ -55,12 +58,12 @@ walkFrom u at (price ∷ prices) [] = Whole at
 walkFrom u at (price ∷ prices) (m ∷ s) = cond (mayFollow u at m) (walkFrom u (stepped u at price m) prices s) Broken
 
 -- what the limitations say of the totals
-abbrev pub settled : UnitRecord → ℕ → ℕ → ℕ → ℤ → Assessed
-settled u starts running output p =
-    cond (within 1 starts (u .starts) && within 4 running (u .hours) && within 4 output (u .mwh)) (Profit p) (Refused NotKept)
+abbrev pub settled : Limits → ℕ → ℕ → ℕ → ℤ → Assessed
+settled limits starts running output p =
+    cond (within 1 starts (limits .starts) && within 4 running (limits .hours) && within 4 output (limits .mwh)) (Profit p) (Refused NotKept)
 
 abbrev pub concluded : UnitRecord → Walked → Assessed
-concluded u (Whole at) = settled u (at .starts) (at .running) (at .output) (at .profit)
+concluded u (Whole at) = settled (u .limits) (at .starts) (at .running) (at .output) (at .profit)
 concluded u Broken = Refused NotKept
 
 -- sizes that leave room for one interval more

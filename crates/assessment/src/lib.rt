@@ -1,7 +1,9 @@
-// A schedule handed in: its profit, or why it is refused. One pass over the two slices.
+// A schedule handed in: its profit, or why it is refused. One pass over the two slices; proofs/ has its laws (Walking, Intervals, Bounds) and what it
+// says of a schedule that it was passed (Passed).
 
 use commitment::Cause;
 use commitment::Checked;
+use commitment::Generator;
 use commitment::Limit;
 use commitment::UnitRecord;
 ghost use mathlib.Core.Path.{_≡_};
@@ -12,10 +14,11 @@ ghost use lib.ListN.{length};
 ghost use Rattle.commitment.specs.declared.Checked.the-variants as checked;
 ghost use Rattle.commitment.specs.Limits.{within, limitKept};
 ghost use Rattle.commitment.specs.Profit as profits;
-ghost use Rattle.commitment.specs.Ranges.{caseChecked, rangesKept, shapeKept};
+ghost use Rattle.commitment.specs.Bounds.{mostMw, mostMwh, mostPrice};
+ghost use Rattle.commitment.specs.Ranges.{generatorKept, rangesKept, shapeKept, pricesKept, caseChecked};
 ghost use Rattle.commitment.specs.Schedule.{isOutput};
-ghost use Rattle.assessment.specs.Assessed.{assessed, answered, handedIn, assessedNumber, assessedProfit};
-ghost use Rattle.assessment.specs.Walking.{opening, spellKept, mayFollow, stepped, walkFrom, settled, concluded, Small};
+ghost use Rattle.assessment.specs.Assessed.{assessed, assessedBy, handedIn, assessedNumber, assessedProfit};
+ghost use Rattle.assessment.specs.Walking.{openingWalk, spellKept, mayFollow, stepped, walkFrom, settled, concluded, Small};
 ghost use Rattle.assessment.specs.Walking as walking;
 
 pub enum Assessed {
@@ -42,7 +45,8 @@ pub enum Walked {
 pub fn assess(unit: UnitRecord, prices: &[i64], schedule: &[u64]) -> Assessed
     ensures { λ r. ⌜ r ≡ assessed unit (now (prices .entry)) (now (schedule .entry)) ⌝ }
 {
-    match commitment::check_case(unit, prices) {
+    let priced = commitment::prices_kept(prices);
+    match commitment::check_case(unit, priced, prices.len()) {
         Checked::Refused(cause) => Assessed::Refused(cause),
         Checked::Passed => of_case(unit, prices, schedule),
     }
@@ -69,8 +73,8 @@ pub fn profit_of(answer: Assessed) -> i64
 }
 
 fn of_case(unit: UnitRecord, prices: &[i64], schedule: &[u64]) -> Assessed
-    requires { ⌜ caseChecked unit (now prices) ≡ checked.Passed ⌝ }
-    ensures { λ r. ⌜ r ≡ answered (handedIn unit (now (prices .entry)) (now (schedule .entry))) (profits.profit unit (now (prices .entry)) (now (schedule .entry))) ⌝ }
+    requires { ⌜ caseChecked unit (pricesKept (now prices)) (length (now prices)) ≡ checked.Passed ⌝ }
+    ensures { λ r. ⌜ r ≡ assessedBy (handedIn unit (now (prices .entry)) (now (schedule .entry))) (profits.profit unit (now (prices .entry)) (now (schedule .entry))) ⌝ }
 {
     if schedule.len() != prices.len() {
         return Assessed::Refused(Cause::Length);
@@ -91,11 +95,12 @@ fn conclude(unit: UnitRecord, walked: Walked) -> Assessed
 
 fn settle(unit: UnitRecord, at: Walk) -> Assessed
     requires { ⌜ rangesKept unit ≡ true ⌝ }
-    ensures { λ r. ⌜ r ≡ settled unit (at .starts) (at .running) (at .output) (at .profit) ⌝ }
+    ensures { λ r. ⌜ r ≡ settled (unit .limits) (at .starts) (at .running) (at .output) (at .profit) ⌝ }
 {
-    let starts = unit.starts;
-    let hours = unit.hours;
-    let mwh = unit.mwh;
+    let limits = unit.limits;
+    let starts = limits.starts;
+    let hours = limits.hours;
+    let mwh = limits.mwh;
     if within_limit(1, at.starts, starts)
         & within_limit(4, at.running, hours)
         & within_limit(4, at.output, mwh)
@@ -108,7 +113,7 @@ fn settle(unit: UnitRecord, at: Walk) -> Assessed
 // The number of a limitation in range is small, so its product with a unit of 1 or 4 fits.
 fn within_limit(worth: u64, count: u64, limit: Limit) -> bool
     requires { ⌜ worth ≤ 4 ⌝ }
-    requires { ⌜ limitKept 372000 limit ≡ true ⌝ }
+    requires { ⌜ limitKept mostMwh limit ≡ true ⌝ }
     ensures { λ r. ⌜ r ≡ within worth count limit ⌝ }
 {
     match limit {
@@ -119,9 +124,9 @@ fn within_limit(worth: u64, count: u64, limit: Limit) -> bool
 
 // Interval by interval, to the end or to the first output that may not follow.
 fn walk_whole(unit: UnitRecord, prices: &[i64], schedule: &[u64]) -> Walked
-    requires { ⌜ caseChecked unit (now prices) ≡ checked.Passed ⌝ }
+    requires { ⌜ caseChecked unit (pricesKept (now prices)) (length (now prices)) ≡ checked.Passed ⌝ }
     requires { ⌜ length (now schedule) ≡ length (now prices) ⌝ }
-    ensures { λ r. ⌜ r ≡ walkFrom unit (opening unit) (now (prices .entry)) (now (schedule .entry)) ⌝ }
+    ensures { λ r. ⌜ r ≡ walkFrom unit (openingWalk (unit .opening)) (now (prices .entry)) (now (schedule .entry)) ⌝ }
 {
     let mut at = open(unit);
     let mut i = 0;
@@ -137,11 +142,12 @@ fn walk_whole(unit: UnitRecord, prices: &[i64], schedule: &[u64]) -> Walked
 }
 
 fn open(unit: UnitRecord) -> Walk
-    ensures { λ r. ⌜ r ≡ opening unit ⌝ }
+    ensures { λ r. ⌜ r ≡ openingWalk (unit .opening) ⌝ }
 {
+    let opening = unit.opening;
     Walk {
-        on: unit.was == 1,
-        spent: unit.held,
+        on: opening.was == 1,
+        spent: opening.held,
         starts: 0,
         running: 0,
         output: 0,
@@ -151,43 +157,42 @@ fn open(unit: UnitRecord) -> Walk
 
 // It is an output of the unit, and the run or off spell that it ends was long enough.
 fn may_follow(unit: UnitRecord, at: Walk, output: u64) -> bool
-    requires { ⌜ (rangesKept unit ≡ true) × (shapeKept unit ≡ true) ⌝ }
+    requires { ⌜ rangesKept unit ≡ true ⌝ }
     ensures { λ r. ⌜ r ≡ mayFollow unit at output ⌝ }
 {
-    is_output(unit, output) & spell_kept(unit, at.on, at.spent, output)
+    let g = unit.generator;
+    is_output(g, output) & spell_kept(g, at.on, at.spent, output)
 }
 
-fn is_output(unit: UnitRecord, output: u64) -> bool
-    requires { ⌜ (rangesKept unit ≡ true) × (shapeKept unit ≡ true) ⌝ }
-    ensures { λ r. ⌜ r ≡ isOutput unit output ⌝ }
+fn is_output(g: Generator, output: u64) -> bool
+    requires { ⌜ generatorKept g ≡ true ⌝ }
+    ensures { λ r. ⌜ r ≡ isOutput g output ⌝ }
 {
     if output == 0 {
         return true;
     }
-    (output % unit.block == 0)
-        & (unit.pmin * unit.block <= output)
-        & (output <= unit.pmax * unit.block)
+    (output % g.block == 0) & (g.pmin * g.block <= output) & (output <= g.pmax * g.block)
 }
 
-fn spell_kept(unit: UnitRecord, on: bool, spent: u64, output: u64) -> bool
-    ensures { λ r. ⌜ r ≡ spellKept unit on spent output ⌝ }
+fn spell_kept(g: Generator, on: bool, spent: u64, output: u64) -> bool
+    ensures { λ r. ⌜ r ≡ spellKept g on spent output ⌝ }
 {
     if output == 0 {
         if on {
-            return unit.mot <= spent;
+            return g.mot <= spent;
         }
         return true;
     }
     if on {
         return true;
     }
-    unit.mdt <= spent
+    g.mdt <= spent
 }
 
 // One interval more.
 fn step(unit: UnitRecord, at: Walk, price: i64, output: u64) -> Walk
-    requires { ⌜ (rangesKept unit ≡ true) × (shapeKept unit ≡ true) ⌝ }
-    requires { ⌜ (natAbs price ≤ 200000) × (output ≤ 500) ⌝ }
+    requires { ⌜ (rangesKept unit ≡ true) × (shapeKept (unit .generator) ≡ true) ⌝ }
+    requires { ⌜ (natAbs price ≤ mostPrice) × (output ≤ mostMw) ⌝ }
     requires { ⌜ Small at ⌝ }
     ensures { λ r. ⌜ r ≡ stepped unit at price output ⌝ }
 {
@@ -197,7 +202,9 @@ fn step(unit: UnitRecord, at: Walk, price: i64, output: u64) -> Walk
         }
         return rested(at, at.spent + 1);
     }
-    let gain = commitment::margin(price, output, unit.vec, unit.pmin * unit.block, unit.mlc);
+    let g = unit.generator;
+    let k = unit.costs;
+    let gain = commitment::margin(price, output, k.vec, g.pmin * g.block, k.mlc);
     if at.on {
         return ran(at, at.spent + 1, at.starts, output, gain);
     }
@@ -206,7 +213,7 @@ fn step(unit: UnitRecord, at: Walk, price: i64, output: u64) -> Walk
         1,
         at.starts + 1,
         output,
-        gain - integers::signed(4 * unit.suc),
+        gain - integers::signed(4 * k.suc),
     )
 }
 
@@ -225,7 +232,7 @@ fn rested(at: Walk, spent: u64) -> Walk
 
 fn ran(at: Walk, spent: u64, starts: u64, output: u64, gain: i64) -> Walk
     requires { ⌜ Small at ⌝ }
-    requires { ⌜ (output ≤ 500) × (natAbs gain < 2 ^ 60) ⌝ }
+    requires { ⌜ (output ≤ mostMw) × (natAbs gain < 2 ^ 60) ⌝ }
     ensures { λ r. ⌜ r ≡ walking.ran at spent starts output gain ⌝ }
 {
     Walk {

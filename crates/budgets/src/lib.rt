@@ -1,40 +1,66 @@
 // From the record of a unit to what the table counts in: figures and budgets, the opening cell, the cells needed.
 
+use commitment::Generator;
 use commitment::Limit;
+use commitment::Limitation;
 use commitment::UnitRecord;
+use optimality::Cell;
 use optimality::Figures;
 ghost use mathlib.Core.Path.{_≡_};
 ghost use mathlib.Core.Bool.{true};
-ghost use Prim.Native.Nat.{_+_, _*_, _/_, _≤_, min};
-ghost use Rattle.commitment.specs.Cells.{counted, cellsNeeded};
+ghost use Prim.Native.Nat.{_≤_};
+ghost use Rattle.commitment.specs.Bounds.{mostMwh, mostIntervals};
+ghost use Rattle.commitment.specs.Cells.{inCounts, mostCounts, cellsNeeded};
+ghost use Rattle.commitment.specs.Cells as cells;
 ghost use Rattle.commitment.specs.Limits.{limitKept};
-ghost use Rattle.commitment.specs.Ranges.{rangesKept, shapeKept};
+ghost use Rattle.commitment.specs.Ranges.{generatorKept, rangesKept, InOrder};
 ghost use Rattle.commitment.specs.Valuing as valuing;
-ghost use Rattle.optimality.specs.Cells.{takenOf, figuresOf, openingState, Sound, states};
+ghost use Rattle.optimality.specs.Cells.{takenOf, figuresOf, openingState, openingCell};
 
 // The figures of a case of n intervals, with the most that a cell can have left of each limitation.
 pub fn figures_of(unit: UnitRecord, n: usize) -> Figures
-    requires { ⌜ (rangesKept unit ≡ true) × (shapeKept unit ≡ true) × (n ≤ 2976) ⌝ }
+    requires { ⌜ InOrder unit n ⌝ }
     ensures { λ r. ⌜ r ≡ figuresOf unit n ⌝ }
 {
-    let starts = unit.starts;
-    let hours = unit.hours;
-    let mwh = unit.mwh;
+    let g = unit.generator;
+    let k = unit.costs;
+    let limits = unit.limits;
+    let starts = limits.starts;
+    let hours = limits.hours;
+    let mwh = limits.mwh;
     Figures {
-        block: unit.block as usize,
-        pmin: unit.pmin as usize,
-        pmax: unit.pmax as usize,
-        mot: unit.mot as usize,
-        mdt: unit.mdt as usize,
-        vec: unit.vec as usize,
-        mlc: unit.mlc as usize,
-        suc: unit.suc as usize,
+        block: g.block as usize,
+        pmin: g.pmin as usize,
+        pmax: g.pmax as usize,
+        mot: g.mot as usize,
+        mdt: g.mdt as usize,
+        vec: k.vec as usize,
+        mlc: k.mlc as usize,
+        suc: k.suc as usize,
         perstart: taken(starts),
         peron: taken(hours),
         perblock: taken(mwh),
-        starts: starts_count(starts, n),
-        ons: hours_count(hours, n),
-        blocks: mwh_count(mwh, unit.block, n * (unit.pmax as usize)),
+        starts: counted(g, n, Limitation::Starts, starts),
+        ons: counted(g, n, Limitation::Hours, hours),
+        blocks: counted(g, n, Limitation::Mwh, mwh),
+    }
+}
+
+// The cell before interval 1.
+pub fn opening_cell(unit: UnitRecord, n: usize) -> Cell
+    requires { ⌜ InOrder unit n ⌝ }
+    ensures { λ r. ⌜ r ≡ openingCell unit n ⌝ }
+{
+    let g = unit.generator;
+    let limits = unit.limits;
+    let starts = limits.starts;
+    let hours = limits.hours;
+    let mwh = limits.mwh;
+    Cell {
+        state: opening_state(unit),
+        starts: counted(g, n, Limitation::Starts, starts),
+        ons: counted(g, n, Limitation::Hours, hours),
+        blocks: counted(g, n, Limitation::Mwh, mwh),
     }
 }
 
@@ -48,67 +74,53 @@ fn taken(limit: Limit) -> usize
     }
 }
 
-fn starts_count(limit: Limit, n: usize) -> usize
-    ensures { λ r. ⌜ r ≡ counted (λ starts. starts) n limit ⌝ }
+// What a limitation comes to over n intervals, no further than they can use.
+fn counted(g: Generator, n: usize, which: Limitation, limit: Limit) -> usize
+    requires { ⌜ (generatorKept g ≡ true) × (n ≤ mostIntervals) × (limitKept mostMwh limit ≡ true) ⌝ }
+    ensures { λ r. ⌜ r ≡ cells.counted g n which limit ⌝ }
 {
     match limit {
         Limit::None => 0,
-        Limit::At(starts) => starts_left(starts, n),
+        Limit::At(figure) => {
+            integers::smaller(in_counts(g, which, figure), most_counts(g, which, n))
+        }
     }
 }
 
-fn hours_count(limit: Limit, n: usize) -> usize
-    requires { ⌜ limitKept 744 limit ≡ true ⌝ }
-    ensures { λ r. ⌜ r ≡ counted (λ hours. 4 * hours) n limit ⌝ }
+// A figure in starts, in on-intervals, in whole blocks of one interval.
+fn in_counts(g: Generator, which: Limitation, figure: u64) -> usize
+    requires { ⌜ (generatorKept g ≡ true) × (figure ≤ mostMwh) ⌝ }
+    ensures { λ r. ⌜ r ≡ inCounts g which figure ⌝ }
 {
-    match limit {
-        Limit::None => 0,
-        Limit::At(hours) => hours_left(hours, n),
+    match which {
+        Limitation::Starts => figure as usize,
+        Limitation::Hours => (4 * figure) as usize,
+        Limitation::Mwh => (4 * figure / g.block) as usize,
     }
 }
 
-fn mwh_count(limit: Limit, block: u64, most: usize) -> usize
-    requires { ⌜ (limitKept 372000 limit ≡ true) × (1 ≤ block) ⌝ }
-    ensures { λ r. ⌜ r ≡ counted (λ mwh. 4 * mwh / block) most limit ⌝ }
+fn most_counts(g: Generator, which: Limitation, n: usize) -> usize
+    requires { ⌜ (generatorKept g ≡ true) × (n ≤ mostIntervals) ⌝ }
+    ensures { λ r. ⌜ r ≡ mostCounts g which n ⌝ }
 {
-    match limit {
-        Limit::None => 0,
-        Limit::At(mwh) => mwh_left(mwh, block, most),
+    match which {
+        Limitation::Starts => n,
+        Limitation::Hours => n,
+        Limitation::Mwh => n * (g.pmax as usize),
     }
-}
-
-// So many starts, of which n intervals can take n.
-pub fn starts_left(starts: u64, n: usize) -> usize
-    ensures { λ r. ⌜ r ≡ min starts n ⌝ }
-{
-    integers::smaller(starts as usize, n)
-}
-
-// So many hours, as on-intervals.
-pub fn hours_left(hours: u64, n: usize) -> usize
-    requires { ⌜ hours ≤ 744 ⌝ }
-    ensures { λ r. ⌜ r ≡ min (4 * hours) n ⌝ }
-{
-    integers::smaller((4 * hours) as usize, n)
-}
-
-// So many MWh, as whole blocks of one interval.
-pub fn mwh_left(mwh: u64, block: u64, most: usize) -> usize
-    requires { ⌜ (mwh ≤ 372000) × (1 ≤ block) ⌝ }
-    ensures { λ r. ⌜ r ≡ min (4 * mwh / block) most ⌝ }
-{
-    integers::smaller((4 * mwh / block) as usize, most)
 }
 
 // The state before interval 1, as the table numbers states.
-pub fn opening_state(unit: UnitRecord) -> usize
+fn opening_state(unit: UnitRecord) -> usize
     requires { ⌜ rangesKept unit ≡ true ⌝ }
     ensures { λ r. ⌜ r ≡ openingState unit ⌝ }
 {
-    let held = unit.held as usize;
-    let mot = unit.mot as usize;
-    let mdt = unit.mdt as usize;
-    if unit.was == 1 {
+    let g = unit.generator;
+    let opening = unit.opening;
+    let held = opening.held as usize;
+    let mot = g.mot as usize;
+    let mdt = g.mdt as usize;
+    if opening.was == 1 {
         return integers::smaller(held, mot) - 1;
     }
     mot + integers::smaller(held, mdt) - 1
@@ -116,24 +128,16 @@ pub fn opening_state(unit: UnitRecord) -> usize
 
 // "lowered to nine tenths, rounded down"
 pub fn lowered(figure: u64) -> u64
-    requires { ⌜ figure ≤ 372000 ⌝ }
+    requires { ⌜ figure ≤ mostMwh ⌝ }
     ensures { λ r. ⌜ r ≡ valuing.lowered figure ⌝ }
 {
     9 * figure / 10
 }
 
-// The cells of one interval.
-pub fn layer_cells(f: Figures) -> usize
-    requires { ⌜ Sound f ⌝ }
-    ensures { λ r. ⌜ r ≡ states f * (f .starts + 1) * (f .ons + 1) * (f .blocks + 1) ⌝ }
-{
-    (f.mot + f.mdt) * (f.starts + 1) * (f.ons + 1) * (f.blocks + 1)
-}
-
-// The cells of scratch that a case of n intervals needs: at the ends of all ranges 7.6 × 10^18, which fits.
+// The cells of scratch that a case of n intervals needs.
 pub fn cells_needed(unit: UnitRecord, n: usize) -> usize
-    requires { ⌜ (rangesKept unit ≡ true) × (shapeKept unit ≡ true) × (n ≤ 2976) ⌝ }
+    requires { ⌜ InOrder unit n ⌝ }
     ensures { λ r. ⌜ r ≡ cellsNeeded unit n ⌝ }
 {
-    (n + 1) * layer_cells(figures_of(unit, n))
+    geometry::table_cells(figures_of(unit, n), n)
 }

@@ -1,24 +1,26 @@
--- The lowest cause of a text, by the tests in order; and what the answer and the slice then are.
-use mathlib.Core.Path.{_≡_, refl, ap}
+-- The first cause of a text, by the tests in order; and what the answer and the slice then are.
+use mathlib.Core.Path.{_≡_, refl, sym, ap, _∙_}
 use mathlib.Core.Bool.{Bool, true, false, _&&_}
 use mathlib.Core.List.{List, [], _∷_, _++_, map}
-use Prim.Native.Nat.{ℕ, _≤_, _<_}
+use Prim.Native.Nat.{ℕ, _≤_}
 use native.Mathlib.Omega.{arith}
 use lib.Dec.{leb}
 use lib.IntN.{ℤ}
 use lib.ListN.{length, take, drop}
 use lib.Seq.{take-append-seam}
-use borrow.Author.Tests.{le-leb, lt-leb, leb-true}
+use borrow.Author.Tests.{leb-true}
 use Rattle.commitment.specs.declared.Cause.{Cause}
-use Rattle.commitment.specs.declared.Cause.the-variants.{Form, Name, Range, Shape, Horizon, Length}
+use Rattle.commitment.specs.declared.Cause.the-variants.{Form, Name, Length}
 use Rattle.commitment.specs.declared.Checked.{Checked}
 use Rattle.commitment.specs.declared.Checked.the-variants.{Passed, Refused}
-use Rattle.commitment.specs.Ranges.{every, rangesKept, pricesKept, shapeKept, horizonKept, caseChecked}
-use Rattle.commitment.proofs.Passing.{unless-passed, then-passed}
+use Rattle.commitment.specs.Ranges.{pricesKept, caseChecks, caseChecked}
+use Rattle.lists.specs.Every.{every}
+use Rattle.commitment.specs.Causes.{_else_, firstOf}
+use Rattle.commitment.proofs.Causes.{checkedThen, in-turn, unless-passed, then-passed}
 use Rattle.casefile.specs.declared.CaseRead.the-variants as answer
-use Rattle.casefile.specs.Answers.{answered, filled, frontPart, readCase, readPrices, readPart, readCount}
+use Rattle.casefile.specs.Answers.{readBy, pricesLeft, frontPart, readCase, readPrices, readPart, readCount}
 use Rattle.casetext.specs.Form.{formKept, namesKept}
-use Rattle.casefile.specs.Reading.{unitIn, pricesIn, caseKept, textChecked}
+use Rattle.casefile.specs.Reading.{unitIn, pricesIn, valuesChecked, textChecked}
 
 module _ (text : List ℕ) (room : ℕ) where
   -- ---- 1 and 2
@@ -31,49 +33,33 @@ module _ (text : List ℕ) (room : ℕ) where
   unfolding textChecked
   wrong-names f n = rw (f, n)
 
-  pub values-decide : formKept text ≡ true → namesKept text ≡ true → caseKept text room ≡ textChecked text room
-  unfolding textChecked
+  pub values-decide : formKept text ≡ true → namesKept text ≡ true → valuesChecked text room ≡ textChecked text room
+  unfolding textChecked valuesChecked
   values-decide f n = rw (f, n)
 
-  -- ---- 3, 4, 5 and 7
+  -- ---- those of the case, and 7
 
-  abbrev ranged : Bool
-  ranged = rangesKept (unitIn text) && pricesKept (pricesIn text)
+  abbrev pub case-checked : Checked
+  case-checked = caseChecked (unitIn text) (pricesKept (pricesIn text)) (length (pricesIn text))
 
-  pub wrong-range : ranged ≡ false → Refused Range ≡ caseKept text room
-  unfolding caseKept caseChecked
-  wrong-range r = rw r
-
-  pub wrong-shape : ranged ≡ true → shapeKept (unitIn text) ≡ false → Refused Shape ≡ caseKept text room
-  unfolding caseKept caseChecked
-  wrong-shape r s = rw (r, s)
-
-  pub wrong-horizon : ranged ≡ true → shapeKept (unitIn text) ≡ true → horizonKept (length (pricesIn text)) ≡ false → Refused Horizon ≡ caseKept text room
-  unfolding caseKept caseChecked
-  wrong-horizon r s h = rw (r, s, h)
-
-  pub no-room : ranged ≡ true → shapeKept (unitIn text) ≡ true → horizonKept (length (pricesIn text)) ≡ true → room < length (pricesIn text) → Refused Length ≡ caseKept text room
-  unfolding caseKept caseChecked
-  no-room r s h n = rw (r, s, h, lt-leb (length (pricesIn text)) room n)
-
-  pub all-kept : ranged ≡ true → shapeKept (unitIn text) ≡ true → horizonKept (length (pricesIn text)) ≡ true → length (pricesIn text) ≤ room → Passed ≡ caseKept text room
-  unfolding caseKept caseChecked
-  all-kept r s h n = rw (r, s, h, le-leb (length (pricesIn text)) room n)
+  pub values-turn : valuesChecked text room ≡ checkedThen case-checked (firstOf ((leb (length (pricesIn text)) room else Length) ∷ []))
+  unfolding valuesChecked caseChecked
+  values-turn = in-turn (caseChecks (unitIn text) (pricesKept (pricesIn text)) (length (pricesIn text))) ((leb (length (pricesIn text)) room else Length) ∷ [])
 
   -- ---- a text that is not refused
 
   pub record TextPassed : Type 0 where
     pub form : formKept text ≡ true
     pub names : namesKept text ≡ true
-    pub checks : caseChecked (unitIn text) (pricesIn text) ≡ Passed
+    pub checks : caseChecked (unitIn text) (pricesKept (pricesIn text)) (length (pricesIn text)) ≡ Passed
     pub fits : length (pricesIn text) ≤ room
 
   pub text-passed : textChecked text room ≡ Passed → TextPassed
-  unfolding textChecked caseKept
+  unfolding textChecked valuesChecked
   text-passed e =
       let f = unless-passed (formKept text) Form _ e in
       let n = unless-passed (namesKept text) Name _ (f .1) in
-      let c = then-passed (caseChecked (unitIn text) (pricesIn text)) _ (n .1) in
+      let c = then-passed case-checked _ (sym values-turn ∙ n .1) in
       let r = unless-passed (leb (length (pricesIn text)) room) Length Passed (c .1) in
       record { form = f .0; names = n .0; checks = c .0; fits = leb-true (length (pricesIn text)) room (r .0) }
 
@@ -97,7 +83,7 @@ module _ (text : List ℕ) (slice : List ℤ) where
   unfolding readCase
   part-fits = go (textChecked text (length slice)) refl
     where
-      go : (k : Checked) → textChecked text (length slice) ≡ k → readCount (answered k (unitIn text) (length (pricesIn text))) ≤ length slice
+      go : (k : Checked) → textChecked text (length slice) ≡ k → readCount (readBy k (unitIn text) (length (pricesIn text))) ≤ length slice
       go Passed e = text-passed text (length slice) e .fits
       go (Refused cause) e = omega arith
 
@@ -105,7 +91,7 @@ module _ (text : List ℕ) (slice : List ℤ) where
   unfolding readCase readPrices readPart
   part-read = go (textChecked text (length slice))
     where
-      go : (k : Checked) → take (readCount (answered k (unitIn text) (length (pricesIn text)))) (filled k (pricesIn text) slice) ≡ frontPart k (pricesIn text)
+      go : (k : Checked) → take (readCount (readBy k (unitIn text) (length (pricesIn text)))) (pricesLeft k (pricesIn text) slice) ≡ frontPart k (pricesIn text)
       go Passed = take-append-seam (pricesIn text) (drop (length (pricesIn text)) slice)
       go (Refused cause) = refl
 

@@ -13,14 +13,14 @@ use Rattle.casefile.specs.declared.CaseRead.{CaseRead}
 use Rattle.casefile.specs.declared.CaseRead.the-variants.{Case, Refused}
 use Rattle.casefile.specs.Reading.{unitIn, pricesIn, textChecked}
 
-abbrev pub answered : Checked → UnitRecord → ℕ → CaseRead
-answered Passed unit count = Case unit count
-answered (checked.Refused cause) unit count = Refused cause
+abbrev pub readBy : Checked → UnitRecord → ℕ → CaseRead
+readBy Passed unit count = Case unit count
+readBy (checked.Refused cause) unit count = Refused cause
 
--- the filled part in front, and what lies past it as it was; on a refusal all as it was
-abbrev pub filled : Checked → List ℤ → List ℤ → List ℤ
-filled Passed prices slice = prices ++ drop (length prices) slice
-filled (checked.Refused cause) prices slice = slice
+-- the prices in front, and what lies past them as it was; on a refusal all as it was
+abbrev pub pricesLeft : Checked → List ℤ → List ℤ → List ℤ
+pricesLeft Passed prices slice = prices ++ drop (length prices) slice
+pricesLeft (checked.Refused cause) prices slice = slice
 
 -- "a part that comes back is empty" on a refusal
 abbrev pub frontPart : Checked → List ℤ → List ℤ
@@ -29,10 +29,10 @@ frontPart (checked.Refused cause) prices = []
 
 -- of a text and a slice with room for so many prices
 unfoldable pub readCase : List ℕ → ℕ → CaseRead
-readCase text room = answered (textChecked text room) (unitIn text) (length (pricesIn text))
+readCase text room = readBy (textChecked text room) (unitIn text) (length (pricesIn text))
 
 unfoldable pub readPrices : List ℕ → List ℤ → List ℤ
-readPrices text slice = filled (textChecked text (length slice)) (pricesIn text) slice
+readPrices text slice = pricesLeft (textChecked text (length slice)) (pricesIn text) slice
 
 unfoldable pub readPart : List ℕ → ℕ → List ℤ
 readPart text room = frontPart (textChecked text room) (pricesIn text)
@@ -42,19 +42,10 @@ readPart text room = frontPart (textChecked text room) (pricesIn text)
 abbrev pub noUnit : UnitRecord
 noUnit =
     record {
-      block = 0;
-      pmin = 0;
-      pmax = 0;
-      mot = 0;
-      mdt = 0;
-      was = 0;
-      held = 0;
-      vec = 0;
-      mlc = 0;
-      suc = 0;
-      starts = None;
-      hours = None;
-      mwh = None;
+      generator = record { block = 0; pmin = 0; pmax = 0; mot = 0; mdt = 0 };
+      costs = record { vec = 0; mlc = 0; suc = 0 };
+      opening = record { was = 0; held = 0 };
+      limits = record { starts = None; hours = None; mwh = None };
     }
 
 abbrev pub readNumber : CaseRead → ℕ

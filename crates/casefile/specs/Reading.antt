@@ -1,21 +1,24 @@
--- The case that a text holds: the record, the prices, and the lowest cause for which the text is refused.
-use mathlib.Core.List.{List, map}
+-- The case that a text holds: the record, the prices, and the first cause for which the text is refused.
+use mathlib.Core.List.{List, [], _∷_, _++_, map}
 use Prim.Native.Nat.{ℕ}
 use lib.Dec.{leb}
 use lib.IntN.{ℤ, pos, negsuc}
 use lib.ListN.{length}
 use Rattle.commitment.specs.declared.Cause.the-variants.{Form, Name, Length}
 use Rattle.commitment.specs.declared.Checked.{Checked}
-use Rattle.commitment.specs.declared.Checked.the-variants.{Passed}
 use Rattle.commitment.specs.declared.Limit.{Limit}
 use Rattle.commitment.specs.declared.Limit.the-variants.{None, At}
+use Rattle.commitment.specs.declared.Generator.{Generator}
+use Rattle.commitment.specs.declared.Costs.{Costs}
+use Rattle.commitment.specs.declared.Opening.{Opening}
+use Rattle.commitment.specs.declared.Limits.{Limits}
 use Rattle.commitment.specs.declared.UnitRecord.{UnitRecord}
-use Rattle.commitment.specs.Causes.{unless, checkedThen}
-use Rattle.commitment.specs.Ranges.{caseChecked}
-use Rattle.lines.specs.declared.Value.{Value}
-use Rattle.lines.specs.declared.Value.the-variants.{Malformed, WordNone, Number}
-use Rattle.lines.specs.Pieces.{fieldsOf}
-use Rattle.lines.specs.Tables.{under}
+use Rattle.commitment.specs.Causes.{Check, _else_, firstOf}
+use Rattle.commitment.specs.Ranges.{pricesKept, caseChecks}
+use Rattle.tabletext.specs.declared.Value.{Value}
+use Rattle.tabletext.specs.declared.Value.the-variants.{Malformed, WordNone, Number}
+use Rattle.tabletext.specs.Pieces.{fieldsOf}
+use Rattle.tabletext.specs.Tables.{under}
 use Rattle.casetext.specs.Form.{unitHead, unitRow, priceHead, priceRows, formKept, namesKept}
 use Rattle.casetext.specs.Names.{blockName, pminName, pmaxName, motName, mdtName, wasName, heldName, vecName, mlcName, sucName, startsName, hoursName, mwhName, priceName}
 
@@ -43,24 +46,28 @@ centsOf Malformed = pos beyond
 centsOf WordNone = pos beyond
 centsOf (Number z) = z
 
--- "each field is the value under its name"
-abbrev pub unitOf : List (List ℕ) → List (List ℕ) → UnitRecord
-unitOf names values =
-    record {
-      block = wholeOf (under blockName names values);
-      pmin = wholeOf (under pminName names values);
-      pmax = wholeOf (under pmaxName names values);
-      mot = wholeOf (under motName names values);
-      mdt = wholeOf (under mdtName names values);
-      was = wholeOf (under wasName names values);
-      held = wholeOf (under heldName names values);
-      vec = wholeOf (under vecName names values);
-      mlc = wholeOf (under mlcName names values);
-      suc = wholeOf (under sucName names values);
-      starts = limitOf (under startsName names values);
-      hours = limitOf (under hoursName names values);
-      mwh = limitOf (under mwhName names values);
-    }
+-- "each field is the value under its name", group by group
+module _ (names values : List (List ℕ)) where
+  abbrev whole : List ℕ → ℕ
+  whole name = wholeOf (under name names values)
+
+  abbrev limit : List ℕ → Limit
+  limit name = limitOf (under name names values)
+
+  abbrev pub generatorOf : Generator
+  generatorOf = record { block = whole blockName; pmin = whole pminName; pmax = whole pmaxName; mot = whole motName; mdt = whole mdtName }
+
+  abbrev pub costsOf : Costs
+  costsOf = record { vec = whole vecName; mlc = whole mlcName; suc = whole sucName }
+
+  abbrev pub openingOf : Opening
+  openingOf = record { was = whole wasName; held = whole heldName }
+
+  abbrev pub limitsOf : Limits
+  limitsOf = record { starts = limit startsName; hours = limit hoursName; mwh = limit mwhName }
+
+  abbrev pub unitOf : UnitRecord
+  unitOf = record { generator = generatorOf; costs = costsOf; opening = openingOf; limits = limitsOf }
 
 unfoldable pub unitIn : List ℕ → UnitRecord
 unitIn text = unitOf (fieldsOf (unitHead text)) (fieldsOf (unitRow text))
@@ -72,12 +79,17 @@ priceOf head row = centsOf (under priceName (fieldsOf head) (fieldsOf row))
 unfoldable pub pricesIn : List ℕ → List ℤ
 pricesIn text = map (priceOf (priceHead text)) (priceRows text)
 
--- ---- the lowest cause
+-- ---- the causes: 1, 2, those of the case, then 7 where the prices do not fit
 
--- 3, 4, 5 as for every case, then 7 where the prices do not fit
-unfoldable pub caseKept : List ℕ → ℕ → Checked
-caseKept text room = checkedThen (caseChecked (unitIn text) (pricesIn text)) (unless (leb (length (pricesIn text)) room) Length Passed)
+abbrev pub valuesChecks : List ℕ → ℕ → List Check
+valuesChecks text room =
+    caseChecks (unitIn text) (pricesKept (pricesIn text)) (length (pricesIn text)) ++ (leb (length (pricesIn text)) room else Length) ∷ []
 
--- 1 and 2 before them
+abbrev pub textChecks : List ℕ → ℕ → List Check
+textChecks text room = (formKept text else Form) ∷ (namesKept text else Name) ∷ valuesChecks text room
+
+unfoldable pub valuesChecked : List ℕ → ℕ → Checked
+valuesChecked text room = firstOf (valuesChecks text room)
+
 unfoldable pub textChecked : List ℕ → ℕ → Checked
-textChecked text room = unless (formKept text) Form (unless (namesKept text) Name (caseKept text room))
+textChecked text room = firstOf (textChecks text room)

@@ -1,14 +1,18 @@
 // The record of a text: each field is the value under its name.
 
 use casetext::parts;
+use commitment::Costs;
+use commitment::Generator;
 use commitment::Limit;
+use commitment::Limits;
+use commitment::Opening;
 use commitment::UnitRecord;
-use lines::Value;
-use lines::tables;
+use tabletext::Value;
+use tabletext::tables;
 ghost use mathlib.Core.Path.{_≡_};
-ghost use Rattle.lines.specs.Pieces.{fieldsOf};
-ghost use Rattle.lines.specs.Tables.{under};
-ghost use Rattle.casefile.specs.Reading.{naturalOf, wholeOf, limitOf, unitOf, unitIn};
+ghost use Rattle.tabletext.specs.Pieces.{fieldsOf};
+ghost use Rattle.tabletext.specs.Tables.{under};
+ghost use Rattle.casefile.specs.Reading.{naturalOf, wholeOf, limitOf, generatorOf, costsOf, openingOf, limitsOf, unitOf, unitIn};
 
 pub fn unit_in(text: &[u8]) -> UnitRecord
     ensures { λ r. ⌜ r ≡ unitIn (now (text .entry)) ⌝ }
@@ -21,17 +25,53 @@ pub fn unit_in(text: &[u8]) -> UnitRecord
 fn unit_under(names: &[u8], values: &[u8]) -> UnitRecord
     ensures { λ r. ⌜ r ≡ unitOf (fieldsOf (now (names .entry))) (fieldsOf (now (values .entry))) ⌝ }
 {
+    let generator = generator_under(names, values);
+    let costs = costs_under(names, values);
+    let opening = opening_under(names, values);
+    let limits = limits_under(names, values);
     UnitRecord {
+        generator,
+        costs,
+        opening,
+        limits,
+    }
+}
+
+fn generator_under(names: &[u8], values: &[u8]) -> Generator
+    ensures { λ r. ⌜ r ≡ generatorOf (fieldsOf (now (names .entry))) (fieldsOf (now (values .entry))) ⌝ }
+{
+    Generator {
         block: whole_under(b"block", names, values),
         pmin: whole_under(b"pmin", names, values),
         pmax: whole_under(b"pmax", names, values),
         mot: whole_under(b"mot", names, values),
         mdt: whole_under(b"mdt", names, values),
-        was: whole_under(b"was", names, values),
-        held: whole_under(b"held", names, values),
+    }
+}
+
+fn costs_under(names: &[u8], values: &[u8]) -> Costs
+    ensures { λ r. ⌜ r ≡ costsOf (fieldsOf (now (names .entry))) (fieldsOf (now (values .entry))) ⌝ }
+{
+    Costs {
         vec: whole_under(b"vec", names, values),
         mlc: whole_under(b"mlc", names, values),
         suc: whole_under(b"suc", names, values),
+    }
+}
+
+fn opening_under(names: &[u8], values: &[u8]) -> Opening
+    ensures { λ r. ⌜ r ≡ openingOf (fieldsOf (now (names .entry))) (fieldsOf (now (values .entry))) ⌝ }
+{
+    Opening {
+        was: whole_under(b"was", names, values),
+        held: whole_under(b"held", names, values),
+    }
+}
+
+fn limits_under(names: &[u8], values: &[u8]) -> Limits
+    ensures { λ r. ⌜ r ≡ limitsOf (fieldsOf (now (names .entry))) (fieldsOf (now (values .entry))) ⌝ }
+{
+    Limits {
         starts: limit_under(b"starts", names, values),
         hours: limit_under(b"hours", names, values),
         mwh: limit_under(b"mwh", names, values),

@@ -1,15 +1,23 @@
-// Reading the text of a case: the record and the prices, or the lowest number that holds. Nothing is written before all is checked.
+// Reading the text of a case: the record and the prices, or the first cause that holds. Nothing is written before all is checked.
 
 use commitment::Cause;
 use commitment::Checked;
+use commitment::Costs;
+use commitment::Generator;
 use commitment::Limit;
+use commitment::Limits;
+use commitment::Opening;
 use commitment::UnitRecord;
 ghost use mathlib.Core.Path.{_≡_};
+ghost use mathlib.Core.List.{[], _∷_};
+ghost use lib.Dec.{leb};
 ghost use lib.ListN.{length};
 ghost use denote.Ref.{ptr};
+ghost use Rattle.commitment.specs.declared.Cause.the-variants.{Length};
 ghost use Rattle.commitment.specs.declared.Checked.the-variants as checked;
+ghost use Rattle.commitment.specs.Causes.{_else_, firstOf};
 ghost use Rattle.casefile.specs.Answers.{readCase, readPrices, readPart, readNumber, readCount, readUnit, noUnit};
-ghost use Rattle.casefile.specs.Reading.{textChecked, caseKept};
+ghost use Rattle.casefile.specs.Reading.{valuesChecked, textChecked};
 
 pub enum CaseRead {
     Case { unit: UnitRecord, count: usize },
@@ -60,21 +68,22 @@ fn check_text(text: &[u8], room: usize) -> Checked
     check_values(text, room)
 }
 
-// 3, 4 and 5 as for every case, then 7.
+// The causes of the case, then 7.
 fn check_values(text: &[u8], room: usize) -> Checked
-    ensures { λ r. ⌜ r ≡ caseKept (now (text .entry)) room ⌝ }
+    ensures { λ r. ⌜ r ≡ valuesChecked (now (text .entry)) room ⌝ }
 {
     let unit = fields::unit_in(text);
-    if !(commitment::ranges_kept(unit) & pricing::prices_kept(text)) {
-        return Checked::Refused(Cause::Range);
-    }
-    if !commitment::shape_kept(unit) {
-        return Checked::Refused(Cause::Shape);
-    }
+    let priced = pricing::prices_kept(text);
     let count = pricing::prices_counted(text);
-    if !commitment::horizon_kept(count) {
-        return Checked::Refused(Cause::Horizon);
+    match commitment::check_case(unit, priced, count) {
+        Checked::Refused(cause) => Checked::Refused(cause),
+        Checked::Passed => check_room(count, room),
     }
+}
+
+fn check_room(count: usize, room: usize) -> Checked
+    ensures { λ r. ⌜ r ≡ firstOf ((leb count room else Length) ∷ []) ⌝ }
+{
     if room < count {
         return Checked::Refused(Cause::Length);
     }
@@ -115,19 +124,24 @@ fn no_unit() -> UnitRecord
     ensures { λ r. ⌜ r ≡ noUnit ⌝ }
 {
     UnitRecord {
-        block: 0,
-        pmin: 0,
-        pmax: 0,
-        mot: 0,
-        mdt: 0,
-        was: 0,
-        held: 0,
-        vec: 0,
-        mlc: 0,
-        suc: 0,
-        starts: Limit::None,
-        hours: Limit::None,
-        mwh: Limit::None,
+        generator: Generator {
+            block: 0,
+            pmin: 0,
+            pmax: 0,
+            mot: 0,
+            mdt: 0,
+        },
+        costs: Costs {
+            vec: 0,
+            mlc: 0,
+            suc: 0,
+        },
+        opening: Opening { was: 0, held: 0 },
+        limits: Limits {
+            starts: Limit::None,
+            hours: Limit::None,
+            mwh: Limit::None,
+        },
     }
 }
 

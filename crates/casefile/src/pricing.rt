@@ -1,19 +1,17 @@
 // The prices of a text, line by line: first whether each is in its range, later into the caller's slice.
 
 use casetext::parts;
-use lines::Class;
-use lines::Value;
-use lines::bytes;
-use lines::tables;
+use tabletext::Pieces;
+use tabletext::Value;
+use tabletext::tables;
+use tabletext::walking;
 ghost use mathlib.Core.Path.{_≡_};
 ghost use mathlib.Core.List.{map, _++_};
 ghost use Prim.Native.Nat.{_≤_};
 ghost use lib.ListN.{length, drop};
-ghost use Rattle.commitment.specs.Ranges.{every, priceKept, pricesKept};
-ghost use Rattle.lines.specs.Pieces.{linesOf, fieldsOf};
-ghost use Rattle.lines.specs.Places.{part};
-ghost use Rattle.lines.specs.Tables.{under};
-ghost use Rattle.casetext.specs.Names.{priceName};
+ghost use Rattle.commitment.specs.Ranges.{priceKept, pricesKept};
+ghost use Rattle.lists.specs.Every.{every};
+ghost use Rattle.tabletext.specs.Pieces.{linesOf};
 ghost use Rattle.casefile.specs.Reading.{centsOf, priceOf, pricesIn};
 
 pub fn prices_kept(text: &[u8]) -> bool
@@ -46,8 +44,8 @@ fn rows_kept(head: &[u8], rows: &[u8]) -> bool
 {
     let mut at = 0;
     while at < rows.len() {
-        let end = bytes::end_from(rows, at, Class::LineEnd);
-        if !price_kept_at(head, rows, at, end) {
+        let end = walking::piece_end(Pieces::Lines, rows, at);
+        if !row_kept(head, &rows[at..end]) {
             return false;
         }
         at = end + 1;
@@ -62,32 +60,24 @@ fn store_rows(head: &[u8], rows: &[u8], prices: &mut [i64])
     let mut at = 0;
     let mut count = 0;
     while at < rows.len() {
-        let end = bytes::end_from(rows, at, Class::LineEnd);
-        prices[count] = price_at(head, rows, at, end);
+        let end = walking::piece_end(Pieces::Lines, rows, at);
+        prices[count] = price_of(head, &rows[at..end]);
         count += 1;
         at = end + 1;
     }
 }
 
-fn price_kept_at(head: &[u8], rows: &[u8], at: usize, end: usize) -> bool
-    requires { ⌜ (at ≤ end) × (end ≤ length (now rows)) ⌝ }
-    ensures { λ r. ⌜ r ≡ priceKept (priceOf (now (head .entry)) (part at end (now (rows .entry)))) ⌝ }
+fn row_kept(head: &[u8], row: &[u8]) -> bool
+    ensures { λ r. ⌜ r ≡ priceKept (priceOf (now (head .entry)) (now (row .entry))) ⌝ }
 {
-    commitment::price_kept(price_at(head, rows, at, end))
+    commitment::price_kept(price_of(head, row))
 }
 
-fn price_at(head: &[u8], rows: &[u8], at: usize, end: usize) -> i64
-    requires { ⌜ (at ≤ end) × (end ≤ length (now rows)) ⌝ }
-    ensures { λ r. ⌜ r ≡ priceOf (now (head .entry)) (part at end (now (rows .entry))) ⌝ }
+// The value under the name, of one line.
+fn price_of(head: &[u8], row: &[u8]) -> i64
+    ensures { λ r. ⌜ r ≡ priceOf (now (head .entry)) (now (row .entry)) ⌝ }
 {
-    cents(value_at(head, rows, at, end))
-}
-
-fn value_at(head: &[u8], rows: &[u8], at: usize, end: usize) -> Value
-    requires { ⌜ (at ≤ end) × (end ≤ length (now rows)) ⌝ }
-    ensures { λ r. ⌜ r ≡ under priceName (fieldsOf (now (head .entry))) (fieldsOf (part at end (now (rows .entry)))) ⌝ }
-{
-    tables::value_under(b"price", head, &rows[at..end])
+    cents(tables::value_under(b"price", head, row))
 }
 
 fn cents(value: Value) -> i64

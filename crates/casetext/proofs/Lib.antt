@@ -1,1 +1,2 @@
+-- Laws: Starts, where the lines of a text start.
 pub mod Starts

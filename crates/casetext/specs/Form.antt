@@ -4,10 +4,10 @@ use mathlib.Core.List.{List, [], _∷_}
 use Prim.Native.Nat.{ℕ}
 use lib.Dec.{leb}
 use lib.ListN.{length, getD, drop}
-use Rattle.commitment.specs.Ranges.{every}
-use Rattle.lines.specs.Pieces.{linesOf, closed, fieldsOf}
-use Rattle.lines.specs.Tables.{nameLine, valueLine}
-use Rattle.casetext.specs.Names.{unitNames, priceNames, onceEach}
+use Rattle.lists.specs.Every.{every}
+use Rattle.tabletext.specs.Pieces.{linesOf, lastClosed, fieldsOf}
+use Rattle.tabletext.specs.Tables.{nameLine, valueLine, named}
+use Rattle.casetext.specs.Names.{unitNames, unitOptional, priceNames, priceOptional}
 
 -- "A text has at most 12,288 bytes"
 abbrev pub mostBytes : ℕ
@@ -24,8 +24,8 @@ unitHead text = lineAt 0 text
 abbrev pub unitRow : List ℕ → List ℕ
 unitRow text = lineAt 1 text
 
-abbrev pub gap : List ℕ → List ℕ
-gap text = lineAt 2 text
+abbrev pub emptyLine : List ℕ → List ℕ
+emptyLine text = lineAt 2 text
 
 abbrev pub priceHead : List ℕ → List ℕ
 priceHead text = lineAt 3 text
@@ -44,11 +44,11 @@ tableFormed head rows = nameLine head && every (valueLine (length (fieldsOf head
 
 unfoldable pub formKept : List ℕ → Bool
 formKept text =
-    leb (length text) mostBytes && closed text
-    && leb 4 (length (linesOf text)) && isEmpty (gap text)
+    leb (length text) mostBytes && lastClosed text
+    && leb 4 (length (linesOf text)) && isEmpty (emptyLine text)
     && tableFormed (unitHead text) (unitRow text ∷ []) && tableFormed (priceHead text) (priceRows text)
 
--- ---- 2: the names
+-- ---- 2: the names, "each once, in any sequence", and no other
 
 unfoldable pub namesKept : List ℕ → Bool
-namesKept text = onceEach unitNames (fieldsOf (unitHead text)) && onceEach priceNames (fieldsOf (priceHead text))
+namesKept text = named unitNames unitOptional (fieldsOf (unitHead text)) && named priceNames priceOptional (fieldsOf (priceHead text))

@@ -1,53 +1,51 @@
--- The names of the two tables. A name is added here by its letters and its place in the table, and in Reading by its field.
-use mathlib.Core.Bool.{Bool, _&&_}
+-- The names of the two tables. A name is added here by its letters and its line in a table, in `naming` by its line, and in Reading by its field.
 use mathlib.Core.List.{List, [], _∷_}
 use Prim.Native.Nat.{ℕ}
-use lib.Dec.{eqb}
-use lib.ListN.{length}
-use Rattle.commitment.specs.Ranges.{every}
-use Rattle.lines.specs.Tables.{occurs}
+use Rattle.lists.specs.Text.{bytes}
 
 abbrev pub blockName : List ℕ
-blockName = 98 ∷ 108 ∷ 111 ∷ 99 ∷ 107 ∷ []
+blockName = bytes "block"
 
 abbrev pub pminName : List ℕ
-pminName = 112 ∷ 109 ∷ 105 ∷ 110 ∷ []
+pminName = bytes "pmin"
 
 abbrev pub pmaxName : List ℕ
-pmaxName = 112 ∷ 109 ∷ 97 ∷ 120 ∷ []
+pmaxName = bytes "pmax"
 
 abbrev pub motName : List ℕ
-motName = 109 ∷ 111 ∷ 116 ∷ []
+motName = bytes "mot"
 
 abbrev pub mdtName : List ℕ
-mdtName = 109 ∷ 100 ∷ 116 ∷ []
+mdtName = bytes "mdt"
 
 abbrev pub wasName : List ℕ
-wasName = 119 ∷ 97 ∷ 115 ∷ []
+wasName = bytes "was"
 
 abbrev pub heldName : List ℕ
-heldName = 104 ∷ 101 ∷ 108 ∷ 100 ∷ []
+heldName = bytes "held"
 
 abbrev pub vecName : List ℕ
-vecName = 118 ∷ 101 ∷ 99 ∷ []
+vecName = bytes "vec"
 
 abbrev pub mlcName : List ℕ
-mlcName = 109 ∷ 108 ∷ 99 ∷ []
+mlcName = bytes "mlc"
 
 abbrev pub sucName : List ℕ
-sucName = 115 ∷ 117 ∷ 99 ∷ []
+sucName = bytes "suc"
 
 abbrev pub startsName : List ℕ
-startsName = 115 ∷ 116 ∷ 97 ∷ 114 ∷ 116 ∷ 115 ∷ []
+startsName = bytes "starts"
 
 abbrev pub hoursName : List ℕ
-hoursName = 104 ∷ 111 ∷ 117 ∷ 114 ∷ 115 ∷ []
+hoursName = bytes "hours"
 
 abbrev pub mwhName : List ℕ
-mwhName = 109 ∷ 119 ∷ 104 ∷ []
+mwhName = bytes "mwh"
 
 abbrev pub priceName : List ℕ
-priceName = 112 ∷ 114 ∷ 105 ∷ 99 ∷ 101 ∷ []
+priceName = bytes "price"
+
+-- ---- the names of each table: those that it must have, in any sequence, and those that it may have
 
 -- "The unit's table has the thirteen names"
 abbrev pub unitNames : List (List ℕ)
@@ -67,13 +65,12 @@ unitNames =
     ∷ mwhName
     ∷ []
 
+abbrev pub unitOptional : List (List ℕ)
+unitOptional = []
+
 -- the second table has one
 abbrev pub priceNames : List (List ℕ)
 priceNames = priceName ∷ []
 
--- "each once, in any sequence", and no other
-abbrev pub once : List (List ℕ) → List ℕ → Bool
-once fields name = eqb (occurs name fields) 1
-
-abbrev pub onceEach : List (List ℕ) → List (List ℕ) → Bool
-onceEach names fields = every (once fields) names && eqb (length fields) (length names)
+abbrev pub priceOptional : List (List ℕ)
+priceOptional = []

@@ -1,4 +1,5 @@
-// The lines of a case's text, and the first two causes for which it is refused: its form and its names.
+// The lines of a case's text, and the first two causes for which it is refused.
+// `parts` finds lines, `form` judges number 1, `naming` number 2.
 
 pub mod form;
 pub mod naming;

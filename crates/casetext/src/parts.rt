@@ -1,13 +1,16 @@
 // The lines of a text, found by walking from line end to line end.
 
-use lines::Class;
-use lines::bytes;
+use tabletext::Class;
+use tabletext::Pieces;
+use tabletext::bytes;
+use tabletext::walking;
 ghost use mathlib.Core.Path.{_≡_};
 ghost use mathlib.Core.List.{[]};
 ghost use Prim.Native.Nat.{_≤_};
 ghost use lib.ListN.{length, getD, drop};
-ghost use Rattle.lines.specs.Pieces.{linesOf};
-ghost use Rattle.lines.specs.Places.{linesFrom};
+ghost use Rattle.tabletext.specs.Pieces.{linesOf};
+ghost use Rattle.tabletext.specs.declared.Pieces.the-variants.{Lines};
+ghost use Rattle.tabletext.specs.Places.{piecesFrom};
 
 // The line of a number, counted from 0; empty where there are fewer.
 pub fn line(text: &[u8], number: usize) -> &[u8]
@@ -29,17 +32,11 @@ pub fn lines_from(text: &[u8], number: usize) -> &[u8]
 pub fn lines_in(text: &[u8]) -> usize
     ensures { λ r. ⌜ r ≡ length (linesOf (now (text .entry))) ⌝ }
 {
-    let mut count = 0;
-    let mut at = 0;
-    while at < text.len() {
-        at = bytes::end_from(text, at, Class::LineEnd) + 1;
-        count += 1;
-    }
-    count
+    walking::pieces_in(Pieces::Lines, text)
 }
 
 fn start_of(text: &[u8], number: usize) -> usize
-    ensures { λ r. ⌜ (r ≤ length (now (text .entry))) × (linesFrom (now (text .entry)) r ≡ drop number (linesOf (now (text .entry)))) ⌝ }
+    ensures { λ r. ⌜ (r ≤ length (now (text .entry))) × (piecesFrom Lines (now (text .entry)) r ≡ drop number (linesOf (now (text .entry)))) ⌝ }
 {
     let mut at = 0;
     let mut passed = 0;
@@ -53,7 +50,7 @@ fn start_of(text: &[u8], number: usize) -> usize
 // Where the next line starts; at the end of the text there is none.
 fn next_from(text: &[u8], at: usize) -> usize
     requires { ⌜ at ≤ length (now text) ⌝ }
-    ensures { λ r. ⌜ (r ≤ length (now (text .entry))) × (linesFrom (now (text .entry)) r ≡ drop 1 (linesFrom (now (text .entry)) at)) ⌝ }
+    ensures { λ r. ⌜ (r ≤ length (now (text .entry))) × (piecesFrom Lines (now (text .entry)) r ≡ drop 1 (piecesFrom Lines (now (text .entry)) at)) ⌝ }
 {
     let end = bytes::end_from(text, at, Class::LineEnd);
     if end < text.len() {

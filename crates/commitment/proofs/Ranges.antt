@@ -1,92 +1,99 @@
--- What the checks of a record and of its prices say, as orders of numbers.
+-- What the checks of a record say, group by group, as orders of numbers.
 use mathlib.Core.Path.{_≡_, refl}
 use mathlib.Core.Bool.{true}
 use Prim.Native.Nat.{ℕ, _*_, _≤_}
 use native.Mathlib.Omega.{arith}
 use borrow.Author.Tests.{leb-true, le-leb}
 use lib.Dec.{leb}
+use Rattle.lists.proofs.Conjunctions.{both}
 use Rattle.commitment.specs.declared.Limit.{Limit}
 use Rattle.commitment.specs.declared.Limit.the-variants.{None, At}
+use Rattle.commitment.specs.declared.Generator.{Generator}
+use Rattle.commitment.specs.declared.Costs.{Costs}
+use Rattle.commitment.specs.declared.Opening.{Opening}
+use Rattle.commitment.specs.declared.Limits.{Limits}
+use Rattle.commitment.specs.declared.Limitation.{Limitation}
+use Rattle.commitment.specs.declared.Limitation.the-variants.{Starts, Hours, Mwh}
 use Rattle.commitment.specs.declared.UnitRecord.{UnitRecord}
-use Rattle.commitment.specs.Limits.{limitKept}
-use Rattle.commitment.specs.Ranges.{sizesKept, timesKept, costsKept, limitsKept, rangesKept, shapeKept}
-use Rattle.commitment.proofs.Conjunctions.{both}
+use Rattle.commitment.specs.Bounds.{mostMw, mostBlocks, mostTime, mostHeld, mostVec, mostMlc, mostSuc, mostStarts, mostHours, mostMwh}
+use Rattle.commitment.specs.Limits.{limitKept, limitFor}
+use Rattle.commitment.specs.Ranges.{generatorKept, openingKept, costsKept, limitsKept, rangesKept, shapeKept}
 
-pub record Sizes (u : UnitRecord) : Type 0 where
-  pub block-least : 1 ≤ u .block
-  pub block-most : u .block ≤ 500
-  pub pmin-least : 1 ≤ u .pmin
-  pub pmin-most : u .pmin ≤ 500
-  pub pmax-least : 1 ≤ u .pmax
-  pub pmax-most : u .pmax ≤ 500
+pub record GeneratorRanges (g : Generator) : Type 0 where
+  pub block-least : 1 ≤ g .block
+  pub block-most : g .block ≤ mostMw
+  pub pmin-least : 1 ≤ g .pmin
+  pub pmin-most : g .pmin ≤ mostBlocks
+  pub pmax-least : 1 ≤ g .pmax
+  pub pmax-most : g .pmax ≤ mostBlocks
+  pub mot-least : 1 ≤ g .mot
+  pub mot-most : g .mot ≤ mostTime
+  pub mdt-least : 1 ≤ g .mdt
+  pub mdt-most : g .mdt ≤ mostTime
 
-pub record Times (u : UnitRecord) : Type 0 where
-  pub mot-least : 1 ≤ u .mot
-  pub mot-most : u .mot ≤ 96
-  pub mdt-least : 1 ≤ u .mdt
-  pub mdt-most : u .mdt ≤ 96
-  pub was-most : u .was ≤ 1
-  pub held-least : 1 ≤ u .held
-  pub held-most : u .held ≤ 9999
+pub record OpeningRanges (o : Opening) : Type 0 where
+  pub was-most : o .was ≤ 1
+  pub held-least : 1 ≤ o .held
+  pub held-most : o .held ≤ mostHeld
 
-pub record Costs (u : UnitRecord) : Type 0 where
-  pub vec-most : u .vec ≤ 2000000
-  pub mlc-most : u .mlc ≤ 1000000000
-  pub suc-most : u .suc ≤ 4000000000
+pub record CostsRanges (k : Costs) : Type 0 where
+  pub vec-most : k .vec ≤ mostVec
+  pub mlc-most : k .mlc ≤ mostMlc
+  pub suc-most : k .suc ≤ mostSuc
 
-sizes-are : (u : UnitRecord) → sizesKept u ≡ true → Sizes u
-sizes-are u e =
-    let f6 = both _ (leb (u .pmax) 500) e in
-    let f5 = both _ (leb 1 (u .pmax)) (f6 .0) in
-    let f4 = both _ (leb (u .pmin) 500) (f5 .0) in
-    let f3 = both _ (leb 1 (u .pmin)) (f4 .0) in
-    let f2 = both (leb 1 (u .block)) (leb (u .block) 500) (f3 .0) in
+pub record LimitsRanges (limits : Limits) : Type 0 where
+  pub starts-kept : limitKept mostStarts (limits .starts) ≡ true
+  pub hours-kept : limitKept mostHours (limits .hours) ≡ true
+  pub mwh-kept : limitKept mostMwh (limits .mwh) ≡ true
+
+pub generator-ranges : (g : Generator) → generatorKept g ≡ true → GeneratorRanges g
+generator-ranges g e =
+    let f10 = both _ (leb (g .mdt) mostTime) e in
+    let f9 = both _ (leb 1 (g .mdt)) (f10 .0) in
+    let f8 = both _ (leb (g .mot) mostTime) (f9 .0) in
+    let f7 = both _ (leb 1 (g .mot)) (f8 .0) in
+    let f6 = both _ (leb (g .pmax) mostBlocks) (f7 .0) in
+    let f5 = both _ (leb 1 (g .pmax)) (f6 .0) in
+    let f4 = both _ (leb (g .pmin) mostBlocks) (f5 .0) in
+    let f3 = both _ (leb 1 (g .pmin)) (f4 .0) in
+    let f2 = both (leb 1 (g .block)) (leb (g .block) mostMw) (f3 .0) in
     record {
-      block-least = leb-true 1 (u .block) (f2 .0);
-      block-most = leb-true (u .block) 500 (f2 .1);
-      pmin-least = leb-true 1 (u .pmin) (f3 .1);
-      pmin-most = leb-true (u .pmin) 500 (f4 .1);
-      pmax-least = leb-true 1 (u .pmax) (f5 .1);
-      pmax-most = leb-true (u .pmax) 500 (f6 .1);
+      block-least = leb-true 1 (g .block) (f2 .0);
+      block-most = leb-true (g .block) mostMw (f2 .1);
+      pmin-least = leb-true 1 (g .pmin) (f3 .1);
+      pmin-most = leb-true (g .pmin) mostBlocks (f4 .1);
+      pmax-least = leb-true 1 (g .pmax) (f5 .1);
+      pmax-most = leb-true (g .pmax) mostBlocks (f6 .1);
+      mot-least = leb-true 1 (g .mot) (f7 .1);
+      mot-most = leb-true (g .mot) mostTime (f8 .1);
+      mdt-least = leb-true 1 (g .mdt) (f9 .1);
+      mdt-most = leb-true (g .mdt) mostTime (f10 .1);
     }
 
-times-are : (u : UnitRecord) → timesKept u ≡ true → Times u
-times-are u e =
-    let f7 = both _ (leb (u .held) 9999) e in
-    let f6 = both _ (leb 1 (u .held)) (f7 .0) in
-    let f5 = both _ (leb (u .was) 1) (f6 .0) in
-    let f4 = both _ (leb (u .mdt) 96) (f5 .0) in
-    let f3 = both _ (leb 1 (u .mdt)) (f4 .0) in
-    let f2 = both (leb 1 (u .mot)) (leb (u .mot) 96) (f3 .0) in
+opening-ranges : (o : Opening) → openingKept o ≡ true → OpeningRanges o
+opening-ranges o e =
+    let f3 = both _ (leb (o .held) mostHeld) e in
+    let f2 = both (leb (o .was) 1) (leb 1 (o .held)) (f3 .0) in
     record {
-      mot-least = leb-true 1 (u .mot) (f2 .0);
-      mot-most = leb-true (u .mot) 96 (f2 .1);
-      mdt-least = leb-true 1 (u .mdt) (f3 .1);
-      mdt-most = leb-true (u .mdt) 96 (f4 .1);
-      was-most = leb-true (u .was) 1 (f5 .1);
-      held-least = leb-true 1 (u .held) (f6 .1);
-      held-most = leb-true (u .held) 9999 (f7 .1);
+      was-most = leb-true (o .was) 1 (f2 .0);
+      held-least = leb-true 1 (o .held) (f2 .1);
+      held-most = leb-true (o .held) mostHeld (f3 .1);
     }
 
-costs-are : (u : UnitRecord) → costsKept u ≡ true → Costs u
-costs-are u e =
-    let f3 = both _ (leb (u .suc) 4000000000) e in
-    let f2 = both (leb (u .vec) 2000000) (leb (u .mlc) 1000000000) (f3 .0) in
+costs-ranges : (k : Costs) → costsKept k ≡ true → CostsRanges k
+costs-ranges k e =
+    let f3 = both _ (leb (k .suc) mostSuc) e in
+    let f2 = both (leb (k .vec) mostVec) (leb (k .mlc) mostMlc) (f3 .0) in
     record {
-      vec-most = leb-true (u .vec) 2000000 (f2 .0);
-      mlc-most = leb-true (u .mlc) 1000000000 (f2 .1);
-      suc-most = leb-true (u .suc) 4000000000 (f3 .1);
+      vec-most = leb-true (k .vec) mostVec (f2 .0);
+      mlc-most = leb-true (k .mlc) mostMlc (f2 .1);
+      suc-most = leb-true (k .suc) mostSuc (f3 .1);
     }
 
-pub record Limits (u : UnitRecord) : Type 0 where
-  pub starts-kept : limitKept 2976 (u .starts) ≡ true
-  pub hours-kept : limitKept 744 (u .hours) ≡ true
-  pub mwh-kept : limitKept 372000 (u .mwh) ≡ true
-
-limits-are : (u : UnitRecord) → limitsKept u ≡ true → Limits u
-limits-are u e =
-    let f3 = both _ (limitKept 372000 (u .mwh)) e in
-    let f2 = both (limitKept 2976 (u .starts)) (limitKept 744 (u .hours)) (f3 .0) in
+limits-ranges : (limits : Limits) → limitsKept limits ≡ true → LimitsRanges limits
+limits-ranges limits e =
+    let f3 = both _ (limitKept mostMwh (limits .mwh)) e in
+    let f2 = both (limitKept mostStarts (limits .starts)) (limitKept mostHours (limits .hours)) (f3 .0) in
     record { starts-kept = f2 .0; hours-kept = f2 .1; mwh-kept = f3 .1 }
 
 -- a figure in a range is in a wider one
@@ -94,26 +101,43 @@ pub limit-wider : (a b : ℕ) (l : Limit) → a ≤ b → limitKept a l ≡ true
 limit-wider a b None h e = refl
 limit-wider a b (At n) h e = le-leb n b (omega (arith, leb-true n a e))
 
+-- the group alone
+pub generator-kept : (u : UnitRecord) → rangesKept u ≡ true → generatorKept (u .generator) ≡ true
+unfolding rangesKept
+generator-kept u e =
+    both (generatorKept (u .generator)) (openingKept (u .opening)) (both _ (costsKept (u .costs)) (both _ (limitsKept (u .limits)) e .0) .0) .0
+
 -- every field is in its range
 pub record InRange (u : UnitRecord) : Type 0 where
-  pub sizes : Sizes u
-  pub times : Times u
-  pub costs : Costs u
-  pub limits : Limits u
+  pub generator : GeneratorRanges (u .generator)
+  pub opening : OpeningRanges (u .opening)
+  pub costs : CostsRanges (u .costs)
+  pub limits : LimitsRanges (u .limits)
 
 pub in-range : (u : UnitRecord) → rangesKept u ≡ true → InRange u
 unfolding rangesKept
 in-range u e =
-    let f4 = both _ (limitsKept u) e in
-    let f3 = both _ (costsKept u) (f4 .0) in
-    let f2 = both (sizesKept u) (timesKept u) (f3 .0) in
-    record { sizes = sizes-are u (f2 .0); times = times-are u (f2 .1); costs = costs-are u (f3 .1); limits = limits-are u (f4 .1) }
+    let f4 = both _ (limitsKept (u .limits)) e in
+    let f3 = both _ (costsKept (u .costs)) (f4 .0) in
+    let f2 = both (generatorKept (u .generator)) (openingKept (u .opening)) (f3 .0) in
+    record {
+      generator = generator-ranges (u .generator) (f2 .0);
+      opening = opening-ranges (u .opening) (f2 .1);
+      costs = costs-ranges (u .costs) (f3 .1);
+      limits = limits-ranges (u .limits) (f4 .1);
+    }
 
-pub record Shape (u : UnitRecord) : Type 0 where
-  pub ordered : u .pmin ≤ u .pmax
-  pub most : u .pmax * u .block ≤ 500
+pub record Shape (g : Generator) : Type 0 where
+  pub ordered : g .pmin ≤ g .pmax
+  pub most : g .pmax * g .block ≤ mostMw
 
-pub in-shape : (u : UnitRecord) → shapeKept u ≡ true → Shape u
-in-shape u e =
-    let f = both (leb (u .pmin) (u .pmax)) (leb (u .pmax * u .block) 500) e in
-    record { ordered = leb-true (u .pmin) (u .pmax) (f .0); most = leb-true (u .pmax * u .block) 500 (f .1) }
+pub in-shape : (g : Generator) → shapeKept g ≡ true → Shape g
+in-shape g e =
+    let f = both (leb (g .pmin) (g .pmax)) (leb (g .pmax * g .block) mostMw) e in
+    record { ordered = leb-true (g .pmin) (g .pmax) (f .0); most = leb-true (g .pmax * g .block) mostMw (f .1) }
+
+-- every limitation in range is a small number
+pub limit-small : (u : UnitRecord) → rangesKept u ≡ true → (which : Limitation) → limitKept mostMwh (limitFor (u .limits) which) ≡ true
+limit-small u h Starts = limit-wider mostStarts mostMwh (u .limits .starts) (omega arith) (in-range u h .limits .starts-kept)
+limit-small u h Hours = limit-wider mostHours mostMwh (u .limits .hours) (omega arith) (in-range u h .limits .hours-kept)
+limit-small u h Mwh = in-range u h .limits .mwh-kept

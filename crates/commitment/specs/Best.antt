@@ -1,10 +1,13 @@
--- The best plan, by trying every list of outputs in document 01's order; of several that earn the most the first wins.
+-- The best plan, by trying every list of outputs in the specification's order; of several that earn the most the first wins.
 use mathlib.Core.Bool.{cond}
 use mathlib.Core.List.{List, [], _∷_, _++_, map}
 use Prim.Native.Nat.{ℕ, zero, suc, _+_, _-_, _*_}
 use lib.IntN.{ℤ}
 use lib.ListN.{length}
 use lib.Signed.{ltZ}
+use Rattle.commitment.specs.declared.BestProfit.{BestProfit}
+use Rattle.commitment.specs.declared.BestProfit.the-variants.{Nothing, Profit}
+use Rattle.commitment.specs.declared.Generator.{Generator}
 use Rattle.commitment.specs.declared.UnitRecord.{UnitRecord}
 use Rattle.commitment.specs.Keeping.{keepsCase}
 use Rattle.commitment.specs.Profit.{profit}
@@ -14,14 +17,19 @@ pub data Plan : Type 0 where
   nothing : Plan
   plan : List ℕ → ℤ → Plan
 
+-- what it earns alone
+abbrev pub profitOf : Plan → BestProfit
+profitOf nothing = Nothing
+profitOf (plan s p) = Profit p
+
 -- so many outputs from the first on, a block apart
 abbrev pub ladder : ℕ → ℕ → ℕ → List ℕ
 ladder block first zero = []
 ladder block first (suc count) = first ∷ ladder block (first + block) count
 
 -- the outputs, ascending: 0, then pmin to pmax blocks
-abbrev pub outputs : UnitRecord → List ℕ
-outputs u = 0 ∷ ladder (u .block) (u .pmin * u .block) (suc (u .pmax) - u .pmin)
+abbrev pub outputs : Generator → List ℕ
+outputs g = 0 ∷ ladder (g .block) (g .pmin * g .block) (suc (g .pmax) - g .pmin)
 
 -- every first output before every list
 abbrev pub prefixed : List ℕ → List (List ℕ) → List (List ℕ)
@@ -48,4 +56,4 @@ abbrev pub candidate : UnitRecord → List ℤ → List ℕ → Plan
 candidate u prices s = cond (keepsCase u s) (plan s (profit u prices s)) nothing
 
 abbrev pub best : UnitRecord → List ℤ → Plan
-best u prices = firstBest (map (candidate u prices) (lists (outputs u) (length prices)))
+best u prices = firstBest (map (candidate u prices) (lists (outputs (u .generator)) (length prices)))

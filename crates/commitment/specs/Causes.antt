@@ -1,12 +1,13 @@
--- The causes of a refusal: their numbers, and the lowest of several.
+-- The causes of a refusal: their numbers, and the first of several in the order of a call's list of checks.
 use mathlib.Core.Bool.{Bool, true, false}
+use mathlib.Core.List.{List, [], _∷_}
 use Prim.Native.Nat.{ℕ}
 use Rattle.commitment.specs.declared.Cause.{Cause}
 use Rattle.commitment.specs.declared.Cause.the-variants.{Form, Name, Range, Shape, Horizon, Segments, Length, Scratch, NoSchedule, NotKept}
 use Rattle.commitment.specs.declared.Checked.{Checked}
 use Rattle.commitment.specs.declared.Checked.the-variants.{Passed, Refused}
 
--- the number of each cause, by document 01's table
+-- the number of each cause, by the specification's table
 abbrev pub numberOf : Cause → ℕ
 numberOf Form = 1
 numberOf Name = 2
@@ -24,12 +25,20 @@ abbrev pub checkedNumber : Checked → ℕ
 checkedNumber Passed = 0
 checkedNumber (Refused cause) = numberOf cause
 
--- "Of several causes, the lowest number is given": checks are tried in that order, and the first that fails decides
+-- a check of a call: whether it is kept, else the cause
+pub record Check : Type 0 where
+  pub kept : Bool
+  pub cause : Cause
+
+infix 5 _else_
+abbrev pub _else_ : Bool → Cause → Check
+kept else cause = record { kept = kept; cause = cause }
+
+-- "Of several causes, the lowest number is given": a call's checks stand in the order of the specification, and the first that is not kept decides
 abbrev pub unless : Bool → Cause → Checked → Checked
 unless true cause rest = rest
 unless false cause rest = Refused cause
 
--- further checks, after those that come first
-abbrev pub checkedThen : Checked → Checked → Checked
-checkedThen Passed further = further
-checkedThen (Refused cause) further = Refused cause
+abbrev pub firstOf : List Check → Checked
+firstOf [] = Passed
+firstOf (check ∷ checks) = unless (check .kept) (check .cause) (firstOf checks)

@@ -2,26 +2,37 @@
 use Prim.Native.Nat.{ℕ, _+_, _*_, _/_, min}
 use Rattle.commitment.specs.declared.Limit.{Limit}
 use Rattle.commitment.specs.declared.Limit.the-variants.{None, At}
+use Rattle.commitment.specs.declared.Limitation.{Limitation}
+use Rattle.commitment.specs.declared.Limitation.the-variants.{Starts, Hours, Mwh}
+use Rattle.commitment.specs.declared.Generator.{Generator}
 use Rattle.commitment.specs.declared.UnitRecord.{UnitRecord}
-
--- the smaller of what a limitation comes to and a top; 0 where `none`
-abbrev pub counted : (ℕ → ℕ) → ℕ → Limit → ℕ
-counted amount top None = 0
-counted amount top (At limit) = min (amount limit) top
+use Rattle.commitment.specs.Limits.{limitFor}
 
 -- "a is the smaller of starts and n, b of 4 × hours and n, c of 4 × mwh / block rounded down and n × pmax; each is 0 where `none`"
-abbrev pub startsCount : UnitRecord → ℕ → ℕ
-startsCount u n = counted (λ starts. starts) n (u .starts)
 
-abbrev pub hoursCount : UnitRecord → ℕ → ℕ
-hoursCount u n = counted (λ hours. 4 * hours) n (u .hours)
+-- what a limitation's figure comes to, in starts, on-intervals and output blocks
+abbrev pub inCounts : Generator → Limitation → ℕ → ℕ
+inCounts g Starts figure = figure
+inCounts g Hours figure = 4 * figure
+inCounts g Mwh figure = 4 * figure / g .block
 
-abbrev pub mwhCount : UnitRecord → ℕ → ℕ
-mwhCount u n = counted (λ mwh. 4 * mwh / u .block) (n * u .pmax) (u .mwh)
+-- and the most of them that n intervals can take
+abbrev pub mostCounts : Generator → Limitation → ℕ → ℕ
+mostCounts g Starts n = n
+mostCounts g Hours n = n
+mostCounts g Mwh n = n * g .pmax
+
+abbrev pub counted : Generator → ℕ → Limitation → Limit → ℕ
+counted g n which None = 0
+counted g n which (At figure) = min (inCounts g which figure) (mostCounts g which n)
+
+abbrev pub countFor : UnitRecord → ℕ → Limitation → ℕ
+countFor u n which = counted (u .generator) n which (limitFor (u .limits) which)
 
 -- the cells of one interval
 abbrev pub layerCells : UnitRecord → ℕ → ℕ
-layerCells u n = (u .mot + u .mdt) * (startsCount u n + 1) * (hoursCount u n + 1) * (mwhCount u n + 1)
+layerCells u n =
+    (u .generator .mot + u .generator .mdt) * (countFor u n Starts + 1) * (countFor u n Hours + 1) * (countFor u n Mwh + 1)
 
 -- "(n+1) × (mot+mdt) × (a+1) × (b+1) × (c+1)"
 abbrev pub cellsNeeded : UnitRecord → ℕ → ℕ

@@ -1,15 +1,16 @@
--- When a schedule keeps the case: one definition for each rule of document 01. The Bool is the state before the first interval, on or off,
+-- When a schedule keeps the case: one definition for each rule of the specification. The Bool is the state before the first interval, on or off,
 -- and `spent` the intervals spent in that state.
 use mathlib.Core.Bool.{Bool, true, false, _&&_}
 use mathlib.Core.List.{List, [], _∷_}
 use Prim.Native.Nat.{ℕ, zero, suc, _+_}
 use lib.Dec.{leb, eqb}
+use Rattle.commitment.specs.declared.Opening.{Opening}
 use Rattle.commitment.specs.declared.UnitRecord.{UnitRecord}
 use Rattle.commitment.specs.Limits.{within}
 
 -- the state before interval 1
-abbrev pub wasOn : UnitRecord → Bool
-wasOn u = eqb (u .was) 1
+abbrev pub wasOn : Opening → Bool
+wasOn o = eqb (o .was) 1
 
 -- "an interval that is on after one that is off is a start"
 abbrev pub startsIn : Bool → List ℕ → ℕ
@@ -46,21 +47,21 @@ outputSum (m ∷ s) = m + outputSum s
 -- ---- the rules
 
 abbrev pub keepsStarts : UnitRecord → List ℕ → Bool
-keepsStarts u s = within 1 (startsIn (wasOn u) s) (u .starts)
+keepsStarts u s = within 1 (startsIn (wasOn (u .opening)) s) (u .limits .starts)
 
 abbrev pub keepsRuns : UnitRecord → List ℕ → Bool
-keepsRuns u s = runsLast (u .mot) (wasOn u) (u .held) s
+keepsRuns u s = runsLast (u .generator .mot) (wasOn (u .opening)) (u .opening .held) s
 
 abbrev pub keepsSpells : UnitRecord → List ℕ → Bool
-keepsSpells u s = spellsLast (u .mdt) (wasOn u) (u .held) s
+keepsSpells u s = spellsLast (u .generator .mdt) (wasOn (u .opening)) (u .opening .held) s
 
 -- "on-intervals number at most 4 × hours"
 abbrev pub keepsHours : UnitRecord → List ℕ → Bool
-keepsHours u s = within 4 (onIntervals s) (u .hours)
+keepsHours u s = within 4 (onIntervals s) (u .limits .hours)
 
 -- "the sum of outputs is at most 4 × mwh"
 abbrev pub keepsMwh : UnitRecord → List ℕ → Bool
-keepsMwh u s = within 4 (outputSum s) (u .mwh)
+keepsMwh u s = within 4 (outputSum s) (u .limits .mwh)
 
 abbrev pub keepsCase : UnitRecord → List ℕ → Bool
 keepsCase u s = keepsStarts u s && keepsRuns u s && keepsSpells u s && keepsHours u s && keepsMwh u s

@@ -2,6 +2,8 @@
 use mathlib.Core.List.{List, [], _∷_}
 use Prim.Native.Nat.{ℕ, zero, suc, _*_}
 use lib.IntN.{ℤ, pos, _+ℤ_, _-ℤ_, _*ℤ_}
+use Rattle.commitment.specs.declared.Generator.{Generator}
+use Rattle.commitment.specs.declared.Costs.{Costs}
 use Rattle.commitment.specs.declared.UnitRecord.{UnitRecord}
 use Rattle.commitment.specs.Keeping.{wasOn, startsIn}
 
@@ -10,18 +12,18 @@ abbrev pub margin : ℤ → ℕ → ℕ → ℕ → ℕ → ℤ
 margin price output vec least mlc = price *ℤ pos output -ℤ pos vec *ℤ (pos output -ℤ pos least) -ℤ pos mlc
 
 -- "an on-interval with price L and output M adds L × M − vec × (M − pmin × block) − mlc; an off one adds 0"
-abbrev pub earned : UnitRecord → ℤ → ℕ → ℤ
-earned u price zero = pos 0
-earned u price (suc m) = margin price (suc m) (u .vec) (u .pmin * u .block) (u .mlc)
+abbrev pub earned : Generator → Costs → ℤ → ℕ → ℤ
+earned g k price zero = pos 0
+earned g k price (suc m) = margin price (suc m) (k .vec) (g .pmin * g .block) (k .mlc)
 
-abbrev pub earnedIn : UnitRecord → List ℤ → List ℕ → ℤ
-earnedIn u [] s = pos 0
-earnedIn u (price ∷ prices) [] = pos 0
-earnedIn u (price ∷ prices) (m ∷ s) = earned u price m +ℤ earnedIn u prices s
+abbrev pub earnedIn : Generator → Costs → List ℤ → List ℕ → ℤ
+earnedIn g k [] s = pos 0
+earnedIn g k (price ∷ prices) [] = pos 0
+earnedIn g k (price ∷ prices) (m ∷ s) = earned g k price m +ℤ earnedIn g k prices s
 
 -- "4 × suc for a start"
-abbrev pub startCost : UnitRecord → ℕ
-startCost u = 4 * u .suc
+abbrev pub startCost : Costs → ℕ
+startCost k = 4 * k .suc
 
 abbrev pub profit : UnitRecord → List ℤ → List ℕ → ℤ
-profit u prices s = earnedIn u prices s -ℤ pos (startCost u * startsIn (wasOn u) s)
+profit u prices s = earnedIn (u .generator) (u .costs) prices s -ℤ pos (startCost (u .costs) * startsIn (wasOn (u .opening)) s)

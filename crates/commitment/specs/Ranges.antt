@@ -1,65 +1,80 @@
 -- The ranges of the unit record and of the prices, and the check of a case before anything is worked out.
+use mathlib.Core.Path.{_≡_}
 use mathlib.Core.Bool.{Bool, true, _&&_}
 use mathlib.Core.List.{List, [], _∷_}
-use Prim.Native.Nat.{ℕ, _*_}
+use Prim.Native.Nat.{ℕ, _*_, _≤_, _<_}
 use lib.Dec.{leb}
-use lib.IntN.{ℤ, pos, negsuc}
-use lib.ListN.{length}
+use lib.IntN.{ℤ, pos, negℤ, natAbs}
+use lib.ListN.{length, getD}
 use lib.Signed.{leZ}
+use Rattle.lists.specs.Every.{every}
+use Rattle.commitment.specs.declared.Generator.{Generator}
+use Rattle.commitment.specs.declared.Costs.{Costs}
+use Rattle.commitment.specs.declared.Opening.{Opening}
+use Rattle.commitment.specs.declared.Limits.{Limits}
 use Rattle.commitment.specs.declared.UnitRecord.{UnitRecord}
 use Rattle.commitment.specs.declared.Cause.the-variants.{Range, Shape, Horizon}
 use Rattle.commitment.specs.declared.Checked.{Checked}
-use Rattle.commitment.specs.declared.Checked.the-variants.{Passed}
-use Rattle.commitment.specs.Causes.{unless}
+use Rattle.commitment.specs.Bounds.{mostMw, mostBlocks, mostTime, mostHeld, mostVec, mostMlc, mostSuc, mostStarts, mostHours, mostMwh, mostPrice, mostIntervals}
+use Rattle.commitment.specs.Causes.{Check, _else_, firstOf}
 use Rattle.commitment.specs.Limits.{limitKept}
 
--- the most prices of a case
-abbrev pub mostIntervals : ℕ
-mostIntervals = 2976
+-- ---- the record, group by group
 
-abbrev pub every : {A : Type 0} → (A → Bool) → List A → Bool
-every test [] = true
-every test (x ∷ xs) = test x && every test xs
+abbrev pub generatorKept : Generator → Bool
+generatorKept g =
+    leb 1 (g .block) && leb (g .block) mostMw
+    && leb 1 (g .pmin) && leb (g .pmin) mostBlocks
+    && leb 1 (g .pmax) && leb (g .pmax) mostBlocks
+    && leb 1 (g .mot) && leb (g .mot) mostTime
+    && leb 1 (g .mdt) && leb (g .mdt) mostTime
 
--- ---- the record, in four groups
+abbrev pub openingKept : Opening → Bool
+openingKept o = leb (o .was) 1 && leb 1 (o .held) && leb (o .held) mostHeld
 
-abbrev pub sizesKept : UnitRecord → Bool
-sizesKept u =
-    leb 1 (u .block) && leb (u .block) 500 && leb 1 (u .pmin) && leb (u .pmin) 500 && leb 1 (u .pmax) && leb (u .pmax) 500
+abbrev pub costsKept : Costs → Bool
+costsKept k = leb (k .vec) mostVec && leb (k .mlc) mostMlc && leb (k .suc) mostSuc
 
-abbrev pub timesKept : UnitRecord → Bool
-timesKept u =
-    leb 1 (u .mot) && leb (u .mot) 96 && leb 1 (u .mdt) && leb (u .mdt) 96 && leb (u .was) 1 && leb 1 (u .held) && leb (u .held) 9999
-
-abbrev pub costsKept : UnitRecord → Bool
-costsKept u = leb (u .vec) 2000000 && leb (u .mlc) 1000000000 && leb (u .suc) 4000000000
-
-abbrev pub limitsKept : UnitRecord → Bool
-limitsKept u = limitKept 2976 (u .starts) && limitKept 744 (u .hours) && limitKept 372000 (u .mwh)
+abbrev pub limitsKept : Limits → Bool
+limitsKept limits = limitKept mostStarts (limits .starts) && limitKept mostHours (limits .hours) && limitKept mostMwh (limits .mwh)
 
 unfoldable pub rangesKept : UnitRecord → Bool
-rangesKept u = sizesKept u && timesKept u && costsKept u && limitsKept u
+rangesKept u = generatorKept (u .generator) && openingKept (u .opening) && costsKept (u .costs) && limitsKept (u .limits)
 
 -- pmin is at most pmax, and pmax × block at most 500
-abbrev pub shapeKept : UnitRecord → Bool
-shapeKept u = leb (u .pmin) (u .pmax) && leb (u .pmax * u .block) 500
+abbrev pub shapeKept : Generator → Bool
+shapeKept g = leb (g .pmin) (g .pmax) && leb (g .pmax * g .block) mostMw
 
 -- ---- the prices
 
 abbrev pub priceKept : ℤ → Bool
-priceKept price = leZ (negsuc 199999) price && leZ price (pos 200000)
+priceKept price = leZ (negℤ (pos mostPrice)) price && leZ price (pos mostPrice)
 
 unfoldable pub pricesKept : List ℤ → Bool
 pricesKept prices = every priceKept prices
 
--- there are 1 to 2,976 prices
+-- there are prices, and not too many
 abbrev pub horizonKept : ℕ → Bool
 horizonKept n = leb 1 n && leb n mostIntervals
 
--- ---- the check: 3 before 4 before 5
+-- ---- the checks of a case of n intervals, whose prices are kept or not: 3, 4, 5
 
-unfoldable pub caseChecked : UnitRecord → List ℤ → Checked
-caseChecked u prices =
-    unless (rangesKept u && pricesKept prices) Range
-    (unless (shapeKept u) Shape
-    (unless (horizonKept (length prices)) Horizon Passed))
+abbrev pub caseChecks : UnitRecord → Bool → ℕ → List Check
+caseChecks u priced n =
+    (rangesKept u && priced else Range)
+    ∷ (shapeKept (u .generator) else Shape)
+    ∷ (horizonKept n else Horizon)
+    ∷ []
+
+unfoldable pub caseChecked : UnitRecord → Bool → ℕ → Checked
+caseChecked u priced n = firstOf (caseChecks u priced n)
+
+-- ---- what the functions behind the checks ask
+
+pub record InOrder (u : UnitRecord) (n : ℕ) : Type 0 where
+  pub ranges : rangesKept u ≡ true
+  pub shape : shapeKept (u .generator) ≡ true
+  pub short : n ≤ mostIntervals
+
+abbrev pub Priced : List ℤ → Type 0
+Priced prices = (i : ℕ) → i < length prices → natAbs (getD prices i (pos 0)) ≤ mostPrice

@@ -14,7 +14,7 @@ use Rattle.commitment.specs.Order.{earlier}
 
 -- "A rival's outputs are any list of such outputs, one for each interval, that keeps the case."
 pub record Rival (u : UnitRecord) (prices : List ℤ) (s : List ℕ) : Type 0 where
-  pub schedule : isSchedule u (length prices) s ≡ true
+  pub schedule : isSchedule (u .generator) (length prices) s ≡ true
   pub kept : keepsCase u s ≡ true
 
 -- the plan is a schedule that keeps the case and earns p; no rival earns more, and none that earns as much is earlier

@@ -4,15 +4,15 @@ use mathlib.Core.List.{List}
 use Prim.Native.Nat.{ℕ, zero, suc, _*_, _%_}
 use lib.Dec.{leb, eqb}
 use lib.ListN.{length}
-use Rattle.commitment.specs.declared.UnitRecord.{UnitRecord}
-use Rattle.commitment.specs.Ranges.{every}
+use Rattle.commitment.specs.declared.Generator.{Generator}
+use Rattle.lists.specs.Every.{every}
 
 -- 0 (off), or a multiple of block from pmin × block to pmax × block
-abbrev pub isOutput : UnitRecord → ℕ → Bool
-isOutput u zero = true
-isOutput u (suc m) =
-    eqb (suc m % u .block) 0 && leb (u .pmin * u .block) (suc m) && leb (suc m) (u .pmax * u .block)
+abbrev pub isOutput : Generator → ℕ → Bool
+isOutput g zero = true
+isOutput g (suc m) =
+    eqb (suc m % g .block) 0 && leb (g .pmin * g .block) (suc m) && leb (suc m) (g .pmax * g .block)
 
 -- one output for each of n intervals
-abbrev pub isSchedule : UnitRecord → ℕ → List ℕ → Bool
-isSchedule u n schedule = eqb (length schedule) n && every (isOutput u) schedule
+abbrev pub isSchedule : Generator → ℕ → List ℕ → Bool
+isSchedule g n schedule = eqb (length schedule) n && every (isOutput g) schedule

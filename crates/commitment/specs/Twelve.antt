@@ -1,4 +1,4 @@
--- C1 to C12 of document 01: one table of cases beside every value that the document gives for them, and one statement over it.
+-- C1 to C12 of the specification: one table of cases beside every value that the document gives for them, and one statement over it.
 use mathlib.Core.Path.{_≡_, refl}
 use mathlib.Core.Bool.{cond}
 use mathlib.Core.List.{List, [], _∷_, map}
@@ -9,6 +9,7 @@ use lib.Signed.{leZ}
 use Rattle.commitment.specs.declared.Limit.{Limit}
 use Rattle.commitment.specs.declared.Limit.the-variants.{At}
 use Rattle.commitment.specs.declared.Limit.the-variants as limit
+use Rattle.commitment.specs.declared.Limitation.the-variants.{Starts, Hours, Mwh}
 use Rattle.commitment.specs.declared.Cause.the-variants.{NoSchedule}
 use Rattle.commitment.specs.declared.Outcome.{Outcome}
 use Rattle.commitment.specs.declared.Outcome.the-variants.{Empty, Never, Gap}
@@ -17,7 +18,7 @@ use Rattle.commitment.specs.declared.UnitRecord.{UnitRecord}
 use Rattle.commitment.specs.declared.CostInputs.{CostInputs}
 use Rattle.commitment.specs.Causes.{numberOf}
 use Rattle.commitment.specs.Best.{Plan, nothing, plan, outputs, lists, candidate, best}
-use Rattle.commitment.specs.Valuing.{startsOutcome, hoursOutcome, mwhOutcome}
+use Rattle.commitment.specs.Valuing.{outcomeOf}
 use Rattle.commitment.specs.Figures.{vecOf, sucOf, mlcOf}
 
 -- ---- the cases
@@ -29,19 +30,10 @@ c1-prices = pos 2000 ∷ pos 9000 ∷ pos 8000 ∷ pos 1000 ∷ pos 7000 ∷ pos
 abbrev c1-but : ℕ → ℕ → ℕ → Limit → Limit → Limit → UnitRecord
 c1-but mot was held starts hours mwh =
     record {
-      block = 10;
-      pmin = 1;
-      pmax = 2;
-      mot = mot;
-      mdt = 2;
-      was = was;
-      held = held;
-      vec = 3000;
-      mlc = 30000;
-      suc = 5000;
-      starts = starts;
-      hours = hours;
-      mwh = mwh;
+      generator = record { block = 10; pmin = 1; pmax = 2; mot = mot; mdt = 2 };
+      costs = record { vec = 3000; mlc = 30000; suc = 5000 };
+      opening = record { was = was; held = held };
+      limits = record { starts = starts; hours = hours; mwh = mwh };
     }
 
 abbrev pub c1 : UnitRecord
@@ -100,13 +92,13 @@ pub data Value : Type 0 where
   cents : ℕ → Value
 
 -- a plan's schedule and profit before other values, or the number of its refusal
-abbrev planned : Plan → List Value → List Value
-planned nothing rest = number (numberOf NoSchedule) ∷ rest
-planned (plan s p) rest = schedule s ∷ profit p ∷ rest
+abbrev planBefore : Plan → List Value → List Value
+planBefore nothing rest = number (numberOf NoSchedule) ∷ rest
+planBefore (plan s p) rest = schedule s ∷ profit p ∷ rest
 
-abbrev profitAlone : Plan → List Value → List Value
-profitAlone nothing rest = number (numberOf NoSchedule) ∷ rest
-profitAlone (plan s p) rest = profit p ∷ rest
+abbrev profitBefore : Plan → List Value → List Value
+profitBefore nothing rest = number (numberOf NoSchedule) ∷ rest
+profitBefore (plan s p) rest = profit p ∷ rest
 
 -- how many schedules earn at least so much
 abbrev reaching : ℤ → List Plan → ℕ
@@ -119,7 +111,7 @@ tiesOf u prices = among (best u prices)
   where
     among : Plan → ℕ
     among nothing = 0
-    among (plan s p) = reaching p (map (candidate u prices) (lists (outputs u) (length prices)))
+    among (plan s p) = reaching p (map (candidate u prices) (lists (outputs (u .generator)) (length prices)))
 
 pub record Row : Type 0 where
   pub computed : List Value
@@ -132,23 +124,23 @@ abbrev pub table : List Row
 table =
     -- C1
     row
-    (planned (best c1 c1-prices)
-    (outcome (startsOutcome c1 c1-prices) ∷ outcome (hoursOutcome c1 c1-prices) ∷ outcome (mwhOutcome c1 c1-prices) ∷ []))
+    (planBefore (best c1 c1-prices)
+    (outcome (outcomeOf c1 c1-prices Starts) ∷ outcome (outcomeOf c1 c1-prices Hours) ∷ outcome (outcomeOf c1 c1-prices Mwh) ∷ []))
     (schedule (0 ∷ 20 ∷ 20 ∷ 10 ∷ 20 ∷ 20 ∷ []) ∷ profit (pos 400000) ∷ outcome (Gap (pos 400000)) ∷ outcome (Gap (pos 320000)) ∷ outcome outcomes.None ∷ [])
     -- C2
-    ∷ row (planned (best c2 c1-prices) (outcome (mwhOutcome c2 c1-prices) ∷ []))
+    ∷ row (planBefore (best c2 c1-prices) (outcome (outcomeOf c2 c1-prices Mwh) ∷ []))
     (schedule (0 ∷ 10 ∷ 10 ∷ 0 ∷ 0 ∷ 20 ∷ []) ∷ profit (pos 210000) ∷ outcome (Gap (pos 0)) ∷ [])
     -- C3, C4: one price
-    ∷ row (planned (best c1 (pos 9000 ∷ [])) []) (schedule (20 ∷ []) ∷ profit (pos 100000) ∷ [])
-    ∷ row (planned (best c4 (pos 9000 ∷ [])) []) (schedule (0 ∷ []) ∷ profit (pos 0) ∷ [])
+    ∷ row (planBefore (best c1 (pos 9000 ∷ [])) []) (schedule (20 ∷ []) ∷ profit (pos 100000) ∷ [])
+    ∷ row (planBefore (best c4 (pos 9000 ∷ [])) []) (schedule (0 ∷ []) ∷ profit (pos 0) ∷ [])
     -- C5: three schedules tie
-    ∷ row (planned (best c5 (pos 3000 ∷ [])) (ties (tiesOf c5 (pos 3000 ∷ [])) ∷ [])) (schedule (0 ∷ []) ∷ profit (pos 0) ∷ ties 3 ∷ [])
+    ∷ row (planBefore (best c5 (pos 3000 ∷ [])) (ties (tiesOf c5 (pos 3000 ∷ [])) ∷ [])) (schedule (0 ∷ []) ∷ profit (pos 0) ∷ ties 3 ∷ [])
     -- C6: no schedule; C7: none with an hour less
-    ∷ row (planned (best c6 c1-prices) []) (number 9 ∷ [])
-    ∷ row (outcome (hoursOutcome c7 c1-prices) ∷ []) (outcome Never ∷ [])
+    ∷ row (planBefore (best c6 c1-prices) []) (number 9 ∷ [])
+    ∷ row (outcome (outcomeOf c7 c1-prices Hours) ∷ []) (outcome Never ∷ [])
     -- C8, C9: nine tenths round to 0
-    ∷ row (profitAlone (best c8 c1-prices) (outcome (hoursOutcome c8 c1-prices) ∷ [])) (profit (pos 320000) ∷ outcome Empty ∷ [])
-    ∷ row (planned (best c9 c1-prices) (outcome (startsOutcome c9 c1-prices) ∷ []))
+    ∷ row (profitBefore (best c8 c1-prices) (outcome (outcomeOf c8 c1-prices Hours) ∷ [])) (profit (pos 320000) ∷ outcome Empty ∷ [])
+    ∷ row (planBefore (best c9 c1-prices) (outcome (outcomeOf c9 c1-prices Starts) ∷ []))
     (schedule (0 ∷ 0 ∷ 0 ∷ 0 ∷ 0 ∷ 0 ∷ []) ∷ profit (pos 0) ∷ outcome Empty ∷ [])
     -- C10, C11, C12: vec, mlc and suc
     ∷ row (cents (vecOf (c10-but 280 0 0 0 0 0 0) (80 ∷ []) (9790 ∷ [])) ∷ []) (cents 5665 ∷ [])
@@ -156,6 +148,6 @@ table =
     ∷ row (cents (sucOf (c10-but 0 50 0 0 100 2 30)) ∷ []) (cents 66875 ∷ [])
     ∷ []
 
--- the definitions give what document 01 says of all twelve
+-- the definitions give what the specification says of all twelve
 pub twelve : map (λ (r : Row). r .computed) table ≡ map (λ (r : Row). r .given) table
 twelve = refl

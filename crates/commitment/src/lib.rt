@@ -1,4 +1,5 @@
-// The types that every call shares, and the checks of a case. The definitions that all is proved against stand in specs/.
+// The types that every call shares, and the checks of a case. specs/ has the definitions that all is proved against, one topic a file;
+// proofs/ what the checks say as orders of numbers (Ranges, Passing), the laws of a list of checks (Causes) and of a margin (Margins).
 
 ghost use mathlib.Core.Path.{_≡_};
 ghost use mathlib.Core.Bool.{true};
@@ -6,8 +7,36 @@ ghost use Prim.Native.Nat.{_≤_};
 ghost use lib.IntN.{natAbs};
 ghost use Rattle.commitment.specs.Profit as profits;
 ghost use Rattle.commitment.specs.Causes.{numberOf};
-ghost use Rattle.commitment.specs.Limits.{limitKept};
-ghost use Rattle.commitment.specs.Ranges.{caseChecked, sizesKept, timesKept, costsKept, limitsKept, rangesKept, shapeKept, priceKept, pricesKept, horizonKept};
+ghost use Rattle.commitment.specs.Limits.{limitKept, limitFor, withLimit, limited};
+ghost use Rattle.commitment.specs.Bounds.{mostMw, mostVec, mostMlc, mostPrice};
+ghost use Rattle.commitment.specs.Ranges.{caseChecked, generatorKept, openingKept, costsKept, limitsKept, rangesKept, shapeKept, priceKept, pricesKept, horizonKept};
+
+// The ends of the ranges. specs/Bounds.antt has the same.
+const MOST_MW: u64 = 500;
+
+const MOST_BLOCKS: u64 = 500;
+
+const MOST_TIME: u64 = 96;
+
+const MOST_HELD: u64 = 9999;
+
+const MOST_VEC: u64 = 2000000;
+
+const MOST_MLC: u64 = 1000000000;
+
+const MOST_SUC: u64 = 4000000000;
+
+const MOST_STARTS: u64 = 2976;
+
+const MOST_HOURS: u64 = 744;
+
+const MOST_MWH: u64 = 372000;
+
+const LEAST_PRICE: i64 = -200000;
+
+const MOST_PRICE: i64 = 200000;
+
+const MOST_INTERVALS: usize = 2976;
 
 // A limitation of the permit: not limited, or at most a number.
 pub enum Limit {
@@ -15,21 +44,46 @@ pub enum Limit {
     At(u64),
 }
 
-// The unit record of document 01, field by field. Only the last three may be `none`.
-pub struct UnitRecord {
+// The unit itself: MW in a block, outputs in blocks, minimum times in intervals.
+pub struct Generator {
     pub block: u64,
     pub pmin: u64,
     pub pmax: u64,
     pub mot: u64,
     pub mdt: u64,
-    pub was: u64,
-    pub held: u64,
+}
+
+pub struct Costs {
     pub vec: u64,
     pub mlc: u64,
     pub suc: u64,
+}
+
+// The state before interval 1, and the intervals spent in it.
+pub struct Opening {
+    pub was: u64,
+    pub held: u64,
+}
+
+pub struct Limits {
     pub starts: Limit,
     pub hours: Limit,
     pub mwh: Limit,
+}
+
+// The unit record of the specification, in its groups.
+pub struct UnitRecord {
+    pub generator: Generator,
+    pub costs: Costs,
+    pub opening: Opening,
+    pub limits: Limits,
+}
+
+// Which of the three limitations.
+pub enum Limitation {
+    Starts,
+    Hours,
+    Mwh,
 }
 
 // Why a call refuses. specs/Causes.antt gives each its number.
@@ -46,10 +100,16 @@ pub enum Cause {
     NotKept,
 }
 
-// What a check finds: nothing, or the lowest cause that holds.
+// What checks find: nothing, or the first cause that holds.
 pub enum Checked {
     Passed,
     Refused(Cause),
+}
+
+// The most that a case can earn, where it has a schedule.
+pub enum BestProfit {
+    Nothing,
+    Profit(i64),
 }
 
 // What valuing a limitation comes to.
@@ -86,74 +146,75 @@ pub struct CostInputs {
     pub load_adder: u64,
 }
 
-// The lowest cause for which the case cannot be worked on, whatever call it is for: 3, 4 or 5.
-pub fn check_case(unit: UnitRecord, prices: &[i64]) -> Checked
-    ensures { λ r. ⌜ r ≡ caseChecked unit (now (prices .entry)) ⌝ }
+// The first cause for which a case of so many intervals cannot be worked on, whatever call it is for: 3, 4 or 5. The prices are judged by whoever
+// has them, in a slice or in a text.
+pub fn check_case(unit: UnitRecord, priced: bool, intervals: usize) -> Checked
+    ensures { λ r. ⌜ r ≡ caseChecked unit priced intervals ⌝ }
 {
-    if !(ranges_kept(unit) & prices_kept(prices)) {
+    if !(ranges_kept(unit) & priced) {
         return Checked::Refused(Cause::Range);
     }
     if !shape_kept(unit) {
         return Checked::Refused(Cause::Shape);
     }
-    if !horizon_kept(prices.len()) {
+    if !horizon_kept(intervals) {
         return Checked::Refused(Cause::Horizon);
     }
     Checked::Passed
 }
 
-const MOST_INTERVALS: usize = 2976;
-
 // There are prices, and not too many.
-pub fn horizon_kept(intervals: usize) -> bool
+fn horizon_kept(intervals: usize) -> bool
     ensures { λ r. ⌜ r ≡ horizonKept intervals ⌝ }
 {
     (1 <= intervals) & (intervals <= MOST_INTERVALS)
 }
 
 // Every field of the record is in its range.
-pub fn ranges_kept(unit: UnitRecord) -> bool
+fn ranges_kept(unit: UnitRecord) -> bool
     ensures { λ r. ⌜ r ≡ rangesKept unit ⌝ }
 {
-    sizes_kept(unit) & times_kept(unit) & costs_kept(unit) & limits_kept(unit)
+    let g = unit.generator;
+    let o = unit.opening;
+    let k = unit.costs;
+    let limits = unit.limits;
+    generator_kept(g) & opening_kept(o) & costs_kept(k) & limits_kept(limits)
 }
 
-fn sizes_kept(unit: UnitRecord) -> bool
-    ensures { λ r. ⌜ r ≡ sizesKept unit ⌝ }
+fn generator_kept(g: Generator) -> bool
+    ensures { λ r. ⌜ r ≡ generatorKept g ⌝ }
 {
-    (1 <= unit.block)
-        & (unit.block <= 500)
-        & (1 <= unit.pmin)
-        & (unit.pmin <= 500)
-        & (1 <= unit.pmax)
-        & (unit.pmax <= 500)
+    (1 <= g.block)
+        & (g.block <= MOST_MW)
+        & (1 <= g.pmin)
+        & (g.pmin <= MOST_BLOCKS)
+        & (1 <= g.pmax)
+        & (g.pmax <= MOST_BLOCKS)
+        & (1 <= g.mot)
+        & (g.mot <= MOST_TIME)
+        & (1 <= g.mdt)
+        & (g.mdt <= MOST_TIME)
 }
 
-fn times_kept(unit: UnitRecord) -> bool
-    ensures { λ r. ⌜ r ≡ timesKept unit ⌝ }
+fn opening_kept(o: Opening) -> bool
+    ensures { λ r. ⌜ r ≡ openingKept o ⌝ }
 {
-    (1 <= unit.mot)
-        & (unit.mot <= 96)
-        & (1 <= unit.mdt)
-        & (unit.mdt <= 96)
-        & (unit.was <= 1)
-        & (1 <= unit.held)
-        & (unit.held <= 9999)
+    (o.was <= 1) & (1 <= o.held) & (o.held <= MOST_HELD)
 }
 
-fn costs_kept(unit: UnitRecord) -> bool
-    ensures { λ r. ⌜ r ≡ costsKept unit ⌝ }
+fn costs_kept(k: Costs) -> bool
+    ensures { λ r. ⌜ r ≡ costsKept k ⌝ }
 {
-    (unit.vec <= 2000000) & (unit.mlc <= 1000000000) & (unit.suc <= 4000000000)
+    (k.vec <= MOST_VEC) & (k.mlc <= MOST_MLC) & (k.suc <= MOST_SUC)
 }
 
-fn limits_kept(unit: UnitRecord) -> bool
-    ensures { λ r. ⌜ r ≡ limitsKept unit ⌝ }
+fn limits_kept(limits: Limits) -> bool
+    ensures { λ r. ⌜ r ≡ limitsKept limits ⌝ }
 {
-    let starts = unit.starts;
-    let hours = unit.hours;
-    let mwh = unit.mwh;
-    limit_kept(2976, starts) & limit_kept(744, hours) & limit_kept(372000, mwh)
+    let starts = limits.starts;
+    let hours = limits.hours;
+    let mwh = limits.mwh;
+    limit_kept(MOST_STARTS, starts) & limit_kept(MOST_HOURS, hours) & limit_kept(MOST_MWH, mwh)
 }
 
 fn limit_kept(most: u64, limit: Limit) -> bool
@@ -166,11 +227,12 @@ fn limit_kept(most: u64, limit: Limit) -> bool
 }
 
 // The product is taken of sizes in range, where it cannot overflow.
-pub fn shape_kept(unit: UnitRecord) -> bool
+fn shape_kept(unit: UnitRecord) -> bool
     requires { ⌜ rangesKept unit ≡ true ⌝ }
-    ensures { λ r. ⌜ r ≡ shapeKept unit ⌝ }
+    ensures { λ r. ⌜ r ≡ shapeKept (unit .generator) ⌝ }
 {
-    (unit.pmin <= unit.pmax) & (unit.pmax * unit.block <= 500)
+    let g = unit.generator;
+    (g.pmin <= g.pmax) & (g.pmax * g.block <= MOST_MW)
 }
 
 // Every price is in its range.
@@ -190,12 +252,65 @@ pub fn prices_kept(prices: &[i64]) -> bool
 pub fn price_kept(price: i64) -> bool
     ensures { λ r. ⌜ r ≡ priceKept price ⌝ }
 {
-    (-200000 <= price) & (price <= 200000)
+    (LEAST_PRICE <= price) & (price <= MOST_PRICE)
+}
+
+// ---- one of the three limitations
+
+pub fn limit_for(limits: Limits, which: Limitation) -> Limit
+    ensures { λ r. ⌜ r ≡ limitFor limits which ⌝ }
+{
+    match which {
+        Limitation::Starts => limits.starts,
+        Limitation::Hours => limits.hours,
+        Limitation::Mwh => limits.mwh,
+    }
+}
+
+// The limitations with one of them replaced.
+pub fn with_limit(limits: Limits, which: Limitation, limit: Limit) -> Limits
+    ensures { λ r. ⌜ r ≡ withLimit limits which limit ⌝ }
+{
+    let starts = limits.starts;
+    let hours = limits.hours;
+    let mwh = limits.mwh;
+    match which {
+        Limitation::Starts => Limits {
+            starts: limit,
+            hours,
+            mwh,
+        },
+        Limitation::Hours => Limits {
+            starts,
+            hours: limit,
+            mwh,
+        },
+        Limitation::Mwh => Limits {
+            starts,
+            hours,
+            mwh: limit,
+        },
+    }
+}
+
+// The unit under other limitations.
+pub fn under_limits(unit: UnitRecord, limits: Limits) -> UnitRecord
+    ensures { λ r. ⌜ r ≡ limited unit limits ⌝ }
+{
+    let generator = unit.generator;
+    let costs = unit.costs;
+    let opening = unit.opening;
+    UnitRecord {
+        generator,
+        costs,
+        opening,
+        limits,
+    }
 }
 
 // What an on-interval adds to the profit, of figures in their ranges.
 pub fn margin(price: i64, output: u64, vec: u64, least: u64, mlc: u64) -> i64
-    requires { ⌜ (natAbs price ≤ 200000) × (output ≤ 500) × (vec ≤ 2000000) × (least ≤ 500) × (mlc ≤ 1000000000) ⌝ }
+    requires { ⌜ (natAbs price ≤ mostPrice) × (output ≤ mostMw) × (vec ≤ mostVec) × (least ≤ mostMw) × (mlc ≤ mostMlc) ⌝ }
     ensures { λ r. ⌜ r ≡ profits.margin price output vec least mlc ⌝ }
 {
     let m = integers::signed(output);
@@ -204,7 +319,7 @@ pub fn margin(price: i64, output: u64, vec: u64, least: u64, mlc: u64) -> i64
     price * m - cost - integers::signed(mlc)
 }
 
-// The number of a cause in document 01's table.
+// The number of a cause in the specification's table.
 pub fn number_of(cause: Cause) -> u64
     ensures { λ r. ⌜ r ≡ numberOf cause ⌝ }
 {

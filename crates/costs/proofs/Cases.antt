@@ -1,4 +1,4 @@
--- C10, C11 and C12 of document 01 by the whole answer of `figures`, check and all.
+-- C10, C11 and C12 of the specification by the whole answer of `figures`, check and all.
 use mathlib.Core.Path.{_≡_, refl}
 use mathlib.Core.List.{[], _∷_}
 use Rattle.commitment.specs.declared.CostInputs.{CostInputs}

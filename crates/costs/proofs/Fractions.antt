@@ -4,6 +4,7 @@ use Prim.Native.Nat.{ℕ, _+_, _-_, _*_, _/_, _%_, _≤_, _<_}
 use native.Mathlib.Nat.{mul-pos, mul-div-mul-right, mod-lt, div-add-mod', div-eq-of-lt-le, div-mul-le-self, lt-div-mul-add}
 use native.Mathlib.Omega.{arith}
 use Rattle.commitment.specs.Fractions.{Fraction, _over_, whole, _plus_, _times_, rounded}
+use Rattle.costs.specs.Rounding.{HalfUp}
 
 -- the fraction is n d-ths
 pub record Worth (d n : ℕ) (f : Fraction) : Type 0 where
@@ -63,13 +64,8 @@ module _ (num den : ℕ) (positive : 0 < den) where
   pub rounded-up : den - num % den ≤ num % den → num / den + 1 ≡ rounded (num over den)
   rounded-up h = sym (div-eq-of-lt-le (2 * den) (omega (arith, parts, mod-lt num positive)) (omega (arith, parts, mod-lt num positive)))
 
--- no further than half of one from the fraction, on either side
-pub record Near (cents : ℕ) (f : Fraction) : Type 0 where
-  pub over-by : 2 * (cents * f .den) ≤ 2 * f .num + f .den
-  pub under-by : 2 * f .num ≤ 2 * (cents * f .den) + f .den
-
-pub rounded-near : (f : Fraction) → 0 < f .den → Near (rounded f) f
-rounded-near f h =
+pub rounded-half-up : (f : Fraction) → 0 < f .den → HalfUp (rounded f) f
+rounded-half-up f h =
     let high = div-mul-le-self (2 * f .num + f .den) (2 * f .den) in
     let low = lt-div-mul-add {a = 2 * f .num + f .den} {b = 2 * f .den} (omega arith) in
-    record { over-by = omega (arith, high); under-by = omega (arith, low) }
+    record { above = omega (arith, high); below = omega (arith, low) }

@@ -8,17 +8,19 @@ use native.Mathlib.Omega.{arith}
 use borrow.Author.Tests.{leb-true, eqb-true}
 use lib.Dec.{leb, eqb}
 use lib.ListN.{length}
+use Rattle.costs.specs.Bounds.{mostTariff, mostRate, mostHeat, mostSegments, mostFuel, mostAux, mostMinutes, mostAdder}
+use Rattle.commitment.specs.Bounds.{mostMw, mostBlocks}
 use Rattle.commitment.specs.declared.CostInputs.{CostInputs}
 use Rattle.commitment.specs.declared.Cause.{Cause}
 use Rattle.commitment.specs.declared.Cause.the-variants.{Range, Shape, Segments, Length}
 use Rattle.commitment.specs.declared.Checked.{Checked}
 use Rattle.commitment.specs.declared.Checked.the-variants.{Passed}
 use Rattle.commitment.specs.Causes.{unless}
-use Rattle.commitment.specs.Ranges.{every}
+use Rattle.lists.specs.Every.{every}
 use Rattle.commitment.specs.Figures.{totalMw}
-use Rattle.costs.specs.Ranges.{oneTo, countKept, sizesKept, pricesKept, ratesKept, startKept, inputsKept, segmentsKept, shapeKept, rangeMw, inputsChecked}
+use Rattle.costs.specs.Ranges.{oneTo, countKept, sizesKept, tariffsKept, ratesKept, startKept, inputsKept, segmentsKept, outputsKept, rangeMw, inputsChecked}
 use Rattle.costs.specs.Sizes.{HeatSizes, StartSizes, LoadSizes}
-use Rattle.commitment.proofs.Conjunctions.{both}
+use Rattle.lists.proofs.Conjunctions.{both}
 
 -- ---- the inputs but for the segments
 
@@ -26,83 +28,83 @@ pub one-to : (most n : ℕ) → oneTo most n ≡ true → (1 ≤ n) × (n ≤ mo
 one-to most n e = let f = both (leb 1 n) (leb n most) e in (leb-true 1 n (f .0), leb-true n most (f .1))
 
 pub record InRange (k : CostInputs) : Type 0 where
-  pub block : k .block ≤ 500
-  pub pmin : k .pmin ≤ 500
-  pub pmax : k .pmax ≤ 500
-  pub gas : k .gas ≤ 10000
-  pub transport : k .transport ≤ 10000
-  pub allowance : k .allowance ≤ 10000
-  pub om : k .om ≤ 10000
-  pub gmc : k .gmc ≤ 10000
-  pub rate : k .rate ≤ 1000000
-  pub min-heat : k .«min_heat» ≤ 50000
-  pub fuel : k .fuel ≤ 100000
-  pub aux : k .aux ≤ 1000
-  pub minutes : k .minutes ≤ 1440
-  pub start-adder : k .«start_adder» ≤ 10000000
-  pub load-adder : k .«load_adder» ≤ 10000000
+  pub block : k .block ≤ mostMw
+  pub pmin : k .pmin ≤ mostBlocks
+  pub pmax : k .pmax ≤ mostBlocks
+  pub gas : k .gas ≤ mostTariff
+  pub transport : k .transport ≤ mostTariff
+  pub allowance : k .allowance ≤ mostTariff
+  pub om : k .om ≤ mostTariff
+  pub gmc : k .gmc ≤ mostTariff
+  pub rate : k .rate ≤ mostRate
+  pub min-heat : k .«min_heat» ≤ mostHeat
+  pub fuel : k .fuel ≤ mostFuel
+  pub aux : k .aux ≤ mostAux
+  pub minutes : k .minutes ≤ mostMinutes
+  pub start-adder : k .«start_adder» ≤ mostAdder
+  pub load-adder : k .«load_adder» ≤ mostAdder
 
 pub in-range : (k : CostInputs) → inputsKept k ≡ true → InRange k
 unfolding inputsKept
 in-range k e =
     let start = both _ (startKept k) e in
     let rates = both _ (ratesKept k) (start .0) in
-    let groups = both (sizesKept k) (pricesKept k) (rates .0) in
-    let s3 = both _ (oneTo 500 (k .pmax)) (groups .0) in
-    let s2 = both (oneTo 500 (k .block)) (oneTo 500 (k .pmin)) (s3 .0) in
-    let p5 = both _ (leb (k .gmc) 10000) (groups .1) in
-    let p4 = both _ (leb (k .om) 10000) (p5 .0) in
-    let p3 = both _ (leb (k .allowance) 10000) (p4 .0) in
-    let p2 = both (leb (k .gas) 10000) (leb (k .transport) 10000) (p3 .0) in
-    let r2 = both (leb (k .rate) 1000000) (oneTo 50000 (k .«min_heat»)) (rates .1) in
-    let t5 = both _ (leb (k .«load_adder») 10000000) (start .1) in
-    let t4 = both _ (leb (k .«start_adder») 10000000) (t5 .0) in
-    let t3 = both _ (leb (k .minutes) 1440) (t4 .0) in
-    let t2 = both (leb (k .fuel) 100000) (leb (k .aux) 1000) (t3 .0) in
+    let groups = both (sizesKept k) (tariffsKept k) (rates .0) in
+    let s3 = both _ (oneTo mostBlocks (k .pmax)) (groups .0) in
+    let s2 = both (oneTo mostMw (k .block)) (oneTo mostBlocks (k .pmin)) (s3 .0) in
+    let p5 = both _ (leb (k .gmc) mostTariff) (groups .1) in
+    let p4 = both _ (leb (k .om) mostTariff) (p5 .0) in
+    let p3 = both _ (leb (k .allowance) mostTariff) (p4 .0) in
+    let p2 = both (leb (k .gas) mostTariff) (leb (k .transport) mostTariff) (p3 .0) in
+    let r2 = both (leb (k .rate) mostRate) (oneTo mostHeat (k .«min_heat»)) (rates .1) in
+    let t5 = both _ (leb (k .«load_adder») mostAdder) (start .1) in
+    let t4 = both _ (leb (k .«start_adder») mostAdder) (t5 .0) in
+    let t3 = both _ (leb (k .minutes) mostMinutes) (t4 .0) in
+    let t2 = both (leb (k .fuel) mostFuel) (leb (k .aux) mostAux) (t3 .0) in
     record {
-      block = one-to 500 (k .block) (s2 .0) .1;
-      pmin = one-to 500 (k .pmin) (s2 .1) .1;
-      pmax = one-to 500 (k .pmax) (s3 .1) .1;
-      gas = leb-true (k .gas) 10000 (p2 .0);
-      transport = leb-true (k .transport) 10000 (p2 .1);
-      allowance = leb-true (k .allowance) 10000 (p3 .1);
-      om = leb-true (k .om) 10000 (p4 .1);
-      gmc = leb-true (k .gmc) 10000 (p5 .1);
-      rate = leb-true (k .rate) 1000000 (r2 .0);
-      min-heat = one-to 50000 (k .«min_heat») (r2 .1) .1;
-      fuel = leb-true (k .fuel) 100000 (t2 .0);
-      aux = leb-true (k .aux) 1000 (t2 .1);
-      minutes = leb-true (k .minutes) 1440 (t3 .1);
-      start-adder = leb-true (k .«start_adder») 10000000 (t4 .1);
-      load-adder = leb-true (k .«load_adder») 10000000 (t5 .1);
+      block = one-to mostMw (k .block) (s2 .0) .1;
+      pmin = one-to mostBlocks (k .pmin) (s2 .1) .1;
+      pmax = one-to mostBlocks (k .pmax) (s3 .1) .1;
+      gas = leb-true (k .gas) mostTariff (p2 .0);
+      transport = leb-true (k .transport) mostTariff (p2 .1);
+      allowance = leb-true (k .allowance) mostTariff (p3 .1);
+      om = leb-true (k .om) mostTariff (p4 .1);
+      gmc = leb-true (k .gmc) mostTariff (p5 .1);
+      rate = leb-true (k .rate) mostRate (r2 .0);
+      min-heat = one-to mostHeat (k .«min_heat») (r2 .1) .1;
+      fuel = leb-true (k .fuel) mostFuel (t2 .0);
+      aux = leb-true (k .aux) mostAux (t2 .1);
+      minutes = leb-true (k .minutes) mostMinutes (t3 .1);
+      start-adder = leb-true (k .«start_adder») mostAdder (t4 .1);
+      load-adder = leb-true (k .«load_adder») mostAdder (t5 .1);
     }
 
 pub record InShape (k : CostInputs) : Type 0 where
   pub ordered : k .pmin ≤ k .pmax
-  pub most : k .pmax * k .block ≤ 500
+  pub most : k .pmax * k .block ≤ mostMw
 
-pub in-shape : (k : CostInputs) → shapeKept k ≡ true → InShape k
+pub in-shape : (k : CostInputs) → outputsKept k ≡ true → InShape k
 in-shape k e =
-    let f = both (leb (k .pmin) (k .pmax)) (leb (k .pmax * k .block) 500) e in
-    record { ordered = leb-true (k .pmin) (k .pmax) (f .0); most = leb-true (k .pmax * k .block) 500 (f .1) }
+    let f = both (leb (k .pmin) (k .pmax)) (leb (k .pmax * k .block) mostMw) e in
+    record { ordered = leb-true (k .pmin) (k .pmax) (f .0); most = leb-true (k .pmax * k .block) mostMw (f .1) }
 
 -- ---- the segments
 
 pub record InSegments (mws heats : List ℕ) : Type 0 where
-  pub mw-count : length mws ≤ 10
-  pub heat-count : length heats ≤ 10
-  pub mws-kept : every (oneTo 500) mws ≡ true
-  pub heats-kept : every (oneTo 50000) heats ≡ true
+  pub mw-count : length mws ≤ mostSegments
+  pub heat-count : length heats ≤ mostSegments
+  pub mws-kept : every (oneTo mostMw) mws ≡ true
+  pub heats-kept : every (oneTo mostHeat) heats ≡ true
 
 pub in-segments : (mws heats : List ℕ) → segmentsKept mws heats ≡ true → InSegments mws heats
 unfolding segmentsKept
 in-segments mws heats e =
-    let f4 = both _ (every (oneTo 50000) heats) e in
-    let f3 = both _ (every (oneTo 500) mws) (f4 .0) in
+    let f4 = both _ (every (oneTo mostHeat) heats) e in
+    let f3 = both _ (every (oneTo mostMw) mws) (f4 .0) in
     let f2 = both (countKept (length mws)) (countKept (length heats)) (f3 .0) in
     record {
-      mw-count = leb-true (length mws) 10 (f2 .0);
-      heat-count = leb-true (length heats) 10 (f2 .1);
+      mw-count = leb-true (length mws) mostSegments (f2 .0);
+      heat-count = leb-true (length heats) mostSegments (f2 .1);
       mws-kept = f3 .1;
       heats-kept = f4 .1;
     }
@@ -124,7 +126,7 @@ pub accepted : (k : CostInputs) (mws heats : List ℕ) → inputsChecked k mws h
 unfolding inputsChecked
 accepted k mws heats e =
     let ranges = passed (inputsKept k && segmentsKept mws heats) Range _ e in
-    let shape = passed (shapeKept k) Shape _ (ranges .1) in
+    let shape = passed (outputsKept k) Shape _ (ranges .1) in
     let total = passed (eqb (totalMw mws) (rangeMw k)) Segments _ (shape .1) in
     let lengths = passed (eqb (length mws) (length heats)) Length _ (total .1) in
     let f = both (inputsKept k) (segmentsKept mws heats) (ranges .0) in
@@ -143,11 +145,11 @@ module _ (k : CostInputs) (range : InRange k) where
   heat-sizes = record { price = omega arith; allowance = mul-le-mul (range .allowance) (range .rate) }
 
   module _ (shape : InShape k) where
-    pmin-mw : k .pmin * k .block ≤ 500
+    pmin-mw : k .pmin * k .block ≤ mostMw
     pmin-mw = omega (arith, mul-le-mul-right (k .block) (shape .ordered), shape .most)
 
     -- what the segments add up to
-    pub range-mw : rangeMw k ≤ 500
+    pub range-mw : rangeMw k ≤ mostMw
     range-mw = omega (arith, mul-le-mul-right {m = k .pmax - k .pmin} {n = k .pmax} (k .block) (omega arith), shape .most)
 
     pub start-sizes : StartSizes k

@@ -6,13 +6,15 @@ use Prim.Native.Nat.{ℕ, zero, suc, _+_, _*_, _^_, _≤_, _<_}
 use native.Mathlib.Nat.{mul-le-mul, mul-le-mul-left, mul-le-mul-right}
 use native.Mathlib.Omega.{arith}
 use lib.ListN.{length, drop, getD}
-use Rattle.integers.proofs.Fills.{drop-next}
+use Rattle.costs.specs.Bounds.{mostHeat}
+use Rattle.commitment.specs.Bounds.{mostMw}
+use Rattle.lists.proofs.Fills.{drop-next}
 use Rattle.commitment.specs.declared.CostInputs.{CostInputs}
-use Rattle.commitment.specs.Ranges.{every}
+use Rattle.lists.specs.Every.{every}
 use Rattle.commitment.specs.Figures.{totalMw}
 use Rattle.costs.specs.Ranges.{oneTo}
 use Rattle.costs.specs.Numerators.{heatPrice, segmentUnits, weightedUnits}
-use Rattle.commitment.proofs.Conjunctions.{both}
+use Rattle.lists.proofs.Conjunctions.{both}
 use Rattle.costs.proofs.Ranges.{one-to, Accepted, heat-sizes, range-mw}
 
 -- ---- one segment more
@@ -74,9 +76,9 @@ total-some most (mw ∷ mws) e h = omega (arith, one-to most mw (both (oneTo mos
 pub weighted-fits : (k : CostInputs) (mws heats : List ℕ) → Accepted k mws heats → weightedUnits (heatPrice k) (k .om) mws heats < 2 ^ 64
 weighted-fits k mws heats a =
     let s = heat-sizes k (a .inputs) in
-    let total : totalMw mws ≤ 500 = omega (arith, a .total, range-mw k (a .inputs) (a .shape)) in
-    let unit : segmentUnits (heatPrice k) (k .om) 50000 ≤ 10600000000000000 = omega (arith, s .price, s .allowance, a .inputs .om) in
-    below (weighted-most (heatPrice k) (k .om) 50000 mws heats (a .segments .heats-kept)) (mul-le-mul total unit)
+    let total : totalMw mws ≤ mostMw = omega (arith, a .total, range-mw k (a .inputs) (a .shape)) in
+    let unit : segmentUnits (heatPrice k) (k .om) mostHeat ≤ 10600000000000000 = omega (arith, s .price, s .allowance, a .inputs .om) in
+    below (weighted-most (heatPrice k) (k .om) mostHeat mws heats (a .segments .heats-kept)) (mul-le-mul total unit)
   where
     below : {n m : ℕ} → n ≤ m → m ≤ 5300000000000000000 → n < 2 ^ 64
     below h j = omega arith

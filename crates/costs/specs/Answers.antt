@@ -1,4 +1,4 @@
--- The answer of `figures`: the three figures, or the lowest cause; with its number and its figures in every case.
+-- The answer of `figures`: the three figures, or the first cause; with its number and its figures in every case.
 use mathlib.Core.List.{List}
 use Prim.Native.Nat.{ℕ}
 use Rattle.commitment.specs.declared.CostInputs.{CostInputs}
@@ -18,12 +18,12 @@ abbrev pub threeFigures : CostInputs → List ℕ → List ℕ → CostFigures
 threeFigures k mws heats = record { vec = vecOf k mws heats; suc = sucOf k; mlc = mlcOf k }
 
 -- the figures where the check finds nothing
-abbrev pub answered : Checked → CostFigures → Costed
-answered checked.Passed figures = Figures figures
-answered (checked.Refused cause) figures = Refused cause
+abbrev pub costedBy : Checked → CostFigures → Costed
+costedBy checked.Passed figures = Figures figures
+costedBy (checked.Refused cause) figures = Refused cause
 
 unfoldable pub costed : CostInputs → List ℕ → List ℕ → Costed
-costed k mws heats = answered (inputsChecked k mws heats) (threeFigures k mws heats)
+costed k mws heats = costedBy (inputsChecked k mws heats) (threeFigures k mws heats)
 
 -- ---- its number and its figures: "On a refusal every other number of the answer is 0 too"
 

@@ -9,13 +9,35 @@ ghost use mathlib.Core.Bool.{true};
 ghost use Prim.Native.Nat.{_^_, _<_, _≤_};
 ghost use lib.ListN.{length};
 ghost use Rattle.commitment.specs.declared.Checked.the-variants.{Passed};
-ghost use Rattle.commitment.specs.Ranges.{every};
+ghost use Rattle.lists.specs.Every.{every};
+ghost use Rattle.commitment.specs.Bounds.{mostMw};
 ghost use Rattle.commitment.specs.Fractions.{_over_, rounded};
 ghost use Rattle.commitment.specs.Figures.{vecOf, sucOf, mlcOf, totalMw};
-ghost use Rattle.costs.specs.Ranges.{oneTo, sizesKept, pricesKept, ratesKept, startKept, inputsKept, segmentsKept, shapeKept, inputsChecked};
+ghost use Rattle.costs.specs.Ranges.{oneTo, sizesKept, tariffsKept, ratesKept, startKept, inputsKept, segmentsKept, outputsKept, inputsChecked};
 ghost use Rattle.costs.specs.Answers.{costed, threeFigures};
 ghost use Rattle.costs.specs.Sizes.{HeatSizes, StartSizes, LoadSizes};
 ghost use Rattle.costs.specs.Numerators.{heatPrice, weightedUnits, sucUnits, mlcUnits, allowanceUnits};
+
+// The ends of the ranges. specs/Bounds.antt has the same.
+const MOST_MW: u64 = 500;
+
+const MOST_BLOCKS: u64 = 500;
+
+const MOST_TARIFF: u64 = 10000;
+
+const MOST_RATE: u64 = 1000000;
+
+const MOST_HEAT: u64 = 50000;
+
+const MOST_SEGMENTS: usize = 10;
+
+const MOST_FUEL: u64 = 100000;
+
+const MOST_AUX: u64 = 1000;
+
+const MOST_MINUTES: u64 = 1440;
+
+const MOST_ADDER: u64 = 10000000;
 
 // In whole cents: per MWh, for a start, per hour.
 pub struct CostFigures {
@@ -30,7 +52,7 @@ pub enum Costed {
     Refused(Cause),
 }
 
-// The three figures, or the lowest cause for which there are none: 3, 4, 6 or 7.
+// The three figures, or the first cause for which there are none: 3, 4, 6 or 7.
 pub fn figures(inputs: CostInputs, mws: &[u64], heats: &[u64]) -> Costed
     ensures { λ r. ⌜ r ≡ costed inputs (now (mws .entry)) (now (heats .entry)) ⌝ }
 {
@@ -59,7 +81,7 @@ fn check_inputs(inputs: CostInputs, mws: &[u64], heats: &[u64]) -> Checked
     if !(inputs_kept(inputs) & segments_kept(mws, heats)) {
         return Checked::Refused(Cause::Range);
     }
-    if !shape_kept(inputs) {
+    if !outputs_kept(inputs) {
         return Checked::Refused(Cause::Shape);
     }
     let total = total_mw(mws);
@@ -76,51 +98,51 @@ fn check_inputs(inputs: CostInputs, mws: &[u64], heats: &[u64]) -> Checked
 fn inputs_kept(inputs: CostInputs) -> bool
     ensures { λ r. ⌜ r ≡ inputsKept inputs ⌝ }
 {
-    sizes_kept(inputs) & prices_kept(inputs) & rates_kept(inputs) & start_kept(inputs)
+    sizes_kept(inputs) & tariffs_kept(inputs) & rates_kept(inputs) & start_kept(inputs)
 }
 
 fn sizes_kept(inputs: CostInputs) -> bool
     ensures { λ r. ⌜ r ≡ sizesKept inputs ⌝ }
 {
-    ((1 <= inputs.block) & (inputs.block <= 500))
-        & ((1 <= inputs.pmin) & (inputs.pmin <= 500))
-        & ((1 <= inputs.pmax) & (inputs.pmax <= 500))
+    ((1 <= inputs.block) & (inputs.block <= MOST_MW))
+        & ((1 <= inputs.pmin) & (inputs.pmin <= MOST_BLOCKS))
+        & ((1 <= inputs.pmax) & (inputs.pmax <= MOST_BLOCKS))
 }
 
-fn prices_kept(inputs: CostInputs) -> bool
-    ensures { λ r. ⌜ r ≡ pricesKept inputs ⌝ }
+fn tariffs_kept(inputs: CostInputs) -> bool
+    ensures { λ r. ⌜ r ≡ tariffsKept inputs ⌝ }
 {
-    (inputs.gas <= 10000)
-        & (inputs.transport <= 10000)
-        & (inputs.allowance <= 10000)
-        & (inputs.om <= 10000)
-        & (inputs.gmc <= 10000)
+    (inputs.gas <= MOST_TARIFF)
+        & (inputs.transport <= MOST_TARIFF)
+        & (inputs.allowance <= MOST_TARIFF)
+        & (inputs.om <= MOST_TARIFF)
+        & (inputs.gmc <= MOST_TARIFF)
 }
 
 fn rates_kept(inputs: CostInputs) -> bool
     ensures { λ r. ⌜ r ≡ ratesKept inputs ⌝ }
 {
-    (inputs.rate <= 1000000) & ((1 <= inputs.min_heat) & (inputs.min_heat <= 50000))
+    (inputs.rate <= MOST_RATE) & ((1 <= inputs.min_heat) & (inputs.min_heat <= MOST_HEAT))
 }
 
 fn start_kept(inputs: CostInputs) -> bool
     ensures { λ r. ⌜ r ≡ startKept inputs ⌝ }
 {
-    (inputs.fuel <= 100000)
-        & (inputs.aux <= 1000)
-        & (inputs.minutes <= 1440)
-        & (inputs.start_adder <= 10000000)
-        & (inputs.load_adder <= 10000000)
+    (inputs.fuel <= MOST_FUEL)
+        & (inputs.aux <= MOST_AUX)
+        & (inputs.minutes <= MOST_MINUTES)
+        & (inputs.start_adder <= MOST_ADDER)
+        & (inputs.load_adder <= MOST_ADDER)
 }
 
 // Lists that are too long are not walked.
 fn segments_kept(mws: &[u64], heats: &[u64]) -> bool
     ensures { λ r. ⌜ r ≡ segmentsKept (now (mws .entry)) (now (heats .entry)) ⌝ }
 {
-    if !((mws.len() <= 10) & (heats.len() <= 10)) {
+    if !((mws.len() <= MOST_SEGMENTS) & (heats.len() <= MOST_SEGMENTS)) {
         return false;
     }
-    every_one_to(500, mws) & every_one_to(50000, heats)
+    every_one_to(MOST_MW, mws) & every_one_to(MOST_HEAT, heats)
 }
 
 fn every_one_to(most: u64, list: &[u64]) -> bool
@@ -143,11 +165,11 @@ fn one_to(most: u64, n: u64) -> bool
 }
 
 // The product is taken of sizes in range, where it cannot overflow.
-fn shape_kept(inputs: CostInputs) -> bool
+fn outputs_kept(inputs: CostInputs) -> bool
     requires { ⌜ inputsKept inputs ≡ true ⌝ }
-    ensures { λ r. ⌜ r ≡ shapeKept inputs ⌝ }
+    ensures { λ r. ⌜ r ≡ outputsKept inputs ⌝ }
 {
-    (inputs.pmin <= inputs.pmax) & (inputs.pmax * inputs.block <= 500)
+    (inputs.pmin <= inputs.pmax) & (inputs.pmax * inputs.block <= MOST_MW)
 }
 
 fn total_mw(mws: &[u64]) -> u64
@@ -194,7 +216,7 @@ fn heat_price(inputs: CostInputs) -> u64
 
 fn weighted_units(price: u64, om: u64, mws: &[u64], heats: &[u64]) -> u64
     requires { ⌜ length (now mws) ≡ length (now heats) ⌝ }
-    requires { ⌜ every (oneTo 500) (now mws) ≡ true ⌝ }
+    requires { ⌜ every (oneTo mostMw) (now mws) ≡ true ⌝ }
     requires { ⌜ weightedUnits price om (now mws) (now heats) < 2 ^ 64 ⌝ }
     ensures { λ r. ⌜ r ≡ weightedUnits price om (now (mws .entry)) (now (heats .entry)) ⌝ }
 {

@@ -4,13 +4,9 @@ use Rattle.assessment.specs.declared.Assessed.{Assessed}
 use Rattle.assessment.specs.Assessed.{assessedNumber, assessedProfit}
 use Rattle.casefile.specs.declared.CaseRead.{CaseRead}
 use Rattle.casefile.specs.Answers.{readNumber, readCount, readUnit}
-use Rattle.commitment.specs.declared.Cause.the-variants.{Range, Shape, Horizon}
 use Rattle.commitment.specs.declared.Checked.{Checked}
 use Rattle.commitment.specs.declared.Checked.the-variants.{Passed, Refused}
-use Rattle.commitment.specs.declared.UnitRecord.{UnitRecord}
-use Rattle.commitment.specs.Causes.{numberOf, unless}
-use Rattle.commitment.specs.Ranges.{rangesKept, shapeKept, horizonKept}
-use Rattle.commitment.specs.Valuing.{noOutcomes}
+use Rattle.commitment.specs.Causes.{numberOf}
 use Rattle.costs.specs.declared.Costed.{Costed}
 use Rattle.costs.specs.Answers.{costedNumber, costedVec, costedSuc, costedMlc}
 use Rattle.listing.specs.declared.Written.{Written}
@@ -26,7 +22,6 @@ use Rattle.exports.specs.declared.numbers.AssessNumbers.{AssessNumbers}
 use Rattle.exports.specs.declared.numbers.CaseNumbers.{CaseNumbers}
 use Rattle.exports.specs.declared.numbers.CellsNumbers.{CellsNumbers}
 use Rattle.exports.specs.declared.numbers.FiguresNumbers.{FiguresNumbers}
-use Rattle.exports.specs.declared.numbers.OutcomesNumbers.{OutcomesNumbers}
 use Rattle.exports.specs.declared.numbers.PlanNumbers.{PlanNumbers}
 use Rattle.exports.specs.declared.numbers.ReportNumbers.{ReportNumbers}
 use Rattle.exports.specs.declared.numbers.ValueNumbers.{ValueNumbers}
@@ -47,9 +42,6 @@ abbrev pub planNumbers : Planned → PlanNumbers
 planNumbers answer =
     record { number = plannedNumber answer; count = plannedCount answer; profit = plannedProfit answer }
 
-abbrev pub noneNumbers : OutcomesNumbers
-noneNumbers = outcomesNumbers noOutcomes
-
 abbrev pub valueNumbers : Valued → ValueNumbers
 valueNumbers answer = record { number = valuedNumber answer; outcomes = outcomesNumbers (valuedOutcomes answer) }
 
@@ -62,10 +54,7 @@ reportNumbers answer =
       outcomes = outcomesNumbers (reportedOutcomes answer);
     }
 
--- ---- the cells that a case of so many intervals needs: the causes of its record and of their number, 3, 4 and 5
-
-abbrev pub cellsChecked : UnitRecord → ℕ → Checked
-cellsChecked u n = unless (rangesKept u) Range (unless (shapeKept u) Shape (unless (horizonKept n) Horizon Passed))
+-- ---- the cells that a case of so many intervals needs, where its check passes
 
 abbrev pub cellsNumbers : Checked → ℕ → CellsNumbers
 cellsNumbers Passed needed = record { number = 0; cells = needed }

@@ -30,37 +30,28 @@ limitNumber (limit.At number) = number
 abbrev pub recordOf : UnitNumbers → UnitRecord
 recordOf u =
     record {
-      block = u .block;
-      pmin = u .pmin;
-      pmax = u .pmax;
-      mot = u .mot;
-      mdt = u .mdt;
-      was = u .was;
-      held = u .held;
-      vec = u .vec;
-      mlc = u .mlc;
-      suc = u .suc;
-      starts = limitFrom (u .starts);
-      hours = limitFrom (u .hours);
-      mwh = limitFrom (u .mwh);
+      generator = record { block = u .block; pmin = u .pmin; pmax = u .pmax; mot = u .mot; mdt = u .mdt };
+      costs = record { vec = u .vec; mlc = u .mlc; suc = u .suc };
+      opening = record { was = u .was; held = u .held };
+      limits = record { starts = limitFrom (u .starts); hours = limitFrom (u .hours); mwh = limitFrom (u .mwh) };
     }
 
 abbrev pub unitNumbers : UnitRecord → UnitNumbers
 unitNumbers u =
     record {
-      block = u .block;
-      pmin = u .pmin;
-      pmax = u .pmax;
-      mot = u .mot;
-      mdt = u .mdt;
-      was = u .was;
-      held = u .held;
-      vec = u .vec;
-      mlc = u .mlc;
-      suc = u .suc;
-      starts = limitNumber (u .starts);
-      hours = limitNumber (u .hours);
-      mwh = limitNumber (u .mwh);
+      block = u .generator .block;
+      pmin = u .generator .pmin;
+      pmax = u .generator .pmax;
+      mot = u .generator .mot;
+      mdt = u .generator .mdt;
+      was = u .opening .was;
+      held = u .opening .held;
+      vec = u .costs .vec;
+      mlc = u .costs .mlc;
+      suc = u .costs .suc;
+      starts = limitNumber (u .limits .starts);
+      hours = limitNumber (u .limits .hours);
+      mwh = limitNumber (u .limits .mwh);
     }
 
 -- ---- outcomes: 0 none, 1 empty, 2 never, 3 a gap

@@ -1,12 +1,10 @@
 // The C interface for hosts: numbers, slices and structs of numbers. A slice is a pointer and a length, in this order. Each call is the
-// Rattle call of the same name with its record and its answer in numbers; none has a `requires`.
+// Rattle call of the same name with its record and its answer in numbers (mod numbers); none has a `requires`.
 
 mod numbers;
 
-use commitment::Cause;
 use commitment::Checked;
 use commitment::CostInputs;
-use commitment::UnitRecord;
 use numbers::AssessNumbers;
 use numbers::CaseNumbers;
 use numbers::CellsNumbers;
@@ -19,16 +17,18 @@ use numbers::ValueNumbers;
 use numbers::WrittenNumbers;
 ghost use mathlib.Core.Path.{_≡_};
 ghost use lib.ListN.{length};
+ghost use mathlib.Core.Bool.{true};
 ghost use Rattle.commitment.specs.Cells.{cellsNeeded};
+ghost use Rattle.commitment.specs.Ranges.{caseChecked};
 ghost use Rattle.assessment.specs.Assessed.{assessed};
 ghost use Rattle.casefile.specs.Answers.{readCase, readPrices};
 ghost use Rattle.costs.specs.Answers.{costed};
-ghost use Rattle.listing.specs.Listing.{listing, refusal, fitted, answered, bufferAfter};
+ghost use Rattle.listing.specs.Listing.{listing, refusal, fitted, writtenBy, bufferAfter};
 ghost use Rattle.planner.specs.Planning.{planned, scheduleLeft, scratchLeft};
 ghost use Rattle.planner.specs.Reporting.{reported};
 ghost use Rattle.planner.specs.Valuing.{valued, scratchValued};
 ghost use Rattle.exports.specs.Records.{recordOf, outcomesFrom};
-ghost use Rattle.exports.specs.Answers.{assessNumbers, caseNumbers, cellsChecked, cellsNumbers, figuresNumbers, planNumbers, reportNumbers, valueNumbers, writtenNumbers};
+ghost use Rattle.exports.specs.Answers.{assessNumbers, caseNumbers, cellsNumbers, figuresNumbers, planNumbers, reportNumbers, valueNumbers, writtenNumbers};
 
 // The text of a case into its record, its prices into the front of the slice.
 #[no_mangle]
@@ -59,13 +59,13 @@ pub extern "C" fn ralwinga_assess(
     numbers::of_assessment(assessment::assess(numbers::record_of(unit), prices, schedule))
 }
 
-// The cells that a case of so many intervals needs; or 3, 4 or 5.
+// The cells that a case of so many intervals needs; or 3, 4 or 5. Its prices are not judged.
 #[no_mangle]
 pub extern "C" fn ralwinga_cells(unit: UnitNumbers, intervals: usize) -> CellsNumbers
-    ensures { λ r. ⌜ r ≡ cellsNumbers (cellsChecked (recordOf unit) intervals) (cellsNeeded (recordOf unit) intervals) ⌝ }
+    ensures { λ r. ⌜ r ≡ cellsNumbers (caseChecked (recordOf unit) true intervals) (cellsNeeded (recordOf unit) intervals) ⌝ }
 {
     let record = numbers::record_of(unit);
-    match check_cells(record, intervals) {
+    match commitment::check_case(record, true, intervals) {
         Checked::Passed => CellsNumbers {
             number: 0,
             cells: budgets::cells_needed(record, intervals),
@@ -75,21 +75,6 @@ pub extern "C" fn ralwinga_cells(unit: UnitNumbers, intervals: usize) -> CellsNu
             cells: 0,
         },
     }
-}
-
-fn check_cells(unit: UnitRecord, intervals: usize) -> Checked
-    ensures { λ r. ⌜ r ≡ cellsChecked unit intervals ⌝ }
-{
-    if !commitment::ranges_kept(unit) {
-        return Checked::Refused(Cause::Range);
-    }
-    if !commitment::shape_kept(unit) {
-        return Checked::Refused(Cause::Shape);
-    }
-    if !commitment::horizon_kept(intervals) {
-        return Checked::Refused(Cause::Horizon);
-    }
-    Checked::Passed
 }
 
 // The best plan into the front of the schedule slice.
@@ -143,7 +128,7 @@ pub extern "C" fn ralwinga_listing(
     outcomes: OutcomesNumbers,
     out: &mut [u8],
 ) -> WrittenNumbers
-    ensures { λ r. ⌜ r ≡ writtenNumbers (answered (fitted (length (listing (now (schedule .entry)) profit (outcomesFrom outcomes))) (length (now (out .entry))))) ⌝ }
+    ensures { λ r. ⌜ r ≡ writtenNumbers (writtenBy (fitted (length (listing (now (schedule .entry)) profit (outcomesFrom outcomes))) (length (now (out .entry))))) ⌝ }
     ensures { λ _. ⌜ now (out .exit) ≡ bufferAfter (listing (now (schedule .entry)) profit (outcomesFrom outcomes)) (now (out .entry)) ⌝ }
 {
     numbers::of_written(listing::write_listing(
@@ -157,7 +142,7 @@ pub extern "C" fn ralwinga_listing(
 // The line of a refusal into the front of the buffer.
 #[no_mangle]
 pub extern "C" fn ralwinga_refusal(number: u64, out: &mut [u8]) -> WrittenNumbers
-    ensures { λ r. ⌜ r ≡ writtenNumbers (answered (fitted (length (refusal number)) (length (now (out .entry))))) ⌝ }
+    ensures { λ r. ⌜ r ≡ writtenNumbers (writtenBy (fitted (length (refusal number)) (length (now (out .entry))))) ⌝ }
     ensures { λ _. ⌜ now (out .exit) ≡ bufferAfter (refusal number) (now (out .entry)) ⌝ }
 {
     numbers::of_written(listing::write_refusal(number, out))

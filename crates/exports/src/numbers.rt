@@ -2,7 +2,11 @@
 
 use assessment::Assessed;
 use casefile::CaseRead;
+use commitment::Costs;
+use commitment::Generator;
 use commitment::Limit;
+use commitment::Limits;
+use commitment::Opening;
 use commitment::Outcome;
 use commitment::Outcomes;
 use commitment::UnitRecord;
@@ -18,7 +22,7 @@ ghost use Rattle.exports.specs.Answers as answers;
 // `none` as the number of a limitation.
 pub const NONE: u64 = 18446744073709551615;
 
-// The unit record, in document 01's order.
+// The unit record, in the specification's order.
 #[repr(C)]
 pub struct UnitNumbers {
     pub block: u64,
@@ -130,39 +134,51 @@ pub fn record_of(unit: UnitNumbers) -> UnitRecord
     ensures { λ r. ⌜ r ≡ records.recordOf unit ⌝ }
 {
     UnitRecord {
-        block: unit.block,
-        pmin: unit.pmin,
-        pmax: unit.pmax,
-        mot: unit.mot,
-        mdt: unit.mdt,
-        was: unit.was,
-        held: unit.held,
-        vec: unit.vec,
-        mlc: unit.mlc,
-        suc: unit.suc,
-        starts: limit_from(unit.starts),
-        hours: limit_from(unit.hours),
-        mwh: limit_from(unit.mwh),
+        generator: Generator {
+            block: unit.block,
+            pmin: unit.pmin,
+            pmax: unit.pmax,
+            mot: unit.mot,
+            mdt: unit.mdt,
+        },
+        costs: Costs {
+            vec: unit.vec,
+            mlc: unit.mlc,
+            suc: unit.suc,
+        },
+        opening: Opening {
+            was: unit.was,
+            held: unit.held,
+        },
+        limits: Limits {
+            starts: limit_from(unit.starts),
+            hours: limit_from(unit.hours),
+            mwh: limit_from(unit.mwh),
+        },
     }
 }
 
 fn unit_numbers(unit: UnitRecord) -> UnitNumbers
     ensures { λ r. ⌜ r ≡ records.unitNumbers unit ⌝ }
 {
-    let starts = unit.starts;
-    let hours = unit.hours;
-    let mwh = unit.mwh;
+    let g = unit.generator;
+    let k = unit.costs;
+    let opening = unit.opening;
+    let limits = unit.limits;
+    let starts = limits.starts;
+    let hours = limits.hours;
+    let mwh = limits.mwh;
     UnitNumbers {
-        block: unit.block,
-        pmin: unit.pmin,
-        pmax: unit.pmax,
-        mot: unit.mot,
-        mdt: unit.mdt,
-        was: unit.was,
-        held: unit.held,
-        vec: unit.vec,
-        mlc: unit.mlc,
-        suc: unit.suc,
+        block: g.block,
+        pmin: g.pmin,
+        pmax: g.pmax,
+        mot: g.mot,
+        mdt: g.mdt,
+        was: opening.was,
+        held: opening.held,
+        vec: k.vec,
+        mlc: k.mlc,
+        suc: k.suc,
         starts: limit_number(starts),
         hours: limit_number(hours),
         mwh: limit_number(mwh),
@@ -263,53 +279,29 @@ pub fn of_plan(answer: Planned) -> PlanNumbers
     ensures { λ r. ⌜ r ≡ answers.planNumbers answer ⌝ }
 {
     PlanNumbers {
-        number: planner::planned_number(answer),
-        count: planner::planned_count(answer),
-        profit: planner::planned_profit(answer),
+        number: planner::answers::planned_number(answer),
+        count: planner::answers::planned_count(answer),
+        profit: planner::answers::planned_profit(answer),
     }
 }
 
 pub fn of_value(answer: Valued) -> ValueNumbers
     ensures { λ r. ⌜ r ≡ answers.valueNumbers answer ⌝ }
 {
-    match answer {
-        Valued::Outcomes(outcomes) => ValueNumbers {
-            number: 0,
-            outcomes: outcomes_numbers(outcomes),
-        },
-        Valued::Refused(cause) => ValueNumbers {
-            number: commitment::number_of(cause),
-            outcomes: no_outcomes(),
-        },
+    ValueNumbers {
+        number: planner::answers::valued_number(answer),
+        outcomes: outcomes_numbers(planner::answers::valued_outcomes(answer)),
     }
 }
 
 pub fn of_report(answer: Reported) -> ReportNumbers
     ensures { λ r. ⌜ r ≡ answers.reportNumbers answer ⌝ }
 {
-    match answer {
-        Reported::Report(report) => ReportNumbers {
-            number: 0,
-            count: report.count,
-            profit: report.profit,
-            outcomes: outcomes_numbers(report.outcomes),
-        },
-        Reported::Refused(cause) => ReportNumbers {
-            number: commitment::number_of(cause),
-            count: 0,
-            profit: 0,
-            outcomes: no_outcomes(),
-        },
-    }
-}
-
-fn no_outcomes() -> OutcomesNumbers
-    ensures { λ r. ⌜ r ≡ answers.noneNumbers ⌝ }
-{
-    OutcomesNumbers {
-        starts: OutcomeNumbers { kind: 0, gap: 0 },
-        hours: OutcomeNumbers { kind: 0, gap: 0 },
-        mwh: OutcomeNumbers { kind: 0, gap: 0 },
+    ReportNumbers {
+        number: planner::answers::reported_number(answer),
+        count: planner::answers::reported_count(answer),
+        profit: planner::answers::reported_profit(answer),
+        outcomes: outcomes_numbers(planner::answers::reported_outcomes(answer)),
     }
 }
 

@@ -1,5 +1,5 @@
+-- Linear: linear facts by omega. Order: the tests of order. Maximum: the larger of two. Ranges: sums that stay within bounds.
 pub mod Linear
 pub mod Order
 pub mod Maximum
 pub mod Ranges
-pub mod Fills

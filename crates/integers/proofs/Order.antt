@@ -3,9 +3,9 @@ use mathlib.Core.Path.{_≡_, refl, sym, subst}
 use mathlib.Core.Bool.{Bool, true, false, not}
 use mathlib.Core.Logic.{_⊎_, ⊎-elim, inl, inr}
 use lib.Dec.{T}
-use lib.IntN.{ℤ, _+ℤ_, _-ℤ_}
+use lib.IntN.{ℤ, _+ℤ_}
 use lib.Signed.{_≤ℤ_, _<ℤ_, leZ, ltZ, ltZ-yes, ltZ-no, leZ-yes, clashℤ}
-use Rattle.integers.proofs.Linear.{zarith, zsum, zdiff}
+use Rattle.integers.proofs.Linear.{zarith, zsum}
 
 -- ---- the order
 
@@ -17,9 +17,6 @@ pub ≤ℤ-antisym : {x y : ℤ} → x ≤ℤ y → y ≤ℤ x → x ≡ y
 
 pub +ℤ-mono : {x y a b : ℤ} → x ≤ℤ y → a ≤ℤ b → (x +ℤ a) ≤ℤ (y +ℤ b)
 +ℤ-mono {x} {y} {a} {b} h k = omega (zarith, zsum x a, zsum y b)
-
-pub -ℤ-mono : {x y : ℤ} (a : ℤ) → x ≤ℤ y → (x -ℤ a) ≤ℤ (y -ℤ a)
--ℤ-mono {x} {y} a h = omega (zarith, zdiff x a, zdiff y a)
 
 -- ---- the test `ltZ`
 
@@ -48,22 +45,5 @@ pub ≤ℤ-total : (x y : ℤ) → (x ≤ℤ y) ⊎ (y ≤ℤ x)
 
 -- ---- the test `leZ`
 
-is-true : (t : Bool) → T t → t ≡ true
-is-true true h = refl
-is-true false h = absurd h
-
 pub leZ-true : (x y : ℤ) → leZ x y ≡ true → x ≤ℤ y
 leZ-true x y e = leZ-yes (subst T (sym e) tt)
-
-pub leZ-false : (x y : ℤ) → leZ x y ≡ false → y <ℤ x
-leZ-false x y e = ⊎-elim (λ w. w .1) (λ w. absurd (subst T e (w .1 .le))) (ltZ-dec y x)
-
-pub le-leZ : (x y : ℤ) → x ≤ℤ y → leZ x y ≡ true
-le-leZ x y h = is-true (leZ x y) (h .le)
-
-pub lt-leZ : (x y : ℤ) → y <ℤ x → leZ x y ≡ false
-lt-leZ x y h = go (leZ x y) refl
-  where
-    go : (t : Bool) → leZ x y ≡ t → leZ x y ≡ false
-    go true e = clashℤ h (leZ-true x y e)
-    go false e = e

@@ -9,7 +9,7 @@ use lib.Signed.{_≤ℤ_, ltZ}
 use mir.Syntax.{w64}
 use mir.Val.{toZ, ofZ, SFits}
 use mir.ValLaws.{toZ-ofZ}
-use Rattle.integers.proofs.Linear.{up, dn, zarith, zsum, zdiff, up-neg, dn-neg}
+use Rattle.integers.proofs.Linear.{up, dn, zarith, zsum, zdiff}
 
 -- |x| ≤ n
 pub record Within (n : ℕ) (x : ℤ) : Type 0 where
@@ -36,14 +36,6 @@ abs-within {n} {x} h = go x h
     go (pos a) h = h .over
     go (negsuc a) h = h .under
 
-pub within-pos : {n : ℕ} {x : ℤ} → pos 0 ≤ℤ x → x ≤ℤ pos n → Within n x
-unfolding up dn
-within-pos {n} {x} h k = go x h k
-  where
-    go : (x : ℤ) → pos 0 ≤ℤ x → x ≤ℤ pos n → Within n x
-    go (pos a) h k = omega zarith
-    go (negsuc a) h k = omega zarith
-
 pub within-signed : {n : ℕ} {x : ℤ} → negsuc n ≤ℤ x → x ≤ℤ pos (suc n) → Within (suc n) x
 unfolding up dn
 within-signed {n} {x} h k = go x h k
@@ -56,9 +48,6 @@ pub within-weaken : {n m : ℕ} {x : ℤ} → n ≤ m → Within n x → Within 
 within-weaken l h = omega arith
 
 -- ---- through the operations
-
-pub within-neg : {a : ℕ} {x : ℤ} → Within a x → Within a (negℤ x)
-within-neg {a} {x} h = omega (arith, up-neg x, dn-neg x)
 
 pub within-sum : {a b : ℕ} {x y : ℤ} → Within a x → Within b y → Within (a + b) (x +ℤ y)
 within-sum {a} {b} {x} {y} h k = omega (arith, zsum x y)

@@ -1,1 +1,2 @@
+-- Maximum: the larger of two integers.
 pub mod Maximum

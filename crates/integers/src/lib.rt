@@ -1,3 +1,5 @@
+// The larger and the smaller of two, and a natural number as a signed one. The laws of ℤ stand in proofs/.
+
 ghost use mathlib.Core.Path.{_≡_};
 ghost use Prim.Native.Nat.{_<_, _^_, min};
 ghost use lib.IntN.{pos};

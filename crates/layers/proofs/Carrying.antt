@@ -8,15 +8,27 @@ use native.Mathlib.Numerals.{add-one}
 use native.Mathlib.Omega.{arith}
 use borrow.Author.Tests.{ltb-true, ltb-false}
 use lib.Dec.{ltb}
-use lib.IntN.{ℤ, natAbs, _+ℤ_}
+use lib.IntN.{ℤ, _+ℤ_}
 use lib.Signed.{_≤ℤ_, ≤ℤ-refl}
 use Rattle.integers.specs.Maximum.{maxℤ}
-use Rattle.integers.proofs.Linear.{zarith, zsum}
-use Rattle.integers.proofs.Order.{≤ℤ-trans, +ℤ-mono}
-use Rattle.integers.proofs.Ranges.{Within, within-abs, within-weaken, within-sum}
-use Rattle.integers.proofs.Maximum.{Max, max-is}
-use Rattle.layers.specs.Layers.{swing}
-use Rattle.layers.specs.Stretches.{bestSoFar}
+use Rattle.integers.proofs.Linear.{up, dn, zarith, zsum}
+use Rattle.integers.proofs.Order.{≤ℤ-trans, ≤ℤ-antisym, +ℤ-mono}
+use Rattle.integers.proofs.Ranges.{Within, within-weaken, within-sum}
+use Rattle.integers.proofs.Maximum.{Max, max-is, max-least}
+use Rattle.geometry.specs.Layers.{swing}
+use Rattle.layers.specs.Stretches.{bestSoFar, depth, below}
+
+-- ---- below all numbers
+
+below-parts : (up below ≡ 0) × (dn below ≡ depth)
+unfolding up dn
+below-parts = (refl, refl)
+
+below-size : Within depth below
+below-size = omega (arith, below-parts)
+
+max-left : (x y : ℤ) → y ≤ℤ x → maxℤ x y ≡ x
+max-left x y h = ≤ℤ-antisym (max-least x y x (≤ℤ-refl x) h) (max-is x y .left)
 
 -- ---- the best so far
 
@@ -93,31 +105,28 @@ module _ (number : ℕ → ℤ) (rise : ℤ) where
 
 pub record Carried (number : ℕ → ℤ) (rise : ℤ) (i : ℕ) (b : ℤ) : Type 0 where
   pub next : maxℤ (number i) (b +ℤ rise) ≡ bestSoFar number rise i
-  pub size : Within (2 ^ 62 + (i + 1) * swing) b
+  pub size : Within (depth + i * swing) b
 
 module _ (number : ℕ → ℤ) (rise : ℤ) (small : Within swing rise) where
-  pub carried-first : (b : ℤ) → b +ℤ rise ≡ number 0 → Within (2 ^ 62 + swing) b → Carried number rise 0 b
-  carried-first b e w = record { next = rw (e, best-first number rise) (max-same (number 0)); size = within-weaken (omega arith) w }
+  -- a number below all that can be passed
+  pub carried-first : Within (2 ^ 62) (number 0) → Carried number rise 0 below
+  carried-first h =
+      record {
+        next = rw (best-first number rise) (max-left (number 0) (below +ℤ rise) (under (number 0) rise h small));
+        size = within-weaken
+            (omega arith) below-size;
+      }
     where
-      max-same : (x : ℤ) → maxℤ x x ≡ x
-      max-same x = ⊎-elim (λ e. e) (λ e. e) (max-is x x .one-of)
+      under : (x r : ℤ) → Within (2 ^ 62) x → Within swing r → (below +ℤ r) ≤ℤ x
+      under x r h k = omega (zarith, zsum below r, below-parts, h, k)
 
-  module _ (i : ℕ) (b : ℤ) (c : Carried number rise i b) where
-    risen : Within (2 ^ 62 + (i + 2) * swing) (b +ℤ rise)
-    risen = within-weaken (omega arith) (within-sum (c .size) small)
-
-    best-size : Within (2 ^ 62) (number i) → Within (2 ^ 62 + (i + 2) * swing) (bestSoFar number rise i)
-    best-size h =
-        rw (← c .next)
-        (⊎-elim (λ e. rw e (within-weaken (omega arith) h)) (λ e. rw e risen) (max-is (number i) (b +ℤ rise) .one-of))
-
-    pub carried-next : Within (2 ^ 62) (number i) → Carried number rise (i + 1) (bestSoFar number rise i)
-    carried-next h =
-        record { next = rw (add-one i) (sym (best-next number rise i)); size = within-weaken (omega arith) (best-size h) }
-
-    pub carried-risen : i < 500 → Within (2 ^ 62 + 502 * swing) (b +ℤ rise)
-    carried-risen l = within-weaken (omega arith) risen
-
-    pub carried-gained : Within (2 ^ 62) (number i) → (gain : ℤ) → natAbs gain ≤ swing → i < 500
-        → Within (2 ^ 62 + 502 * swing) (bestSoFar number rise i +ℤ gain)
-    carried-gained h gain g l = within-weaken (omega arith) (within-sum (best-size h) (within-weaken g (within-abs gain)))
+  module _ (i : ℕ) (b : ℤ) (c : Carried number rise i b) (h : Within (2 ^ 62) (number i)) where
+    pub carried-next : Carried number rise (i + 1) (bestSoFar number rise i)
+    carried-next =
+        record {
+          next = rw (add-one i) (sym (best-next number rise i));
+          size =
+              rw (← c .next)
+              (⊎-elim (λ e. rw e (within-weaken (omega arith) h)) (λ e. rw e (within-weaken (omega arith) (within-sum (c .size) small)))
+              (max-is (number i) (b +ℤ rise) .one-of));
+        }

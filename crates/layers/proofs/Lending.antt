@@ -3,41 +3,42 @@ use mathlib.Core.Path.{_≡_, refl, sym, ap, _∙_, fun-ext}
 use mathlib.Core.List.{List, _++_}
 use mathlib.Core.Logic.{_⊎_, ⊎-elim, inr}
 use Prim.Native.Nat.{ℕ, _+_, _-_, _≤_, _<_}
-use native.Mathlib.Nat.{zero-add}
 use native.Mathlib.Omega.{arith}
 use borrow.Author.Tests.{ltb-true, ltb-false}
 use lib.Dec.{ltb}
 use lib.IntN.{ℤ, pos}
-use lib.ListN.{length, take, drop, getD}
+use lib.ListN.{length, take, drop, getD, length-drop}
 use lib.Seq.{getD-drop}
 use mathlib.Core.Bool.{Bool, true, false}
-use Rattle.integers.proofs.Fills.{tail-before, tail-read}
+use Rattle.lists.proofs.Fills.{tail-before, tail-read}
 use Rattle.optimality.specs.declared.Figures.{Figures}
 use Rattle.optimality.specs.declared.Cell.{Cell}
-use Rattle.layers.specs.Layers.{width, index, heldAt}
-use Rattle.layers.specs.Stretches.{Small, LayerMade}
-use Rattle.layers.specs.Turns.{cellHeld}
+use Rattle.geometry.specs.Geometry.{width, index}
+use Rattle.geometry.specs.Layers.{storedAt}
+use Rattle.layers.specs.Stretches.{Behind, FrontMade, LayerMade}
+use Rattle.layers.specs.Turns.{cellStored}
 
 module _ (s part : List ℤ) (at : ℕ) (fits : at ≤ length s) where
-  pub small-part : (w : ℕ) → Small s (at + w) w → Small (drop at s) (0 + w) w
-  small-part w h i k =
-      rw (getD-drop at s (0 + w + i) (pos 0)) (rw (shift at w i) at (h i k))
+  pub behind-part : (w : ℕ) → Behind s at (at + w) w → Behind (drop at s) 0 w w
+  behind-part w b =
+      record {
+        before = omega arith;
+        fits = omega (arith, b .fits, length-drop at s);
+        small = λ i k. rw (getD-drop at s (w + i) (pos 0)) (rw (shift at w i) at (b .small i k));
+      }
     where
-      shift : (a w i : ℕ) → a + w + i ≡ a + (0 + w + i)
+      shift : (a w i : ℕ) → a + w + i ≡ a + (w + i)
       shift a w i = omega arith
 
   module _ (f : Figures) (price : ℤ) where
-    held-same : heldAt f (drop at s) (0 + width f) ≡ heldAt f s (at + width f)
-    held-same = fun-ext (λ c. getD-drop at s (0 + width f + index f c) (pos 0) ∙ ap (λ (k : ℕ). getD s k (pos 0)) (omega arith))
+    stored-same : storedAt f (drop at s) (width f) ≡ storedAt f s (at + width f)
+    stored-same = fun-ext (λ c. getD-drop at s (width f + index f c) (pos 0) ∙ ap (λ (k : ℕ). getD s k (pos 0)) (omega arith))
 
-    pub lent-made : LayerMade f price (drop at s) part 0 → LayerMade f price s (take at s ++ part) at
+    pub lent-made : FrontMade f price (drop at s) part → LayerMade f price s (take at s ++ part) at
     lent-made made =
         record {
           inside = λ c h.
-              tail-read at s part fits (index f c) (pos 0)
-              ∙ ap (λ (k : ℕ). getD part k (pos 0)) (sym (zero-add (index f c)))
-              ∙ made .inside c h
-              ∙ ap (λ (held : Cell → ℤ). cellHeld f held c price) held-same;
+              tail-read at s part fits (index f c) (pos 0) ∙ made .inside c h ∙ ap (λ (stored : Cell → ℤ). cellStored f stored c price) stored-same;
           apart = λ j h. outside j h (ltb j at) refl;
         }
       where

@@ -1,12 +1,12 @@
+-- From stores (Stretches, Segments) over rows (Carrying, Sweeping, Ladders, Windows, Passes) and a layer (Raising, Turning, Making) to the table
+-- (Filling, Lending).
 pub mod Stretches
 pub mod Segments
-pub mod Numbers
-pub mod Widths
 pub mod Raising
-pub mod Holding
 pub mod Turning
-pub mod Ends
+pub mod Ladders
 pub mod Carrying
+pub mod Sweeping
 pub mod Windows
 pub mod Passes
 pub mod Making

@@ -10,7 +10,7 @@ use lib.Dec.{ltb}
 use lib.IntN.{ℤ, pos}
 use lib.ListN.{length, getD, set, take, drop, replicate, length-append, length-drop, length-set, length-replicate, getD-replicate, replicate-append-replicate}
 use lib.Seq.{getD-set-same, getD-set-other, length-take-le, ext-getD, getD-drop}
-use Rattle.integers.proofs.Fills.{fill-next, tail-before, part-read, part-after}
+use Rattle.lists.proofs.Fills.{fill-next, tail-before, part-read, part-after}
 use Rattle.layers.specs.Stretches.{Apart}
 
 pub last-or-before : (j i : ℕ) → j < i + 1 → (j ≡ i) ⊎ (j < i)
@@ -20,54 +20,32 @@ last-or-before j i h = by (ltb j i) refl
     by true e = inr (ltb-true j i e)
     by false e = let l = ltb-false j i e in inl (omega arith)
 
--- ---- a stretch made from the front, one store a turn
+-- ---- a stretch made place by place, one store a turn; turn i stores at `place i`, and no two at one place
 
-pub record Made (was s : List ℤ) (to i : ℕ) (now : ℕ → ℤ) : Type 0 where
-  pub inside : (j : ℕ) → j < i → getD s (to + j) (pos 0) ≡ now j
-  pub apart : Apart was s to i
+pub record Made (place : ℕ → ℕ) (was s : List ℤ) (to i : ℕ) (now : ℕ → ℤ) : Type 0 where
+  pub inside : (j : ℕ) → j < i → getD s (to + place j) (pos 0) ≡ now j
+  pub apart : (j : ℕ) → ((m : ℕ) → m < i → j ≡ to + place m → ⊥) → getD s j (pos 0) ≡ getD was j (pos 0)
   pub same : length s ≡ length was
 
-module _ (was : List ℤ) (to : ℕ) (now : ℕ → ℤ) where
-  pub made-none : Made was was to 0 now
+module _ (place : ℕ → ℕ) (was : List ℤ) (to : ℕ) (now : ℕ → ℤ) where
+  pub made-none : Made place was was to 0 now
   made-none = record { inside = λ j h. absurd (omega arith); apart = λ j out. refl; same = refl }
 
-  pub made-next : (s : List ℤ) (i : ℕ) (v : ℤ) → to + i < length was → Made was s to i now → v ≡ now i → Made was (set s (to + i) v) to (i + 1) now
-  made-next s i v fits made this =
+  pub made-next : (s : List ℤ) (i : ℕ) (v : ℤ) → to + place i < length was → ((m : ℕ) → m < i → place m ≡ place i → ⊥)
+      → Made place was s to i now → v ≡ now i → Made place was (set s (to + place i) v) to (i + 1) now
+  made-next s i v fits once made this =
       record {
         inside = λ j h.
-            ⊎-elim (λ (e : j ≡ i). rw e (getD-set-same s (to + i) v (pos 0) (omega (arith, made .same)) ∙ this))
-            (λ (l : j < i). getD-set-other s (to + i) (to + j) v (pos 0) (λ o. omega arith) ∙ made .inside j l)
+            ⊎-elim (λ (e : j ≡ i). rw e (getD-set-same s (to + place i) v (pos 0) (omega (arith, made .same)) ∙ this))
+            (λ (l : j < i). getD-set-other s (to + place i) (to + place j) v (pos 0) (λ o. once j l (omega arith)) ∙ made .inside j l)
             (last-or-before j i h);
-        apart = λ j out.
-            getD-set-other s (to + i) j v (pos 0) (λ o. ⊎-elim (λ (l : j < to). omega arith) (λ (l : to + (i + 1) ≤ j). omega arith) out)
-            ∙ made .apart j (⊎-elim (λ (l : j < to). inl l) (λ (l : to + (i + 1) ≤ j). inr (omega arith)) out);
-        same = length-set s (to + i) v ∙ made .same;
+        apart = λ j out. getD-set-other s (to + place i) j v (pos 0) (λ o. out i (omega arith) (omega arith)) ∙ made .apart j (λ m l. out m (omega arith));
+        same = length-set s (to + place i) v ∙ made .same;
       }
 
--- ---- the same from the back, down to place i of so many
-
-pub record MadeDown (was s : List ℤ) (to i count : ℕ) (now : ℕ → ℤ) : Type 0 where
-  pub inside : (j : ℕ) → i ≤ j → j < count → getD s (to + j) (pos 0) ≡ now j
-  pub apart : (j : ℕ) → (j < to + i) ⊎ (to + count ≤ j) → getD s j (pos 0) ≡ getD was j (pos 0)
-  pub same : length s ≡ length was
-
-module _ (was : List ℤ) (to count : ℕ) (now : ℕ → ℤ) where
-  pub made-down-none : MadeDown was was to count count now
-  made-down-none = record { inside = λ j h k. absurd (omega arith); apart = λ j out. refl; same = refl }
-
-  pub made-down-next : (s : List ℤ) (i : ℕ) (v : ℤ) → 0 < i → i ≤ count → to + count ≤ length was → MadeDown was s to i count now → v ≡ now (i - 1)
-      → MadeDown was (set s (to + (i - 1)) v) to (i - 1) count now
-  made-down-next s i v some l fits made this =
-      record {
-        inside = λ j h k.
-            ⊎-elim (λ (e : i - 1 ≡ j). rw (← e) (getD-set-same s (to + (i - 1)) v (pos 0) (omega (arith, made .same)) ∙ this))
-            (λ (b : i - 1 < j). getD-set-other s (to + (i - 1)) (to + j) v (pos 0) (λ o. omega arith) ∙ made .inside j (omega arith) k)
-            (last-or-before (i - 1) j (omega arith));
-        apart = λ j out.
-            getD-set-other s (to + (i - 1)) j v (pos 0) (λ o. ⊎-elim (λ (b : j < to + (i - 1)). omega arith) (λ (b : to + count ≤ j). omega arith) out)
-            ∙ made .apart j (⊎-elim (λ (b : j < to + (i - 1)). inl (omega arith)) (λ (b : to + count ≤ j). inr b) out);
-        same = length-set s (to + (i - 1)) v ∙ made .same;
-      }
+  pub made-apart : (s : List ℤ) (count : ℕ) → ((m : ℕ) → m < count → place m < count) → Made place was s to count now → Apart was s to count
+  made-apart s count inside made j out =
+      made .apart j (λ m l e. ⊎-elim (λ (h : j < to). omega arith) (λ (h : to + count ≤ j). omega (arith, inside m l)) out)
 
 -- ---- the same number put in each
 
@@ -103,7 +81,8 @@ put-next s to i v h =
     ∙ ap (λ (t : List ℤ). take to s ++ (t ++ drop (to + (i + 1)) s)) (replicate-append-replicate i 1 v)
 
 -- lists that agree from a place on
-pub same-from : (was cells : List ℤ) (m : ℕ) → length cells ≡ length was → ((j : ℕ) → m ≤ j → getD cells j (pos 0) ≡ getD was j (pos 0)) → drop m cells ≡ drop m was
+pub same-from : (was cells : List ℤ) (m : ℕ) → length cells ≡ length was → ((j : ℕ) → m ≤ j → getD cells j (pos 0) ≡ getD was j (pos 0))
+    → drop m cells ≡ drop m was
 same-from was cells m e h =
     ext-getD (pos 0) (drop m cells) (drop m was) (omega (arith, length-drop m cells, length-drop m was))
     (λ i l. getD-drop m cells i (pos 0) ∙ h (m + i) (omega arith) ∙ sym (getD-drop m was i (pos 0)))

@@ -11,33 +11,36 @@ use lib.Dec.{leb, ltb}
 use lib.IntN.{ℤ, pos, natAbs}
 use lib.ListN.{length}
 use lib.Signed.{ltZ, _≤ℤ_, _<ℤ_}
+use Rattle.commitment.specs.Bounds.{mostPrice, mostIntervals}
 use Rattle.integers.specs.Maximum.{maxℤ}
 use Rattle.integers.proofs.Linear.{zarith}
 use Rattle.integers.proofs.Order.{ltZ-dec, lt-ltZ, le-ltZ}
 use Rattle.integers.proofs.Ranges.{Within, within-at, within-weaken, within-diff, abs-within}
-use Rattle.commitment.proofs.Conjunctions.{both}
-use Rattle.commitment.proofs.Margins.{margin-within}
+use Rattle.lists.proofs.Conjunctions.{both}
+use Rattle.commitment.proofs.Margins.{margin-within, mostMargin}
 use Rattle.optimality.specs.declared.Figures.{Figures}
 use Rattle.optimality.specs.declared.Cell.{Cell}
-use Rattle.optimality.specs.Machine.{go, allow, Value, noSchedule, earning, more, valueAlong}
+use Rattle.commitment.specs.declared.BestProfit.{BestProfit}
+use Rattle.commitment.specs.declared.BestProfit.the-variants.{Nothing, Profit}
+use Rattle.optimality.specs.Machine.{go, allow, more, valueAlong}
 use Rattle.optimality.specs.Cells.{Sound, InTable, states, afterOff, afterOn, startTakes, startPays, mayRun, gain, offCell, onCell, rungs, valueAt, offValue, onValue, onBest}
 use Rattle.optimality.proofs.Turns.{value-turn, may-not-run, off-in-table, on-in-table}
-use Rattle.layers.specs.Layers.{infeasible, swing, Holds, Layer}
-use Rattle.layers.specs.Turns.{net, slope, raised, offHeld, roomFor, onHeld, cellHeld}
+use Rattle.geometry.specs.Layers.{infeasible, swing, Holds, Layer, mostPays}
+use Rattle.layers.specs.Turns.{net, slope, raised, offStored, roomFor, onStored, cellStored}
 use Rattle.layers.proofs.Raising.{raised-none, raised-next}
-use Rattle.layers.proofs.Holding.{Offers, holds-more, offers-plus, holds-stay, holds-none}
+use Rattle.geometry.proofs.Holding.{Offers, holds-more, offers-plus, holds-stay, holds-none}
 
 -- ---- `more` is a monoid
 
-more-none : (v : Value) → more v noSchedule ≡ v
-more-none noSchedule = refl
-more-none (earning p) = refl
+more-none : (v : BestProfit) → more v Nothing ≡ v
+more-none Nothing = refl
+more-none (Profit p) = refl
 
-more-assoc : (u v w : Value) → more (more u v) w ≡ more u (more v w)
-more-assoc noSchedule v w = refl
-more-assoc (earning p) noSchedule w = refl
-more-assoc (earning p) (earning q) noSchedule = more-none (cond (ltZ p q) (earning q) (earning p))
-more-assoc (earning p) (earning q) (earning r) =
+more-assoc : (u v w : BestProfit) → more (more u v) w ≡ more u (more v w)
+more-assoc Nothing v w = refl
+more-assoc (Profit p) Nothing w = refl
+more-assoc (Profit p) (Profit q) Nothing = more-none (cond (ltZ p q) (Profit q) (Profit p))
+more-assoc (Profit p) (Profit q) (Profit r) =
     ⊎-elim
     (λ (i : (ltZ p q ≡ true) × (p <ℤ q)).
     ⊎-elim
@@ -70,10 +73,10 @@ runs f c e =
 
 -- ---- what one interval adds is below the swing
 
-pub pays-most : (f : Figures) → Sound f → (s : ℕ) → startPays f s ≤ 16000000000
+pub pays-most : (f : Figures) → Sound f → (s : ℕ) → startPays f s ≤ mostPays
 pays-most f ok s = by (ltb s (f .mot))
   where
-    by : (t : Bool) → cond t 0 (4 * f .suc) ≤ 16000000000
+    by : (t : Bool) → cond t 0 (4 * f .suc) ≤ mostPays
     by true = omega arith
     by false = omega (arith, ok .suc)
 
@@ -100,18 +103,18 @@ blocks-most f ok k h =
     one : (p b : ℕ) → p ≤ 1 → 1 ≤ b → p ≤ b
     one p b h k = omega arith
 
-module _ (f : Figures) (ok : Sound f) (price : ℤ) (small : natAbs price ≤ 200000) where
+module _ (f : Figures) (ok : Sound f) (price : ℤ) (small : natAbs price ≤ mostPrice) where
   pub output-most : (k : ℕ) → k ≤ f .pmax → k * f .block ≤ 500
   output-most k h = omega (arith, mul-le-mul-right (f .block) h, ok .top)
 
-  gain-within : (k : ℕ) → k ≤ f .pmax → Within 3100000000 (gain f price k)
+  gain-within : (k : ℕ) → k ≤ f .pmax → Within mostMargin (gain f price k)
   gain-within k h =
       margin-within price (k * f .block) (f .vec) (f .pmin * f .block) (f .mlc) small (output-most k h) (ok .vec) (output-most (f .pmin) (ok .pmax)) (ok .mlc)
 
-  pub net-within : (pays k : ℕ) → pays ≤ 16000000000 → k ≤ f .pmax → Within 19100000000 (net f price pays k)
+  pub net-within : (pays k : ℕ) → pays ≤ mostPays → k ≤ f .pmax → Within swing (net f price pays k)
   net-within pays k p h = within-diff (gain-within k h) (within-weaken p (within-at pays))
 
-  pub net-small : (pays k : ℕ) → pays ≤ 16000000000 → k ≤ f .pmax → natAbs (net f price pays k) ≤ swing
+  pub net-small : (pays k : ℕ) → pays ≤ mostPays → k ≤ f .pmax → natAbs (net f price pays k) ≤ swing
   net-small pays k p h = omega (arith, abs-within (net-within pays k p h))
 
   pub slope-small : natAbs (slope f price) ≤ swing
@@ -120,60 +123,65 @@ module _ (f : Figures) (ok : Sound f) (price : ℤ) (small : natAbs price ≤ 20
 
   -- ---- one interval from a cell
 
-  module _ (prices : List ℤ) (short : length prices < 3000) (held : Cell → ℤ) (layer : Layer f prices held) (c : Cell) (here : InTable f c) where
-    pub off-holds : Holds (suc (length prices)) (offValue f (valueAt f prices) c) (offHeld f held c)
-    unfolding offHeld
+  module _ (ends : Cell → BestProfit) (prices : List ℤ) (short : length prices < mostIntervals) (stored : Cell → ℤ) (layer : Layer f ends prices stored)
+      (c : Cell) (here : InTable f c) where
+    pub off-holds : Holds (suc (length prices)) (offValue f (valueAt f ends prices) c) (offStored f stored c)
+    unfolding offStored
     off-holds = by (ltb (afterOff f (c .state)) (states f)) refl
       where
         by : (t : Bool) → ltb (afterOff f (c .state)) (states f) ≡ t
-            → Holds (suc (length prices)) (valueAlong (allow t (go (pos 0) (offCell f c))) (valueAt f prices)) (cond t (held (offCell f c)) infeasible)
+            → Holds (suc (length prices)) (valueAlong (allow t (go (pos 0) (offCell f c))) (valueAt f ends prices)) (cond t (stored (offCell f c)) infeasible)
         by true e =
-            holds-stay (length prices) (valueAt f prices (offCell f c)) (held (offCell f c)) short
+            holds-stay (length prices) (valueAt f ends prices (offCell f c)) (stored (offCell f c)) short
             (layer .holds (offCell f c) (off-in-table f c here (ltb-true (afterOff f (c .state)) (states f) e)))
         by false e = holds-none (suc (length prices)) short
 
     module _ (may : mayRun f c ≡ true) where
-      pub on-is : (k : ℕ) (t : Bool) → roomFor f held c k ≡ t
-          → onValue f (valueAt f prices) c price k ≡ valueAlong (allow t (go (net f price (startPays f (c .state)) k) (onCell f c k))) (valueAt f prices)
+      pub on-is : (k : ℕ) (t : Bool) → roomFor f stored c k ≡ t
+          → onValue f (valueAt f ends prices) c price k
+          ≡ valueAlong (allow t (go (net f price (startPays f (c .state)) k) (onCell f c k))) (valueAt f ends prices)
       on-is k t e = rw (may, e)
 
-      pub on-offers : (k : ℕ) → k ≤ f .pmax → roomFor f held c k ≡ true
-          → Offers (suc (length prices)) (onValue f (valueAt f prices) c price k) (onHeld f held c price k)
+      pub on-offers : (k : ℕ) → k ≤ f .pmax → roomFor f stored c k ≡ true
+          → Offers (suc (length prices)) (onValue f (valueAt f ends prices) c price k) (onStored f stored c price k)
       on-offers k h e =
           rw (on-is k true e)
-          (offers-plus (length prices) (valueAt f prices (onCell f c k)) (held (onCell f c k)) (net f price (startPays f (c .state)) k) short
+          (offers-plus (length prices) (valueAt f ends prices (onCell f c k)) (stored (onCell f c k)) (net f price (startPays f (c .state)) k) short
           (net-small (startPays f (c .state)) k (pays-most f ok (c .state)) h)
           (layer .holds (onCell f c k) (on-in-table f c k here (runs f c may .leads))))
 
-      raised-holds : (k count : ℕ) → k + count ≤ suc (f .pmax) → (v : Value) (base : ℤ) → Holds (suc (length prices)) v base
-          → Holds (suc (length prices)) (more v (onBest f (valueAt f prices) c price k count)) (raised (roomFor f held c) (onHeld f held c price) base k count)
-      raised-holds k zero hi v base h = rw (more-none v, raised-none (roomFor f held c) (onHeld f held c price) base k) h
+      raised-holds : (k count : ℕ) → k + count ≤ suc (f .pmax) → (v : BestProfit) (base : ℤ) → Holds (suc (length prices)) v base
+          → Holds (suc (length prices)) (more v (onBest f (valueAt f ends prices) c price k count))
+          (raised (roomFor f stored c) (onStored f stored c price) base k count)
+      raised-holds k zero hi v base h = rw (more-none v, raised-none (roomFor f stored c) (onStored f stored c price) base k) h
       raised-holds k (suc count) hi v base h =
-          rw (raised-next (roomFor f held c) (onHeld f held c price) base k count)
-          (by (λ w next. raised-holds (suc k) count (omega arith) w next) (roomFor f held c k) refl)
+          rw (raised-next (roomFor f stored c) (onStored f stored c price) base k count)
+          (by (λ w next. raised-holds (suc k) count (omega arith) w next) (roomFor f stored c k) refl)
         where
-          rest : Value
-          rest = onBest f (valueAt f prices) c price (suc k) count
+          rest : BestProfit
+          rest = onBest f (valueAt f ends prices) c price (suc k) count
 
-          by : ((w : Value) (next : ℤ) → Holds (suc (length prices)) w next
-              → Holds (suc (length prices)) (more w rest) (raised (roomFor f held c) (onHeld f held c price) next (suc k) count))
-              → (t : Bool) → roomFor f held c k ≡ t
-              → Holds (suc (length prices)) (more v (more (onValue f (valueAt f prices) c price k) rest))
-              (raised (roomFor f held c) (onHeld f held c price) (cond t (maxℤ base (onHeld f held c price k)) base) (suc k) count)
+          by : ((w : BestProfit) (next : ℤ) → Holds (suc (length prices)) w next
+              → Holds (suc (length prices)) (more w rest) (raised (roomFor f stored c) (onStored f stored c price) next (suc k) count))
+              → (t : Bool) → roomFor f stored c k ≡ t
+              → Holds (suc (length prices)) (more v (more (onValue f (valueAt f ends prices) c price k) rest))
+              (raised (roomFor f stored c) (onStored f stored c price) (cond t (maxℤ base (onStored f stored c price k)) base) (suc k) count)
           by later true e =
-              let o = onValue f (valueAt f prices) c price k in
-              subst (λ (w : Value). Holds (suc (length prices)) w (raised (roomFor f held c) (onHeld f held c price) (maxℤ base (onHeld f held c price k)) (suc k) count))
+              let o = onValue f (valueAt f ends prices) c price k in
+              subst (λ (w : BestProfit). Holds (suc (length prices)) w
+              (raised (roomFor f stored c) (onStored f stored c price) (maxℤ base (onStored f stored c price k)) (suc k) count))
               (more-assoc v o rest)
-              (later (more v o) (maxℤ base (onHeld f held c price k)) (holds-more (suc (length prices)) v o base (onHeld f held c price k) short h (on-offers k (omega arith) e)))
+              (later (more v o) (maxℤ base (onStored f stored c price k))
+              (holds-more (suc (length prices)) v o base (onStored f stored c price k) short h (on-offers k (omega arith) e)))
           by later false e = rw (on-is k false e) (later v base h)
 
-    pub cell-holds : Holds (suc (length prices)) (valueAt f (price ∷ prices) c) (cellHeld f held c price)
-    unfolding cellHeld
-    cell-holds = rw (value-turn f ok price prices c) (by (mayRun f c) refl)
+    pub cell-holds : Holds (suc (length prices)) (valueAt f ends (price ∷ prices) c) (cellStored f stored c price)
+    unfolding cellStored
+    cell-holds = rw (value-turn f ok ends price prices c) (by (mayRun f c) refl)
       where
         by : (t : Bool) → mayRun f c ≡ t
-            → Holds (suc (length prices)) (more (offValue f (valueAt f prices) c) (onBest f (valueAt f prices) c price (f .pmin) (rungs f)))
-            (cond t (raised (roomFor f held c) (onHeld f held c price) (offHeld f held c) (f .pmin) (rungs f)) (offHeld f held c))
-        by true e = raised-holds e (f .pmin) (rungs f) (omega (arith, ok .pmax)) (offValue f (valueAt f prices) c) (offHeld f held c) off-holds
+            → Holds (suc (length prices)) (more (offValue f (valueAt f ends prices) c) (onBest f (valueAt f ends prices) c price (f .pmin) (rungs f)))
+            (cond t (raised (roomFor f stored c) (onStored f stored c price) (offStored f stored c) (f .pmin) (rungs f)) (offStored f stored c))
+        by true e = raised-holds e (f .pmin) (rungs f) (omega (arith, ok .pmax)) (offValue f (valueAt f ends prices) c) (offStored f stored c) off-holds
         by false e =
-            rw (may-not-run f ok (valueAt f prices) c price (f .pmin) (rungs f) e, more-none (offValue f (valueAt f prices) c)) off-holds
+            rw (may-not-run f ok ends (valueAt f ends prices) c price (f .pmin) (rungs f) e, more-none (offValue f (valueAt f ends prices) c)) off-holds

@@ -1,4 +1,5 @@
--- The layers of cells, one topic a file.
-pub mod Layers
+-- Turns: one interval from a cell. Ladders: its outputs. Stretches: what a pass over a stretch makes of it. Filling: the last layer, and the layers before it.
 pub mod Turns
+pub mod Ladders
 pub mod Stretches
+pub mod Filling

@@ -1,8 +1,9 @@
-// The table of document 01's cells in a scratch that is lent: layer t holds, for every cell, the best profit from interval t + 1 on. Cells go
+// The table of the specification's cells in a scratch that is lent: layer t holds, for every cell, the best profit from interval t + 1 on. Cells go
 // by what is left of the limitations, so the first layer has the best profit of every smaller limitation too: one fill serves the plan and all
 // runs of valuing. Layers are filled from the last to the first, stretch by stretch over cells that stand side by side, with no division and no
 // test in the innermost loop: a cell without a schedule holds a number so low that no profit reaches it. Where MWh is not limited a cell
 // costs one sum and one maximum; where it is, a few more, since the best output is carried along the row: the number of outputs costs nothing.
+// Here: the fill, layer by layer. mod states: a layer, state by state; mod rows: passes over stretches and rows; mod steps: one interval.
 
 mod rows;
 mod states;
@@ -12,24 +13,35 @@ use optimality::Figures;
 ghost use mathlib.Core.Path.{_≡_};
 ghost use mathlib.Core.List.{_++_};
 ghost use Prim.Native.Nat.{_+_, _*_, _≤_};
-ghost use lib.IntN.{pos, natAbs};
+ghost use lib.IntN.{pos};
 ghost use lib.ListN.{length, drop, replicate};
-ghost use Rattle.optimality.specs.Cells.{Sound};
-ghost use Rattle.layers.specs.Stretches.{Small, LayerMade};
-ghost use Rattle.layers.specs.Layers.{width, Filled, Priced, Room};
+ghost use Rattle.optimality.specs.Machine.{anywhere};
+ghost use Rattle.layers.specs.Turns.{Interval};
+ghost use Rattle.layers.specs.Filling.{Ended, FilledBy, Beyond};
+ghost use Rattle.layers.specs.Stretches.{Behind, LayerMade};
+ghost use Rattle.geometry.specs.Geometry.{width};
+ghost use Rattle.geometry.specs.Layers.{Filled, Room};
+ghost use Rattle.commitment.specs.Ranges.{Priced};
 
-// Every layer, from the last to the first. `w` is the cells of one.
-pub fn fill(scratch: &mut [i64], w: usize, f: Figures, prices: &[i64])
-    requires { ⌜ Room f (length (now prices)) (length (now scratch)) ⌝ }
-    requires { ⌜ w ≡ width f ⌝ }
-    requires { ⌜ Priced (now prices) ⌝ }
-    ensures { λ _. ⌜ Filled f (now (prices .entry)) (now (scratch .exit)) ⌝ }
-    ensures { λ _. ⌜ drop ((length (now (prices .entry)) + 1) * w) (now (scratch .exit)) ≡ drop ((length (now (prices .entry)) + 1) * w) (now (scratch .entry)) ⌝ }
+// Every layer, from the last to the first. `w` is the cells of one. After the last interval a plan may end in any cell.
+pub fn fill_all(scratch: &mut [i64], w: usize, f: Figures, prices: &[i64])
+    requires { ⌜ (Room f (length (now prices)) (length (now scratch))) × (w ≡ width f) × (Priced (now prices)) ⌝ }
+    ensures { λ _. ⌜ Filled f anywhere (now (prices .entry)) (now (scratch .exit)) ⌝ }
+    ensures { λ _. ⌜ Beyond ((length (now (prices .entry)) + 1) * w) (now (scratch .entry)) (now (scratch .exit)) ⌝ }
 {
-    let n = prices.len();
-    let mut at = n * w;
-    rows::put(scratch, at, w, 0);
-    let mut t = n;
+    rows::put(scratch, prices.len() * w, w, 0);
+    fill(scratch, w, f, prices);
+}
+
+// The layers before the last, which is there and says where a plan may end.
+pub fn fill(scratch: &mut [i64], w: usize, f: Figures, prices: &[i64])
+    requires { ⌜ (Room f (length (now prices)) (length (now scratch))) × (w ≡ width f) × (Priced (now prices)) ⌝ }
+    requires { ⌜ Ended f (now scratch) (length (now prices) * width f) ⌝ }
+    ensures { λ _. ⌜ FilledBy f (now (prices .entry)) (now (scratch .entry)) (now (scratch .exit)) ⌝ }
+    ensures { λ _. ⌜ Beyond (length (now (prices .entry)) * w) (now (scratch .entry)) (now (scratch .exit)) ⌝ }
+{
+    let mut t = prices.len();
+    let mut at = t * w;
     while 0 < t {
         t -= 1;
         at -= w;
@@ -39,11 +51,10 @@ pub fn fill(scratch: &mut [i64], w: usize, f: Figures, prices: &[i64])
 
 // A layer's cells are a part of the scratch of its own: the part from its start on is lent to be filled, by the layer that stands behind it.
 fn fill_layer(scratch: &mut [i64], at: usize, w: usize, f: Figures, price: i64)
-    requires { ⌜ (Sound f) × (natAbs price ≤ 200000) × (w ≡ width f) ⌝ }
-    requires { ⌜ (at + w + w ≤ length (now scratch)) × (Small (now scratch) (at + w) w) ⌝ }
+    requires { ⌜ (Interval f price) × (w ≡ width f) × (Behind (now scratch) at (at + w) w) ⌝ }
     ensures { λ _. ⌜ LayerMade f price (now (scratch .entry)) (now (scratch .exit)) at ⌝ }
 {
-    states::fill_layer(&mut scratch[at..], 0, w, f, price);
+    states::fill_layer(&mut scratch[at..], w, f, price);
 }
 
 // The first n cells back to 0.

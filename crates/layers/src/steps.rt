@@ -1,11 +1,14 @@
 // One interval of the cells' machine: the states that it leads to, what a start takes and costs, what an output brings.
 
+use crate::rows::Ladder;
 use optimality::Figures;
 ghost use mathlib.Core.Path.{_≡_};
 ghost use Prim.Native.Nat.{_≤_, _<_};
-ghost use lib.IntN.{natAbs};
+ghost use Rattle.geometry.specs.Layers.{mostPays};
 ghost use Rattle.optimality.specs.Cells.{Sound, states, afterOff, afterOn, startTakes, startPays};
+ghost use Rattle.layers.specs.Turns.{Interval};
 ghost use Rattle.layers.specs.Turns as turns;
+ghost use Rattle.layers.specs.Ladders.{ladderOf};
 
 // The state after an interval off; past the last where the run is too short to end.
 pub fn after_off(f: Figures, s: usize) -> usize
@@ -58,7 +61,7 @@ pub fn start_pays(f: Figures, s: usize) -> usize
 
 // What an interval on with k blocks brings, less what its start costs.
 pub fn net(f: Figures, price: i64, pays: usize, k: usize) -> i64
-    requires { ⌜ (Sound f) × (natAbs price ≤ 200000) × (pays ≤ 16000000000) × (k ≤ f .pmax) ⌝ }
+    requires { ⌜ (Interval f price) × (pays ≤ mostPays) × (k ≤ f .pmax) ⌝ }
     ensures { λ r. ⌜ r ≡ turns.net f price pays k ⌝ }
 {
     let brings = commitment::margin(
@@ -73,8 +76,23 @@ pub fn net(f: Figures, price: i64, pays: usize, k: usize) -> i64
 
 // What one block more adds.
 pub fn slope(f: Figures, price: i64) -> i64
-    requires { ⌜ (Sound f) × (natAbs price ≤ 200000) ⌝ }
+    requires { ⌜ Interval f price ⌝ }
     ensures { λ r. ⌜ r ≡ turns.slope f price ⌝ }
 {
     commitment::margin(price, f.block as u64, f.vec as u64, 0, 0)
+}
+
+// The outputs of an interval, less what its start costs.
+pub fn ladder(f: Figures, price: i64, pays: usize) -> Ladder
+    requires { ⌜ (Interval f price) × (pays ≤ mostPays) ⌝ }
+    ensures { λ r. ⌜ r ≡ ladderOf f price pays ⌝ }
+{
+    let least = net(f, price, pays, f.pmin);
+    let rise = slope(f, price);
+    Ladder {
+        low: f.pmin,
+        high: f.pmax,
+        least: least,
+        rise: rise,
+    }
 }

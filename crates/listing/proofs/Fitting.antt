@@ -10,7 +10,7 @@ use lib.Dec.{leb}
 use lib.ListN.{length}
 use Rattle.listing.specs.declared.Fit.{Fit}
 use Rattle.listing.specs.declared.Fit.the-variants.{Bytes, TooLong}
-use Rattle.listing.specs.Listing.{fitted, answered, bufferAfter, bytesIn}
+use Rattle.listing.specs.Listing.{fitted, writtenBy, bufferAfter, bytesIn}
 use Rattle.listing.specs.Writing.{written}
 
 -- so many bytes more
@@ -47,9 +47,9 @@ after-written text buffer h = simp (le-leb (length text) (length buffer) h, zero
 pub after-refused : (text buffer : List ℕ) → length buffer < length text → buffer ≡ bufferAfter text buffer
 after-refused text buffer h = simp (lt-leb (length text) (length buffer) h)
 
-pub bytes-fit : (bytes room : ℕ) → bytesIn (answered (fitted bytes room)) ≤ room
+pub bytes-fit : (bytes room : ℕ) → bytesIn (writtenBy (fitted bytes room)) ≤ room
 bytes-fit bytes room = go (leb bytes room) refl
   where
-    go : (t : Bool) → leb bytes room ≡ t → bytesIn (answered (cond t (Bytes bytes) TooLong)) ≤ room
+    go : (t : Bool) → leb bytes room ≡ t → bytesIn (writtenBy (cond t (Bytes bytes) TooLong)) ≤ room
     go true e = leb-true bytes room e
     go false e = omega arith

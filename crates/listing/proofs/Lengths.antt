@@ -9,7 +9,7 @@ use Rattle.commitment.specs.declared.Outcome.{Outcome}
 use Rattle.commitment.specs.declared.Outcome.the-variants.{None, Empty, Never, Gap}
 use Rattle.commitment.specs.declared.Outcomes.{Outcomes}
 use Rattle.listing.specs.Numbers.{number, signedNumber}
-use Rattle.listing.specs.Listing.{outcomeText, closed, intervalHeading, valueHeading, profitName, startsName, hoursName, mwhName, intervalLine, intervalLines, profitLine, outcomeLines, listing, refusedName, refusal}
+use Rattle.listing.specs.Listing.{outcomeText, closed, intervalHeading, valueHeading, profitLead, startsLead, hoursLead, mwhLead, intervalLine, intervalLines, profitLine, outcomeLines, listing, refusedLead, refusal}
 use Rattle.listing.proofs.Numbers.{number-short}
 
 pub signed-short : (x : ℤ) → length (signedNumber x) ≤ 21
@@ -29,13 +29,13 @@ pub line-length : (k m : ℕ) → length (intervalLine k m) ≡ length (number k
 line-length k m = omega (arith, closed-length (number k) (44 ∷ number m))
 
 pub profit-length : (p : ℤ) → length (profitLine p) ≡ 8 + length (signedNumber p)
-profit-length p = omega (arith, closed-length profitName (signedNumber p))
+profit-length p = omega (arith, closed-length profitLead (signedNumber p))
 
 pub outcomes-length : (o : Outcomes)
     → length (outcomeLines o) ≡ 20 + length (outcomeText (o .starts)) + length (outcomeText (o .hours)) + length (outcomeText (o .mwh))
 outcomes-length o =
     omega
-    (arith, length-append (closed (startsName ++ outcomeText (o .starts))) (closed (hoursName ++ outcomeText (o .hours)) ++ closed (mwhName ++ outcomeText (o .mwh))), length-append (closed (hoursName ++ outcomeText (o .hours))) (closed (mwhName ++ outcomeText (o .mwh))), closed-length startsName (outcomeText (o .starts)), closed-length hoursName (outcomeText (o .hours)), closed-length mwhName (outcomeText (o .mwh)))
+    (arith, length-append (closed (startsLead ++ outcomeText (o .starts))) (closed (hoursLead ++ outcomeText (o .hours)) ++ closed (mwhLead ++ outcomeText (o .mwh))), length-append (closed (hoursLead ++ outcomeText (o .hours))) (closed (mwhLead ++ outcomeText (o .mwh))), closed-length startsLead (outcomeText (o .starts)), closed-length hoursLead (outcomeText (o .hours)), closed-length mwhLead (outcomeText (o .mwh)))
 
 pub listing-length : (s : List ℕ) (p : ℤ) (o : Outcomes)
     → length (listing s p o) ≡ length (intervalLines 1 s) + (24 + (length (profitLine p) + length (outcomeLines o)))
@@ -46,4 +46,4 @@ listing-length s p o =
 
 pub refusal-length : (n : ℕ) → length (refusal n) ≡ 9 + length (number n)
 unfolding refusal
-refusal-length n = omega (arith, closed-length refusedName (number n))
+refusal-length n = omega (arith, closed-length refusedLead (number n))

@@ -5,6 +5,7 @@ use Prim.Native.Nat.{ℕ, suc}
 use lib.Dec.{leb}
 use lib.IntN.{ℤ}
 use lib.ListN.{length, drop}
+use Rattle.lists.specs.Text.{bytes}
 use Rattle.commitment.specs.declared.Cause.the-variants.{Length}
 use Rattle.commitment.specs.declared.Outcome.{Outcome}
 use Rattle.commitment.specs.declared.Outcome.the-variants.{None, Empty, Never, Gap}
@@ -15,36 +16,34 @@ use Rattle.listing.specs.declared.Written.{Written}
 use Rattle.listing.specs.declared.Written.the-variants as written
 use Rattle.listing.specs.Numbers.{number, signedNumber}
 
--- "interval,mw"
 abbrev pub intervalHeading : List ℕ
-intervalHeading = 105 ∷ 110 ∷ 116 ∷ 101 ∷ 114 ∷ 118 ∷ 97 ∷ 108 ∷ 44 ∷ 109 ∷ 119 ∷ 10 ∷ []
+intervalHeading = bytes "interval,mw\n"
 
--- "what,value", after an empty line
+-- after an empty line
 abbrev pub valueHeading : List ℕ
-valueHeading = 10 ∷ 119 ∷ 104 ∷ 97 ∷ 116 ∷ 44 ∷ 118 ∷ 97 ∷ 108 ∷ 117 ∷ 101 ∷ 10 ∷ []
+valueHeading = bytes "\nwhat,value\n"
 
--- "profit,", "starts,", "hours,", "mwh,", "refused,"
-abbrev pub profitName : List ℕ
-profitName = 112 ∷ 114 ∷ 111 ∷ 102 ∷ 105 ∷ 116 ∷ 44 ∷ []
+abbrev pub profitLead : List ℕ
+profitLead = bytes "profit,"
 
-abbrev pub startsName : List ℕ
-startsName = 115 ∷ 116 ∷ 97 ∷ 114 ∷ 116 ∷ 115 ∷ 44 ∷ []
+abbrev pub startsLead : List ℕ
+startsLead = bytes "starts,"
 
-abbrev pub hoursName : List ℕ
-hoursName = 104 ∷ 111 ∷ 117 ∷ 114 ∷ 115 ∷ 44 ∷ []
+abbrev pub hoursLead : List ℕ
+hoursLead = bytes "hours,"
 
-abbrev pub mwhName : List ℕ
-mwhName = 109 ∷ 119 ∷ 104 ∷ 44 ∷ []
+abbrev pub mwhLead : List ℕ
+mwhLead = bytes "mwh,"
 
-abbrev pub refusedName : List ℕ
-refusedName = 114 ∷ 101 ∷ 102 ∷ 117 ∷ 115 ∷ 101 ∷ 100 ∷ 44 ∷ []
+abbrev pub refusedLead : List ℕ
+refusedLead = bytes "refused,"
 
 -- ---- an outcome in words, or the gap
 
 abbrev pub outcomeText : Outcome → List ℕ
-outcomeText None = 110 ∷ 111 ∷ 110 ∷ 101 ∷ []
-outcomeText Empty = 101 ∷ 109 ∷ 112 ∷ 116 ∷ 121 ∷ []
-outcomeText Never = 110 ∷ 101 ∷ 118 ∷ 101 ∷ 114 ∷ []
+outcomeText None = bytes "none"
+outcomeText Empty = bytes "empty"
+outcomeText Never = bytes "never"
 outcomeText (Gap gap) = signedNumber gap
 
 -- ---- the lines
@@ -61,11 +60,11 @@ intervalLines interval [] = []
 intervalLines interval (mw ∷ schedule) = intervalLine interval mw ++ intervalLines (suc interval) schedule
 
 abbrev pub profitLine : ℤ → List ℕ
-profitLine profit = closed (profitName ++ signedNumber profit)
+profitLine profit = closed (profitLead ++ signedNumber profit)
 
 abbrev pub outcomeLines : Outcomes → List ℕ
 outcomeLines outcomes =
-    closed (startsName ++ outcomeText (outcomes .starts)) ++ (closed (hoursName ++ outcomeText (outcomes .hours)) ++ closed (mwhName ++ outcomeText (outcomes .mwh)))
+    closed (startsLead ++ outcomeText (outcomes .starts)) ++ (closed (hoursLead ++ outcomeText (outcomes .hours)) ++ closed (mwhLead ++ outcomeText (outcomes .mwh)))
 
 -- interval and MW, then profit and the three outcomes
 unfoldable pub listing : List ℕ → ℤ → Outcomes → List ℕ
@@ -74,22 +73,22 @@ listing schedule profit outcomes =
 
 -- "It prints a refusal as the line `refused,` and the number."
 unfoldable pub refusal : ℕ → List ℕ
-refusal cause = closed (refusedName ++ number cause)
+refusal cause = closed (refusedLead ++ number cause)
 
 -- ---- a text in a lent buffer of so many bytes
 
 abbrev pub fitted : ℕ → ℕ → Fit
-fitted bytes room = cond (leb bytes room) (Bytes bytes) TooLong
+fitted count room = cond (leb count room) (Bytes count) TooLong
 
 -- "A buffer too short gets a refusal and is as it was": number 7, a list slice too short
-abbrev pub answered : Fit → Written
-answered (Bytes bytes) = written.Bytes bytes
-answered TooLong = written.Refused Length
+abbrev pub writtenBy : Fit → Written
+writtenBy (Bytes count) = written.Bytes count
+writtenBy TooLong = written.Refused Length
 
 abbrev pub bufferAfter : List ℕ → List ℕ → List ℕ
 bufferAfter text buffer = cond (leb (length text) (length buffer)) (text ++ drop (length text) buffer) buffer
 
 -- the bytes written, 0 on a refusal
 abbrev pub bytesIn : Written → ℕ
-bytesIn (written.Bytes bytes) = bytes
+bytesIn (written.Bytes count) = count
 bytesIn (written.Refused cause) = 0

@@ -9,7 +9,7 @@ ghost use lib.IntN.{natAbs};
 ghost use lib.ListN.{length};
 ghost use mathlib.Core.List.{[], _∷_, _++_};
 ghost use Rattle.listing.specs.Numbers.{number, signedNumber};
-ghost use Rattle.listing.specs.Listing.{outcomeText, closed, intervalLine, intervalLines, profitLine, outcomeLines, listing, refusal, fitted, answered, bufferAfter, bytesIn};
+ghost use Rattle.listing.specs.Listing.{outcomeText, closed, intervalLine, intervalLines, profitLine, outcomeLines, listing, refusal, fitted, writtenBy, bufferAfter, bytesIn};
 ghost use Rattle.listing.specs.Writing.{Put, written};
 
 // What writing answers: so many bytes from the front, or 7 for a buffer too short.
@@ -26,7 +26,7 @@ pub enum Fit {
 
 // The listing of a plan: interval and MW, then profit and the three outcomes.
 pub fn write_listing(schedule: &[u64], profit: i64, outcomes: Outcomes, out: &mut [u8]) -> Written
-    ensures { λ r. ⌜ r ≡ answered (fitted (length (listing (now (schedule .entry)) profit outcomes)) (length (now (out .entry)))) ⌝ }
+    ensures { λ r. ⌜ r ≡ writtenBy (fitted (length (listing (now (schedule .entry)) profit outcomes)) (length (now (out .entry)))) ⌝ }
     ensures { λ _. ⌜ now (out .exit) ≡ bufferAfter (listing (now (schedule .entry)) profit outcomes) (now (out .entry)) ⌝ }
 {
     match listing_fit(schedule, profit, outcomes, out.len()) {
@@ -40,7 +40,7 @@ pub fn write_listing(schedule: &[u64], profit: i64, outcomes: Outcomes, out: &mu
 
 // The line of a refusal.
 pub fn write_refusal(number: u64, out: &mut [u8]) -> Written
-    ensures { λ r. ⌜ r ≡ answered (fitted (length (refusal number)) (length (now (out .entry)))) ⌝ }
+    ensures { λ r. ⌜ r ≡ writtenBy (fitted (length (refusal number)) (length (now (out .entry)))) ⌝ }
     ensures { λ _. ⌜ now (out .exit) ≡ bufferAfter (refusal number) (now (out .entry)) ⌝ }
 {
     let bytes = 9 + number_length(number);

@@ -12,14 +12,15 @@ use lib.ListN.{length}
 use lib.Signed.{_≤ℤ_, _<ℤ_}
 use Rattle.integers.proofs.Linear.{zarith}
 use Rattle.commitment.specs.declared.UnitRecord.{UnitRecord}
-use Rattle.commitment.specs.Ranges.{every}
+use Rattle.lists.specs.Every.{every}
 use Rattle.commitment.specs.Schedule.{isOutput}
 use Rattle.commitment.specs.Keeping.{keepsCase}
 use Rattle.commitment.specs.Profit.{profit}
 use Rattle.commitment.specs.Order.{earlier}
 use Rattle.commitment.specs.Best.{Plan, nothing, plan, outputs, best}
 use Rattle.commitment.specs.Rivals.{Rival, IsBest}
-use Rattle.commitment.proofs.Conjunctions.{both}
+use Rattle.lists.proofs.Conjunctions.{both}
+use Rattle.optimality.specs.Machine.{anywhere}
 use Rattle.optimality.proofs.Ranges.{Ranged}
 use Rattle.optimality.proofs.Rival.{not-plan, Beats, run-length, attained, no-rival}
 use Rattle.optimality.proofs.Commit.{Status, commit, before, candidate-run, best-steps}
@@ -59,8 +60,8 @@ from-candidate true s p q e = (refl, (cc))
 from-candidate false s p q e = absurd (not-plan e)
 
 module _ (u : UnitRecord) (prices : List ℤ) where
-  rival-length : (r : List ℕ) → Rival u prices r → length r ≡ length prices
-  rival-length r v = eqb-true (length r) (length prices) (both (eqb (length r) (length prices)) (every (isOutput u) r) (v .schedule) .0)
+  pub rival-length : (r : List ℕ) → Rival u prices r → length r ≡ length prices
+  rival-length r v = eqb-true (length r) (length prices) (both (eqb (length r) (length prices)) (every (isOutput (u .generator)) r) (v .schedule) .0)
 
   -- what is best is best alone
   best-alone : (s t : List ℕ) (p q : ℤ) → IsBest u prices s p → IsBest u prices t q → plan s p ≡ plan t q
@@ -76,18 +77,27 @@ module _ (u : UnitRecord) (prices : List ℤ) where
       (neither-earlier s t (rival-length s (a .own) ∙ sym (rival-length t (b .own))) (b .first s (a .own) k) (a .first t (b .own) j))
       i
 
+  -- and earlier than every other rival that earns as much
+  pub best-is-earlier : (s : List ℕ) (p : ℤ) → IsBest u prices s p
+      → (r : List ℕ) → Rival u prices r → profit u prices r ≡ p → (r ≡ s → ⊥) → earlier s r ≡ true
+  best-is-earlier s p b r v as-much other = by (earlier s r) refl
+    where
+      by : (t : Bool) → earlier s r ≡ t → earlier s r ≡ true
+      by true e = e
+      by false e = absurd (other (neither-earlier r s (rival-length r v ∙ sym (rival-length s (b .own))) (b .first r v as-much) e))
+
   module _ (ok : Ranged u) where
     beats-rival : (r : List ℕ) → Rival u prices r → Beats (best u prices) r (profit u prices r)
     beats-rival r v =
         rw (best-steps u prices)
-        (no-rival Status ℤ (commit u) (outputs u) (outputs-ascending u ok) prices (before u) r (profit u prices r)
-        (all-tried u ok r (both (eqb (length r) (length prices)) (every (isOutput u) r) (v .schedule) .1))
+        (no-rival Status ℤ (commit u) anywhere (outputs (u .generator)) (outputs-ascending u ok) prices (before u) r (profit u prices r)
+        (all-tried u ok r (both (eqb (length r) (length prices)) (every (isOutput (u .generator)) r) (v .schedule) .1))
         (sym (candidate-run u prices r (rival-length r v)) ∙ ap (λ (k : Bool). cond k (plan r (profit u prices r)) nothing) (v .kept)))
 
     plan-kept : (s : List ℕ) (p : ℤ) → best u prices ≡ plan s p → Rival u prices s × (profit u prices s ≡ p)
     plan-kept s p e =
-        let a = attained Status ℤ (commit u) (outputs u) prices (before u) s p (sym (best-steps u prices) ∙ e) in
-        let n = run-length Status ℤ (commit u) prices (before u) s s p (a .0) in
+        let a = attained Status ℤ (commit u) anywhere (outputs (u .generator)) prices (before u) s p (sym (best-steps u prices) ∙ e) in
+        let n = run-length Status ℤ (commit u) anywhere prices (before u) s s p (a .0) in
         let k = from-candidate (keepsCase u s) s p (profit u prices s) (candidate-run u prices s n ∙ a .0) in
         (record { schedule = simp (eq-eqb (length s) (length prices) n) (tried-all u ok s (a .1)); kept = k .0 }, k .1)
 

@@ -13,7 +13,7 @@ use Rattle.optimality.specs.Machine.{after}
 
 -- ---- a monoid
 
-better-nothing : (a : Plan) → better a nothing ≡ a
+pub better-nothing : (a : Plan) → better a nothing ≡ a
 better-nothing nothing = refl
 better-nothing (plan s p) = refl
 

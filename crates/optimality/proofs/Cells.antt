@@ -14,10 +14,10 @@ use Rattle.commitment.specs.declared.Limit.{Limit}
 use Rattle.commitment.specs.declared.UnitRecord.{UnitRecord}
 use Rattle.commitment.specs.Profit.{earned, startCost}
 use Rattle.commitment.specs.Best.{outputs}
-use Rattle.commitment.proofs.Conjunctions.{both}
+use Rattle.lists.proofs.Conjunctions.{both}
 use Rattle.optimality.specs.declared.Figures.{Figures}
 use Rattle.optimality.specs.declared.Cell.{Cell}
-use Rattle.optimality.specs.Machine.{go, bestFrom}
+use Rattle.optimality.specs.Machine.{go, anywhere, bestFrom}
 use Rattle.optimality.specs.Cells.{takenOf, figuresWith, states, afterOff, afterOn, startTakes, startPays, gain, mayRun, offCell, onCell, onStep, cellStep, planAt}
 use Rattle.optimality.proofs.Ranges.{Ranged}
 use Rattle.optimality.proofs.Commit.{affords, spend, Status, status, commit}
@@ -28,13 +28,13 @@ use Rattle.optimality.proofs.Left.{Left, left-affords, left-spend, left
 -- ---- when a status and a cell are alike, with n intervals to go
 
 abbrev pub Timed : UnitRecord → Bool → ℕ → ℕ → Type 0
-Timed u true spent s = (1 ≤ spent) × (s + 1 ≡ min spent (u .mot))
-Timed u false spent s = (1 ≤ spent) × (s + 1 ≡ u .mot + min spent (u .mdt))
+Timed u true spent s = (1 ≤ spent) × (s + 1 ≡ min spent (u .generator .mot))
+Timed u false spent s = (1 ≤ spent) × (s + 1 ≡ u .generator .mot + min spent (u .generator .mdt))
 
 abbrev Budgets : UnitRecord → ℕ → Limit → Limit → Limit → Cell → Type 0
 Budgets u n a b c x =
-    Left 1 1 (takenOf (u .starts)) n a (x .starts) × Left 1 1 (takenOf (u .hours)) n b (x .ons)
-    × Left (u .block) (u .pmax) (takenOf (u .mwh)) n c (x .blocks)
+    Left 1 1 (takenOf (u .limits .starts)) n a (x .starts) × Left 1 1 (takenOf (u .limits .hours)) n b (x .ons)
+    × Left (u .generator .block) (u .generator .pmax) (takenOf (u .limits .mwh)) n c (x .blocks)
 
 abbrev pub Alike : UnitRecord → ℕ → Status → Cell → Type 0
 Alike u n (status on spent a b c) x = Timed u on spent (x .state) × Budgets u n a b c x
@@ -51,27 +51,27 @@ module _ (u : UnitRecord) (ok : Ranged u) (a-top b-top c-top : ℕ) where
 
   -- ---- the state after an interval
 
-  is-on : (spent s : ℕ) → Timed u true spent s → ltb s (u .mot) ≡ true
-  is-on spent s t = lt-ltb s (u .mot) (omega (arith, t .1, t .0, ok .mot))
+  is-on : (spent s : ℕ) → Timed u true spent s → ltb s (u .generator .mot) ≡ true
+  is-on spent s t = lt-ltb s (u .generator .mot) (omega (arith, t .1, t .0, ok .mot))
 
-  is-off : (spent s : ℕ) → Timed u false spent s → ltb s (u .mot) ≡ false
-  is-off spent s t = le-ltb s (u .mot) (omega (arith, t .1, t .0, ok .mdt))
+  is-off : (spent s : ℕ) → Timed u false spent s → ltb s (u .generator .mot) ≡ false
+  is-off spent s t = le-ltb s (u .generator .mot) (omega (arith, t .1, t .0, ok .mdt))
 
   -- a run ends where it has lasted mot
   run-ends : (spent s : ℕ) → Timed u true spent s
-      → (ltb (afterOff f s) (states f) ≡ leb (u .mot) spent) × (leb (u .mot) spent ≡ true → afterOff f s ≡ u .mot)
-  run-ends spent s t = rw (is-on spent s t) (test (leb (u .mot) spent) refl)
+      → (ltb (afterOff f s) (states f) ≡ leb (u .generator .mot) spent) × (leb (u .generator .mot) spent ≡ true → afterOff f s ≡ u .generator .mot)
+  run-ends spent s t = rw (is-on spent s t) (test (leb (u .generator .mot) spent) refl)
     where
       next : ℕ
-      next = cond (eqb (s + 1) (u .mot)) (u .mot) (states f)
+      next = cond (eqb (s + 1) (u .generator .mot)) (u .generator .mot) (states f)
 
-      test : (q : Bool) → leb (u .mot) spent ≡ q → (ltb next (states f) ≡ leb (u .mot) spent) × (leb (u .mot) spent ≡ true → next ≡ u .mot)
+      test : (q : Bool) → leb (u .generator .mot) spent ≡ q → (ltb next (states f) ≡ leb (u .generator .mot) spent) × (leb (u .generator .mot) spent ≡ true → next ≡ u .generator .mot)
       test true i =
-          let k : s + 1 ≡ u .mot = omega (arith, t .1, leb-true (u .mot) spent i) in
-          rw (eq-eqb (s + 1) (u .mot) k) (lt-ltb (u .mot) (states f) (omega (arith, ok .mdt)) ∙ sym i, λ o. refl)
+          let k : s + 1 ≡ u .generator .mot = omega (arith, t .1, leb-true (u .generator .mot) spent i) in
+          rw (eq-eqb (s + 1) (u .generator .mot) k) (lt-ltb (u .generator .mot) (states f) (omega (arith, ok .mdt)) ∙ sym i, λ o. refl)
       test false i =
-          let k : s + 1 ≡ u .mot → ⊥ = λ o. omega (arith, t .1, leb-false (u .mot) spent i) in
-          rw (ne-eqb (s + 1) (u .mot) k) (le-ltb (states f) (states f) (omega arith) ∙ sym i, λ o. absurd (false≢true (sym i ∙ o)))
+          let k : s + 1 ≡ u .generator .mot → ⊥ = λ o. omega (arith, t .1, leb-false (u .generator .mot) spent i) in
+          rw (ne-eqb (s + 1) (u .generator .mot) k) (le-ltb (states f) (states f) (omega arith) ∙ sym i, λ o. absurd (false≢true (sym i ∙ o)))
 
   spell-goes-on : (spent s : ℕ) → Timed u false spent s → (ltb (afterOff f s) (states f) ≡ true) × Timed u false (suc spent) (afterOff f s)
   spell-goes-on spent s t =
@@ -82,41 +82,41 @@ module _ (u : UnitRecord) (ok : Ranged u) (a-top b-top c-top : ℕ) where
       → (ltb (afterOn f s) (states f) ≡ true) × Timed u true (suc spent) (afterOn f s) × (startTakes f s ≡ 0) × (startPays f s ≡ 0)
   run-goes-on spent s t =
       rw (is-on spent s t)
-      (lt-ltb (min (s + 1) (u .mot - 1)) (states f) (omega (arith, ok .mdt, ok .mot)), (omega arith, omega (arith, t .1, t .0, ok .mot)), refl, refl)
+      (lt-ltb (min (s + 1) (u .generator .mot - 1)) (states f) (omega (arith, ok .mdt, ok .mot)), (omega arith, omega (arith, t .1, t .0, ok .mot)), refl, refl)
 
   -- a start comes where the spell has lasted mdt
   spell-ends : (spent s : ℕ) → Timed u false spent s
-      → (ltb (afterOn f s) (states f) ≡ leb (u .mdt) spent) × (leb (u .mdt) spent ≡ true → afterOn f s ≡ 0)
-      × (startTakes f s ≡ takenOf (u .starts)) × (startPays f s ≡ startCost u)
-  spell-ends spent s t = rw (is-off spent s t) (test (leb (u .mdt) spent) refl)
+      → (ltb (afterOn f s) (states f) ≡ leb (u .generator .mdt) spent) × (leb (u .generator .mdt) spent ≡ true → afterOn f s ≡ 0)
+      × (startTakes f s ≡ takenOf (u .limits .starts)) × (startPays f s ≡ startCost (u .costs))
+  spell-ends spent s t = rw (is-off spent s t) (test (leb (u .generator .mdt) spent) refl)
     where
       next : ℕ
       next = cond (eqb (s + 1) (states f)) 0 (states f)
 
-      test : (q : Bool) → leb (u .mdt) spent ≡ q
-          → (ltb next (states f) ≡ leb (u .mdt) spent) × (leb (u .mdt) spent ≡ true → next ≡ 0) × (takenOf (u .starts) ≡ takenOf (u .starts))
-          × (startCost u ≡ startCost u)
+      test : (q : Bool) → leb (u .generator .mdt) spent ≡ q
+          → (ltb next (states f) ≡ leb (u .generator .mdt) spent) × (leb (u .generator .mdt) spent ≡ true → next ≡ 0) × (takenOf (u .limits .starts) ≡ takenOf (u .limits .starts))
+          × (startCost (u .costs) ≡ startCost (u .costs))
       test true i =
-          let k : s + 1 ≡ states f = omega (arith, t .1, leb-true (u .mdt) spent i) in
+          let k : s + 1 ≡ states f = omega (arith, t .1, leb-true (u .generator .mdt) spent i) in
           rw (eq-eqb (s + 1) (states f) k) (lt-ltb 0 (states f) (omega (arith, ok .mdt)) ∙ sym i, (λ o. refl), refl, refl)
       test false i =
-          let k : s + 1 ≡ states f → ⊥ = λ o. omega (arith, t .1, leb-false (u .mdt) spent i) in
+          let k : s + 1 ≡ states f → ⊥ = λ o. omega (arith, t .1, leb-false (u .generator .mdt) spent i) in
           rw (ne-eqb (s + 1) (states f) k) (le-ltb (states f) (states f) (omega arith) ∙ sym i, (λ o. absurd (false≢true (sym i ∙ o))), refl, refl)
 
   -- ---- an interval off, and on with k blocks
 
   none-used : (n : ℕ) (a b c : Limit) (x : Cell) → Budgets u (suc n) a b c x → Budgets u n a b c x
   none-used n a b c x r = (
-    left-less 1 1 (omega arith) (takenOf (u .starts)) n a (x .starts) (r .0),
-    left-less 1 1 (omega arith) (takenOf (u .hours)) n b (x .ons) (r .1),
-    left-less (u .block) (u .pmax) (ok .block) (takenOf (u .mwh)) n c (x .blocks) (r .2),
+    left-less 1 1 (omega arith) (takenOf (u .limits .starts)) n a (x .starts) (r .0),
+    left-less 1 1 (omega arith) (takenOf (u .limits .hours)) n b (x .ons) (r .1),
+    left-less (u .generator .block) (u .generator .pmax) (ok .block) (takenOf (u .limits .mwh)) n c (x .blocks) (r .2),
   )
 
   match-off : (n : ℕ) (on : Bool) (spent : ℕ) (a b c : Limit) (x : Cell) (price : ℤ) → Alike u (suc n) (status on spent a b c) x
       → Match (Alike u n) (commit u (status on spent a b c) price 0) (cellStep f x price 0)
   match-off n true spent a b c x price r =
       let t = run-ends spent (x .state) (r .0) in
-      match-allow (Alike u n) (leb (u .mot) spent) (ltb (afterOff f (x .state)) (states f)) (go (pos 0) (status false 1 a b c)) (go (pos 0) (offCell f x)) (t .0)
+      match-allow (Alike u n) (leb (u .generator .mot) spent) (ltb (afterOff f (x .state)) (states f)) (go (pos 0) (status false 1 a b c)) (go (pos 0) (offCell f x)) (t .0)
       (λ i. (refl, ((omega arith, rw (t .1 i) (omega (arith, ok .mdt))), none-used n a b c x (r .1))))
   match-off n false spent a b c x price r =
       let t = spell-goes-on spent (x .state) (r .0) in
@@ -124,59 +124,59 @@ module _ (u : UnitRecord) (ok : Ranged u) (a-top b-top c-top : ℕ) where
       (λ i. (refl, (t .1, none-used n a b c x (r .1))))
 
   -- what the cells' machine counts in blocks
-  in-blocks : (x : Cell) (price : ℤ) (m k : ℕ) → suc m ≡ k * u .block
-      → (cellStep f x price (suc m) ≡ onStep f x price k) × (earned u price (suc m) ≡ gain f price k)
+  in-blocks : (x : Cell) (price : ℤ) (m k : ℕ) → suc m ≡ k * u .generator .block
+      → (cellStep f x price (suc m) ≡ onStep f x price k) × (earned (u .generator) (u .costs) price (suc m) ≡ gain f price k)
   in-blocks x price m k i =
-      let d : suc m / u .block ≡ k = ap (λ (q : ℕ). q / u .block) i ∙ mul-div-cancel k (ok .block) in
+      let d : suc m / u .generator .block ≡ k = ap (λ (q : ℕ). q / u .generator .block) i ∙ mul-div-cancel k (ok .block) in
       ((rw (ne-eqb (suc m) 0 (λ o. omega arith), d)), rw i)
 
-  match-on : (n : ℕ) (on : Bool) (spent : ℕ) (a b c : Limit) (x : Cell) (price : ℤ) (m k : ℕ) → suc m ≡ k * u .block → k ≤ u .pmax
-      → earned u price (suc m) ≡ gain f price k → Alike u (suc n) (status on spent a b c) x
+  match-on : (n : ℕ) (on : Bool) (spent : ℕ) (a b c : Limit) (x : Cell) (price : ℤ) (m k : ℕ) → suc m ≡ k * u .generator .block → k ≤ u .generator .pmax
+      → earned (u .generator) (u .costs) price (suc m) ≡ gain f price k → Alike u (suc n) (status on spent a b c) x
       → Match (Alike u n) (commit u (status on spent a b c) price (suc m)) (onStep f x price k)
   match-on n on spent a b c x price m k i hk e r = case on (r .0)
     where
       left : Budgets u (suc n) a b c x
       left = r .1
 
-      starts : leb (takenOf (u .starts)) (x .starts) ≡ affords a 1
-      starts = one-affords (takenOf (u .starts)) n a (x .starts) (left .0)
+      starts : leb (takenOf (u .limits .starts)) (x .starts) ≡ affords a 1
+      starts = one-affords (takenOf (u .limits .starts)) n a (x .starts) (left .0)
 
-      hours : leb (takenOf (u .hours)) (x .ons) ≡ affords b 1
-      hours = one-affords (takenOf (u .hours)) n b (x .ons) (left .1)
+      hours : leb (takenOf (u .limits .hours)) (x .ons) ≡ affords b 1
+      hours = one-affords (takenOf (u .limits .hours)) n b (x .ons) (left .1)
 
-      mwh : leb (k * takenOf (u .mwh)) (x .blocks) ≡ affords c (suc m)
-      mwh = left-affords (u .block) (u .pmax) (ok .block) (takenOf (u .mwh)) n k c (x .blocks) hk (left .2) ∙ ap (affords c) (sym i)
+      mwh : leb (k * takenOf (u .limits .mwh)) (x .blocks) ≡ affords c (suc m)
+      mwh = left-affords (u .generator .block) (u .generator .pmax) (ok .block) (takenOf (u .limits .mwh)) n k c (x .blocks) hk (left .2) ∙ ap (affords c) (sym i)
 
-      hours-left : Left 1 1 (takenOf (u .hours)) n (spend b 1) (x .ons - takenOf (u .hours))
-      hours-left = one-spend (takenOf (u .hours)) n b (x .ons) (left .1)
+      hours-left : Left 1 1 (takenOf (u .limits .hours)) n (spend b 1) (x .ons - takenOf (u .limits .hours))
+      hours-left = one-spend (takenOf (u .limits .hours)) n b (x .ons) (left .1)
 
-      mwh-left : Left (u .block) (u .pmax) (takenOf (u .mwh)) n (spend c (suc m)) (x .blocks - k * takenOf (u .mwh))
-      mwh-left = rw i (left-spend (u .block) (u .pmax) (ok .block) (takenOf (u .mwh)) n k c (x .blocks) hk (left .2))
+      mwh-left : Left (u .generator .block) (u .generator .pmax) (takenOf (u .limits .mwh)) n (spend c (suc m)) (x .blocks - k * takenOf (u .limits .mwh))
+      mwh-left = rw i (left-spend (u .generator .block) (u .generator .pmax) (ok .block) (takenOf (u .limits .mwh)) n k c (x .blocks) hk (left .2))
 
       case : (on : Bool) → Timed u on spent (x .state) → Match (Alike u n) (commit u (status on spent a b c) price (suc m)) (onStep f x price k)
       case true h =
           let t = run-goes-on spent (x .state) h in
-          match-allow (Alike u n) (affords b 1 && affords c (suc m)) (mayRun f x && leb (k * takenOf (u .mwh)) (x .blocks))
-          (go (earned u price (suc m)) (status true (suc spent) a (spend b 1) (spend c (suc m))))
+          match-allow (Alike u n) (affords b 1 && affords c (suc m)) (mayRun f x && leb (k * takenOf (u .limits .mwh)) (x .blocks))
+          (go (earned (u .generator) (u .costs) price (suc m)) (status true (suc spent) a (spend b 1) (spend c (suc m))))
           (go (gain f price k -ℤ pos (startPays f (x .state))) (onCell f x k))
           (rw (t .0, t .2, leb·zero (x .starts), hours, mwh))
-          (λ o. rw (t .2, t .3) (e ∙ sym (+ℤ-idr (gain f price k)), (t .1, (one-less (takenOf (u .starts)) n a (x .starts) (left .0), hours-left, mwh-left))))
+          (λ o. rw (t .2, t .3) (e ∙ sym (+ℤ-idr (gain f price k)), (t .1, (one-less (takenOf (u .limits .starts)) n a (x .starts) (left .0), hours-left, mwh-left))))
       case false h =
           let t = spell-ends spent (x .state) h in
-          match-allow (Alike u n) (affords a 1 && leb (u .mdt) spent && affords b 1 && affords c (suc m)) (mayRun f x && leb (k * takenOf (u .mwh)) (x .blocks))
-          (go (earned u price (suc m) -ℤ pos (startCost u)) (status true 1 (spend a 1) (spend b 1) (spend c (suc m))))
+          match-allow (Alike u n) (affords a 1 && leb (u .generator .mdt) spent && affords b 1 && affords c (suc m)) (mayRun f x && leb (k * takenOf (u .limits .mwh)) (x .blocks))
+          (go (earned (u .generator) (u .costs) price (suc m) -ℤ pos (startCost (u .costs))) (status true 1 (spend a 1) (spend b 1) (spend c (suc m))))
           (go (gain f price k -ℤ pos (startPays f (x .state))) (onCell f x k))
-          ((rw (t .0, t .2, starts, hours, mwh)) ∙ swap (leb (u .mdt) spent) (affords a 1) (affords b 1) (affords c (suc m)))
+          ((rw (t .0, t .2, starts, hours, mwh)) ∙ swap (leb (u .generator .mdt) spent) (affords a 1) (affords b 1) (affords c (suc m)))
           (λ o.
-          let all = both (affords a 1 && leb (u .mdt) spent && affords b 1) (affords c (suc m)) o in
-          let first = both (affords a 1 && leb (u .mdt) spent) (affords b 1) (all .0) in
-          let lasted = both (affords a 1) (leb (u .mdt) spent) (first .0) .1 in
+          let all = both (affords a 1 && leb (u .generator .mdt) spent && affords b 1) (affords c (suc m)) o in
+          let first = both (affords a 1 && leb (u .generator .mdt) spent) (affords b 1) (all .0) in
+          let lasted = both (affords a 1) (leb (u .generator .mdt) spent) (first .0) .1 in
           rw (t .2, t .3, t .1 lasted) (
-            ap (λ (g : ℤ). g -ℤ pos (startCost u)) e,
-            ((omega arith, omega (arith, ok .mot)), (one-spend (takenOf (u .starts)) n a (x .starts) (left .0), hours-left, mwh-left)),
+            ap (λ (g : ℤ). g -ℤ pos (startCost (u .costs))) e,
+            ((omega arith, omega (arith, ok .mot)), (one-spend (takenOf (u .limits .starts)) n a (x .starts) (left .0), hours-left, mwh-left)),
           ))
 
-  matches : (n : ℕ) (s : Status) (x : Cell) (price : ℤ) (m : ℕ) → List·Memᴰ m (outputs u) → Alike u (suc n) s x
+  matches : (n : ℕ) (s : Status) (x : Cell) (price : ℤ) (m : ℕ) → List·Memᴰ m (outputs (u .generator)) → Alike u (suc n) s x
       → Match (Alike u n) (commit u s price m) (cellStep f x price m)
   matches n (status on spent a b c) x price zero i r = match-off n on spent a b c x price r
   matches n (status on spent a b c) x price (suc m) i r =
@@ -186,6 +186,6 @@ module _ (u : UnitRecord) (ok : Ranged u) (a-top b-top c-top : ℕ) where
 
   -- the two machines have the same best
   pub same-plan : (prices : List ℤ) (s : Status) (x : Cell) → Alike u (length prices) s x
-      → bestFrom Status ℤ (commit u) (outputs u) prices s ≡ planAt f prices x
+      → bestFrom Status ℤ (commit u) anywhere (outputs (u .generator)) prices s ≡ planAt f anywhere prices x
   unfolding planAt
-  same-plan prices s x r = same-best Status Cell ℤ (commit u) (cellStep f) (Alike u) (outputs u) matches prices s x r
+  same-plan prices s x r = same-best Status Cell ℤ (commit u) (cellStep f) anywhere anywhere (Alike u) (outputs (u .generator)) matches (λ s x r. refl) prices s x r

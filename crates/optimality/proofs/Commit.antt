@@ -19,7 +19,7 @@ use Rattle.commitment.specs.Limits.{within}
 use Rattle.commitment.specs.Keeping.{wasOn, startsIn, runsLast, spellsLast, onIntervals, outputSum}
 use Rattle.commitment.specs.Profit.{earned, earnedIn, startCost}
 use Rattle.commitment.specs.Best.{Plan, nothing, plan, firstBest, prefixed, lists, candidate, outputs, best}
-use Rattle.optimality.specs.Machine.{Step, go, allow, after, along, run, bestFrom}
+use Rattle.optimality.specs.Machine.{Step, go, allow, anywhere, after, along, run, bestFrom}
 use Rattle.optimality.proofs.Machine.{map-map, map-append, along-ext, optimal}
 
 -- ---- what is left of a limitation
@@ -33,11 +33,11 @@ spend None n = None
 spend (At left) n = At (left - n)
 
 -- in counts, of which a unit of the limitation is worth so many
-abbrev pub counted : ℕ → Limit → Limit
-counted unit None = None
-counted unit (At limit) = At (unit * limit)
+abbrev pub scaled : ℕ → Limit → Limit
+scaled unit None = None
+scaled unit (At limit) = At (unit * limit)
 
-within-counted : (unit n : ℕ) (l : Limit) → within unit n l ≡ affords (counted unit l) n
+within-counted : (unit n : ℕ) (l : Limit) → within unit n l ≡ affords (scaled unit l) n
 within-counted unit n None = refl
 within-counted unit n (At limit) = refl
 
@@ -64,26 +64,26 @@ pub data Status : Type 0 where
   status : Bool → ℕ → Limit → Limit → Limit → Status
 
 abbrev pub commit : UnitRecord → Status → ℤ → ℕ → Step Status
-commit u (status true spent a b c) price zero = allow (leb (u .mot) spent) (go (pos 0) (status false 1 a b c))
+commit u (status true spent a b c) price zero = allow (leb (u .generator .mot) spent) (go (pos 0) (status false 1 a b c))
 commit u (status false spent a b c) price zero = go (pos 0) (status false (suc spent) a b c)
 commit u (status true spent a b c) price (suc m) =
-    allow (affords b 1 && affords c (suc m)) (go (earned u price (suc m)) (status true (suc spent) a (spend b 1) (spend c (suc m))))
+    allow (affords b 1 && affords c (suc m)) (go (earned (u .generator) (u .costs) price (suc m)) (status true (suc spent) a (spend b 1) (spend c (suc m))))
 commit u (status false spent a b c) price (suc m) =
-    allow (affords a 1 && leb (u .mdt) spent && affords b 1 && affords c (suc m))
-    (go (earned u price (suc m) -ℤ pos (startCost u)) (status true 1 (spend a 1) (spend b 1) (spend c (suc m))))
+    allow (affords a 1 && leb (u .generator .mdt) spent && affords b 1 && affords c (suc m))
+    (go (earned (u .generator) (u .costs) price (suc m) -ℤ pos (startCost (u .costs))) (status true 1 (spend a 1) (spend b 1) (spend c (suc m))))
 
 -- before interval 1
 abbrev pub before : UnitRecord → Status
-before u = status (wasOn u) (u .held) (counted 1 (u .starts)) (counted 4 (u .hours)) (counted 4 (u .mwh))
+before u = status (wasOn (u .opening)) (u .opening .held) (scaled 1 (u .limits .starts)) (scaled 4 (u .limits .hours)) (scaled 4 (u .limits .mwh))
 
--- ---- keeping the case and earning, from any status
+-- ---- keeping the case and Profit, from any status
 
 abbrev keepsFrom : UnitRecord → Status → List ℕ → Bool
 keepsFrom u (status on spent a b c) s =
-    affords a (startsIn on s) && runsLast (u .mot) on spent s && spellsLast (u .mdt) on spent s && affords b (onIntervals s) && affords c (outputSum s)
+    affords a (startsIn on s) && runsLast (u .generator .mot) on spent s && spellsLast (u .generator .mdt) on spent s && affords b (onIntervals s) && affords c (outputSum s)
 
 abbrev profitFrom : UnitRecord → Status → List ℤ → List ℕ → ℤ
-profitFrom u (status on spent a b c) prices s = earnedIn u prices s -ℤ pos (startCost u * startsIn on s)
+profitFrom u (status on spent a b c) prices s = earnedIn (u .generator) (u .costs) prices s -ℤ pos (startCost (u .costs) * startsIn on s)
 
 abbrev candidateFrom : UnitRecord → List ℤ → List ℕ → Status → Plan
 candidateFrom u prices s x = cond (keepsFrom u x s) (plan s (profitFrom u x prices s)) nothing
@@ -147,40 +147,40 @@ module _ (u : UnitRecord) where
   one-step : (x : Status) (price : ℤ) (prices : List ℤ) (m : ℕ) (s : List ℕ)
       → candidateFrom u (price ∷ prices) (m ∷ s) x ≡ along m (commit u x price m) (candidateFrom u prices s)
   one-step (status true spent a b c) price prices zero s =
-      interval (status true spent a b c) (status false 1 a b c) (leb (u .mot) spent) (pos 0) price prices 0 s
+      interval (status true spent a b c) (status false 1 a b c) (leb (u .generator .mot) spent) (pos 0) price prices 0 s
       (rw (zero-add (outputSum s))
-      (pull-off (leb (u .mot) spent) (affords a (startsIn false s)) (runsLast (u .mot) false 1 s) (spellsLast (u .mdt) false 1 s) (affords b (onIntervals s)) (affords c (outputSum s))))
-      (earn-on (pos 0) (earnedIn u prices s) (startCost u * startsIn false s))
+      (pull-off (leb (u .generator .mot) spent) (affords a (startsIn false s)) (runsLast (u .generator .mot) false 1 s) (spellsLast (u .generator .mdt) false 1 s) (affords b (onIntervals s)) (affords c (outputSum s))))
+      (earn-on (pos 0) (earnedIn (u .generator) (u .costs) prices s) (startCost (u .costs) * startsIn false s))
   one-step (status false spent a b c) price prices zero s =
       interval (status false spent a b c) (status false (suc spent) a b c) true (pos 0) price prices 0 s (rw (zero-add (outputSum s)))
-      (earn-on (pos 0) (earnedIn u prices s) (startCost u * startsIn false s))
+      (earn-on (pos 0) (earnedIn (u .generator) (u .costs) prices s) (startCost (u .costs) * startsIn false s))
   one-step (status true spent a b c) price prices (suc m) s =
-      interval (status true spent a b c) (status true (suc spent) a (spend b 1) (spend c (suc m))) (affords b 1 && affords c (suc m)) (earned u price (suc m)) price prices (suc m) s
+      interval (status true spent a b c) (status true (suc spent) a (spend b 1) (spend c (suc m))) (affords b 1 && affords c (suc m)) (earned (u .generator) (u .costs) price (suc m)) price prices (suc m) s
       (rw (affords-one b (onIntervals s), affords-sum c (suc m) (outputSum s))
-      (pull-on (affords b 1) (affords c (suc m)) (affords a (startsIn true s)) (runsLast (u .mot) true (suc spent) s) (spellsLast (u .mdt) true (suc spent) s) (affords (spend b 1) (onIntervals s)) (affords (spend c (suc m)) (outputSum s))))
-      (earn-on (earned u price (suc m)) (earnedIn u prices s) (startCost u * startsIn true s))
+      (pull-on (affords b 1) (affords c (suc m)) (affords a (startsIn true s)) (runsLast (u .generator .mot) true (suc spent) s) (spellsLast (u .generator .mdt) true (suc spent) s) (affords (spend b 1) (onIntervals s)) (affords (spend c (suc m)) (outputSum s))))
+      (earn-on (earned (u .generator) (u .costs) price (suc m)) (earnedIn (u .generator) (u .costs) prices s) (startCost (u .costs) * startsIn true s))
   one-step (status false spent a b c) price prices (suc m) s =
-      interval (status false spent a b c) (status true 1 (spend a 1) (spend b 1) (spend c (suc m))) (affords a 1 && leb (u .mdt) spent && affords b 1 && affords c (suc m))
-      (earned u price (suc m) -ℤ pos (startCost u)) price prices (suc m) s
+      interval (status false spent a b c) (status true 1 (spend a 1) (spend b 1) (spend c (suc m))) (affords a 1 && leb (u .generator .mdt) spent && affords b 1 && affords c (suc m))
+      (earned (u .generator) (u .costs) price (suc m) -ℤ pos (startCost (u .costs))) price prices (suc m) s
       (rw (affords-one a (startsIn true s), affords-one b (onIntervals s), affords-sum c (suc m) (outputSum s))
-      (pull-start (affords a 1) (leb (u .mdt) spent) (affords b 1) (affords c (suc m)) (affords (spend a 1) (startsIn true s)) (runsLast (u .mot) true 1 s) (spellsLast (u .mdt) true 1 s) (affords (spend b 1) (onIntervals s)) (affords (spend c (suc m)) (outputSum s))))
-      (earn-start (earned u price (suc m)) (earnedIn u prices s) (startCost u) (startsIn true s))
+      (pull-start (affords a 1) (leb (u .generator .mdt) spent) (affords b 1) (affords c (suc m)) (affords (spend a 1) (startsIn true s)) (runsLast (u .generator .mot) true 1 s) (spellsLast (u .generator .mdt) true 1 s) (affords (spend b 1) (onIntervals s)) (affords (spend c (suc m)) (outputSum s))))
+      (earn-start (earned (u .generator) (u .costs) price (suc m)) (earnedIn (u .generator) (u .costs) prices s) (startCost (u .costs)) (startsIn true s))
 
   at-end : (x : Status) → candidateFrom u [] [] x ≡ plan [] (pos 0)
   at-end (status on spent a b c) = simp (affords-none a, affords-none b, affords-none c, mul-zero)
 
   -- ---- the whole list
 
-  run-from : (prices : List ℤ) (s : List ℕ) (x : Status) → length s ≡ length prices → candidateFrom u prices s x ≡ run Status ℤ (commit u) prices x s
+  run-from : (prices : List ℤ) (s : List ℕ) (x : Status) → length s ≡ length prices → candidateFrom u prices s x ≡ run Status ℤ (commit u) anywhere prices x s
   run-from [] [] x e = at-end x
   run-from [] (m ∷ s) x e = absurd (omega arith)
   run-from (price ∷ prices) [] x e = absurd (omega arith)
   run-from (price ∷ prices) (m ∷ s) x e =
       one-step x price prices m s
-      ∙ along-ext m (commit u x price m) (candidateFrom u prices s) (λ y. run Status ℤ (commit u) prices y s) (λ y. run-from prices s y (omega arith))
+      ∙ along-ext m (commit u x price m) (candidateFrom u prices s) (λ y. run Status ℤ (commit u) anywhere prices y s) (λ y. run-from prices s y (omega arith))
 
   -- a list of outputs, one for each interval, is a candidate exactly where it is a run
-  pub candidate-run : (prices : List ℤ) (s : List ℕ) → length s ≡ length prices → candidate u prices s ≡ run Status ℤ (commit u) prices (before u) s
+  pub candidate-run : (prices : List ℤ) (s : List ℕ) → length s ≡ length prices → candidate u prices s ≡ run Status ℤ (commit u) anywhere prices (before u) s
   candidate-run prices s e = simp within-counted (run-from prices s (before u) e)
 
 -- two functions that agree on lists of one length agree on all lists of so many outputs
@@ -197,7 +197,7 @@ lists-ext ms (suc n) f g h = each (λ m. lists-ext ms n (λ s. f (m ∷ s)) (λ 
         ∙ sym (map-append g (map (λ s. j ∷ s) (lists ms n)) (prefixed js (lists ms n)))
 
 -- the best of all schedules is found step by step
-pub best-steps : (u : UnitRecord) (prices : List ℤ) → best u prices ≡ bestFrom Status ℤ (commit u) (outputs u) prices (before u)
+pub best-steps : (u : UnitRecord) (prices : List ℤ) → best u prices ≡ bestFrom Status ℤ (commit u) anywhere (outputs (u .generator)) prices (before u)
 best-steps u prices =
-    ap firstBest (lists-ext (outputs u) (length prices) (candidate u prices) (run Status ℤ (commit u) prices (before u)) (λ s e. candidate-run u prices s e))
-    ∙ optimal Status ℤ (commit u) (outputs u) prices (before u)
+    ap firstBest (lists-ext (outputs (u .generator)) (length prices) (candidate u prices) (run Status ℤ (commit u) anywhere prices (before u)) (λ s e. candidate-run u prices s e))
+    ∙ optimal Status ℤ (commit u) anywhere (outputs (u .generator)) prices (before u)

@@ -1,3 +1,5 @@
+-- Optimal: what the best of a case is. Better, Machine, Values, Turns: any machine, step by step. Rival, Commit, Outputs, Best: the case as a machine.
+-- Simulate, Left, Cells, Opening: the machine whose state is a cell. Runs, Valuing: smaller limitations and the outcomes. Ranges: what the checks say.
 pub mod Better
 pub mod Machine
 pub mod Rival
@@ -13,4 +15,4 @@ pub mod Values
 pub mod Turns
 pub mod Valuing
 pub mod Runs
-pub mod Demands
+pub mod Optimal

@@ -3,9 +3,10 @@ use mathlib.Core.Path.{_≡_, refl, sym, ap, ap₂, _∙_}
 use mathlib.Core.List.{List, [], _∷_, _++_, map}
 use Prim.Native.Nat.{ℕ}
 use lib.ListN.{length}
+use Rattle.commitment.specs.declared.BestProfit.{BestProfit}
 use Rattle.commitment.specs.Best.{Plan, nothing, better, firstBest, prefixed, lists}
-use Rattle.optimality.specs.Machine.{Step, stop, go, after, along, run, bestFrom}
-use Rattle.optimality.proofs.Better.{best-append, best-after}
+use Rattle.optimality.specs.Machine.{Step, stop, go, ended, after, along, run, bestFrom}
+use Rattle.optimality.proofs.Better.{better-nothing, best-append, best-after}
 
 -- ---- lists
 
@@ -36,28 +37,28 @@ best-along : {State : Type 0} (m : ℕ) (t : Step State) (f : State → List ℕ
 best-along m stop f ss = none-best ss
 best-along m (go g x) f ss = ap firstBest (sym (map-map (after m g) (f x) ss)) ∙ best-after m g (map (f x) ss)
 
-module _ (State Input : Type 0) (step : State → Input → ℕ → Step State) where
+module _ (State Input : Type 0) (step : State → Input → ℕ → Step State) (ends : State → BestProfit) where
   best-prefixed : (i : Input) (is : List Input) (x : State) (ss : List (List ℕ)) (ms : List ℕ)
-      → firstBest (map (run State Input step (i ∷ is) x) (prefixed ms ss))
-      ≡ firstBest (map (λ m. along m (step x i m) (λ y. firstBest (map (run State Input step is y) ss))) ms)
+      → firstBest (map (run State Input step ends (i ∷ is) x) (prefixed ms ss))
+      ≡ firstBest (map (λ m. along m (step x i m) (λ y. firstBest (map (run State Input step ends is y) ss))) ms)
   best-prefixed i is x ss [] = refl
   best-prefixed i is x ss (m ∷ ms) =
-      let f = run State Input step (i ∷ is) x in
+      let f = run State Input step ends (i ∷ is) x in
       ap firstBest (map-append f (map (λ s. m ∷ s) ss) (prefixed ms ss))
       ∙ best-append (map f (map (λ s. m ∷ s) ss)) (map f (prefixed ms ss))
       ∙ ap₂ better
-      (ap firstBest (map-map f (λ s. m ∷ s) ss) ∙ best-along m (step x i m) (run State Input step is) ss)
+      (ap firstBest (map-map f (λ s. m ∷ s) ss) ∙ best-along m (step x i m) (run State Input step ends is) ss)
       (best-prefixed i is x ss ms)
 
   -- the best of all lists of outputs is found step by step
   pub optimal : (outputs : List ℕ) (is : List Input) (x : State)
-      → firstBest (map (run State Input step is x) (lists outputs (length is))) ≡ bestFrom State Input step outputs is x
-  optimal outputs [] x = refl
+      → firstBest (map (run State Input step ends is x) (lists outputs (length is))) ≡ bestFrom State Input step ends outputs is x
+  optimal outputs [] x = better-nothing (ended (ends x))
   optimal outputs (i ∷ is) x =
       let ss = lists outputs (length is) in
-      let rest : State → Plan = λ y. firstBest (map (run State Input step is y) ss) in
+      let rest : State → Plan = λ y. firstBest (map (run State Input step ends is y) ss) in
       best-prefixed i is x ss outputs
       ∙ ap firstBest
-      (map-ext (λ m. along m (step x i m) rest) (λ m. along m (step x i m) (bestFrom State Input step outputs is))
-      (λ m. along-ext m (step x i m) rest (bestFrom State Input step outputs is) (λ y. optimal outputs is y))
+      (map-ext (λ m. along m (step x i m) rest) (λ m. along m (step x i m) (bestFrom State Input step ends outputs is))
+      (λ m. along-ext m (step x i m) rest (bestFrom State Input step ends outputs is) (λ y. optimal outputs is y))
       outputs)

@@ -1,50 +1,59 @@
--- The opening cell: the case's best plan is the plan from it, and a smaller limitation is another cell of the same table, because no step
+-- The opening cell: the case's best plan is the plan from it, and smaller limitations are another cell of the same table, because no step
 -- reads the budgets' tops. What makes one table serve the plan and all six runs of valuing.
-use mathlib.Core.Path.{_≡_, refl, ap, _∙_}
-use mathlib.Core.Bool.{Bool, true, false, cond}
+use mathlib.Core.Path.{_≡_, refl, ap, ap₂, _∙_}
+use mathlib.Core.Bool.{Bool, true, false, cond, _&&_}
 use mathlib.Core.List.{List}
-use Prim.Native.Nat.{ℕ, _+_, _-_, _*_, _/_, _≤_, _<_, min}
+use Prim.Native.Nat.{ℕ, _+_, _-_, _*_, _≤_, _<_, min}
 use native.Mathlib.Nat.{div-one, mul-one, one-mul, mul-le-mul, div-mul-le-self, le-div-iff-mul-le}
 use native.Mathlib.Omega.{arith}
+use borrow.Author.Tests.{leb-true, le-leb}
 use lib.IntN.{ℤ}
 use lib.ListN.{length}
 use Rattle.commitment.specs.declared.Limit.{Limit}
 use Rattle.commitment.specs.declared.Limit.the-variants.{None, At}
+use Rattle.commitment.specs.declared.Limits.{Limits}
+use Rattle.commitment.specs.declared.Limitation.{Limitation}
+use Rattle.commitment.specs.declared.Limitation.the-variants.{Starts, Hours, Mwh}
+use Rattle.commitment.specs.declared.Generator.{Generator}
 use Rattle.commitment.specs.declared.UnitRecord.{UnitRecord}
+use Rattle.commitment.specs.Bounds.{mostStarts, mostHours, mostMwh, mostIntervals}
+use Rattle.lists.proofs.Conjunctions.{both}
+use Rattle.commitment.specs.Ranges.{generatorKept, openingKept, costsKept, limitsKept, rangesKept, InOrder}
 use Rattle.commitment.specs.Keeping.{wasOn}
 use Rattle.commitment.specs.Best.{best}
-use Rattle.commitment.specs.Cells.{startsCount, hoursCount, mwhCount}
-use Rattle.commitment.specs.Valuing.{limited}
+use Rattle.commitment.specs.Cells.{inCounts, mostCounts, counted, countFor}
+use Rattle.commitment.specs.Limits.{limitKept, limitFor, withLimit, limited}
 use Rattle.optimality.specs.declared.Figures.{Figures}
-use Rattle.optimality.specs.Cells.{takenOf, figuresWith, figuresOf, Sound, InTable, planAt, openingState, opening}
-use Rattle.optimality.specs.Runs.{AtMost}
-use Rattle.optimality.proofs.Ranges.{Ranged, ranged-limited}
-use Rattle.optimality.proofs.Commit.{counted, before, best-steps}
+use Rattle.optimality.specs.Machine.{anywhere}
+use Rattle.optimality.specs.Cells.{takenOf, figuresWith, figuresOf, Sound, InTable, planAt, openingState, openingCell}
+use Rattle.optimality.specs.Runs.{AtMost, Under}
+use Rattle.optimality.proofs.Ranges.{Ranged}
+use Rattle.optimality.proofs.Commit.{scaled, before, best-steps}
 use Rattle.optimality.proofs.Left.{Left}
 use Rattle.optimality.proofs.Cells.{Timed, Alike, same-plan}
 
 -- ---- the opening cell is alike to the status before interval 1
 
-opening-time : (u : UnitRecord) → Ranged u → Timed u (wasOn u) (u .held) (openingState u)
-opening-time u ok = test (wasOn u)
+opening-time : (u : UnitRecord) → Ranged u → Timed u (wasOn (u .opening)) (u .opening .held) (openingState u)
+opening-time u ok = test (wasOn (u .opening))
   where
-    test : (on : Bool) → Timed u on (u .held) (cond on (min (u .held) (u .mot) - 1) (u .mot + min (u .held) (u .mdt) - 1))
+    test : (on : Bool) → Timed u on (u .opening .held) (cond on (min (u .opening .held) (u .generator .mot) - 1) (u .generator .mot + min (u .opening .held) (u .generator .mdt) - 1))
     test true = (ok .held, omega (arith, ok .held, ok .mot))
     test false = (ok .held, omega (arith, ok .held, ok .mdt))
 
-opening-alike : (u : UnitRecord) → Ranged u → (n : ℕ) → Alike u n (before u) (opening u n)
-unfolding opening
-opening-alike u ok n = (opening-time u ok, (starts-left (u .starts), hours-left (u .hours), mwh-left (u .mwh)))
+opening-alike : (u : UnitRecord) → Ranged u → (n : ℕ) → Alike u n (before u) (openingCell u n)
+unfolding openingCell
+opening-alike u ok n = (opening-time u ok, (starts-left (u .limits .starts), hours-left (u .limits .hours), mwh-left (u .limits .mwh)))
   where
-    starts-left : (l : Limit) → Left 1 1 (takenOf l) n (counted 1 l) (startsCount (limited u l None None) n)
+    starts-left : (l : Limit) → Left 1 1 (takenOf l) n (scaled 1 l) (counted (u .generator) n Starts l)
     starts-left None = refl
     starts-left (At k) = (refl, rw (div-one (1 * k), mul-one n, one-mul k) (omega arith))
 
-    hours-left : (l : Limit) → Left 1 1 (takenOf l) n (counted 4 l) (hoursCount (limited u None l None) n)
+    hours-left : (l : Limit) → Left 1 1 (takenOf l) n (scaled 4 l) (counted (u .generator) n Hours l)
     hours-left None = refl
     hours-left (At k) = (refl, rw (div-one (4 * k), mul-one n) (omega arith))
 
-    mwh-left : (l : Limit) → Left (u .block) (u .pmax) (takenOf l) n (counted 4 l) (mwhCount (limited u None None l) n)
+    mwh-left : (l : Limit) → Left (u .generator .block) (u .generator .pmax) (takenOf l) n (scaled 4 l) (counted (u .generator) n Mwh l)
     mwh-left None = refl
     mwh-left (At k) = (refl, omega arith)
 
@@ -54,15 +63,77 @@ pub at-most-itself : (l : Limit) → AtMost l l
 at-most-itself None = tt
 at-most-itself (At m) = omega arith
 
+pub at-most-less : (k m : ℕ) (l : Limit) → k ≤ m → AtMost (At m) l → AtMost (At k) l
+at-most-less k m None h i = absurd i
+at-most-less k m (At n) h i = omega arith
+
+-- one limitation smaller, the other two whole
+pub under-with : (limits : Limits) (which : Limitation) (k l : Limit) → AtMost k l → Under (withLimit limits which k) (withLimit limits which l)
+under-with limits Starts k l h Starts = h
+under-with limits Starts k l h Hours = at-most-itself (limits .hours)
+under-with limits Starts k l h Mwh = at-most-itself (limits .mwh)
+under-with limits Hours k l h Starts = at-most-itself (limits .starts)
+under-with limits Hours k l h Hours = h
+under-with limits Hours k l h Mwh = at-most-itself (limits .mwh)
+under-with limits Mwh k l h Starts = at-most-itself (limits .starts)
+under-with limits Mwh k l h Hours = at-most-itself (limits .hours)
+under-with limits Mwh k l h Mwh = h
+
+with-itself : (limits : Limits) (which : Limitation) → withLimit limits which (limitFor limits which) ≡ limits
+with-itself limits Starts = refl
+with-itself limits Hours = refl
+with-itself limits Mwh = refl
+
+pub under-one : (limits : Limits) (which : Limitation) (k : Limit) → AtMost k (limitFor limits which) → Under (withLimit limits which k) limits
+under-one limits which k h = rw (with-itself limits which) at (under-with limits which k (limitFor limits which) h)
+
+pub under-itself : (limits : Limits) → Under limits limits
+under-itself limits which = at-most-itself (limitFor limits which)
+
+kept-less : (most : ℕ) (k l : Limit) → AtMost k l → limitKept most l ≡ true → limitKept most k ≡ true
+kept-less most None None h e = e
+kept-less most None (At m) h e = absurd h
+kept-less most (At k) None h e = absurd h
+kept-less most (At k) (At m) h e = le-leb k most (omega (arith, leb-true m most e))
+
+-- a case in order stays in order
+pub order-under : (u : UnitRecord) (n : ℕ) (limits : Limits) → Under limits (u .limits) → InOrder u n → InOrder (limited u limits) n
+unfolding rangesKept
+order-under u n limits h o =
+    let all = both (generatorKept (u .generator) && openingKept (u .opening) && costsKept (u .costs)) (limitsKept (u .limits)) (o .ranges) in
+    let two = both (limitKept mostStarts (u .limits .starts) && limitKept mostHours (u .limits .hours)) (limitKept mostMwh (u .limits .mwh)) (all .1) in
+    let one = both (limitKept mostStarts (u .limits .starts)) (limitKept mostHours (u .limits .hours)) (two .0) in
+    let starts = kept-less mostStarts (limits .starts) (u .limits .starts) (h Starts) (one .0) in
+    let hours = kept-less mostHours (limits .hours) (u .limits .hours) (h Hours) (one .1) in
+    let mwh = kept-less mostMwh (limits .mwh) (u .limits .mwh) (h Mwh) (two .1) in
+    record { ranges = ap₂ _&&_ (all .0) (ap₂ _&&_ (ap₂ _&&_ starts hours) mwh); shape = o .shape; short = o .short }
+
 taken-same : (k l : Limit) → AtMost k l → takenOf k ≡ takenOf l
 taken-same None None h = refl
 taken-same None (At m) h = absurd h
 taken-same (At k) None h = absurd h
 taken-same (At k) (At m) h = refl
 
+-- ---- what a limitation comes to
+
+counted-most : (g : Generator) (n : ℕ) (which : Limitation) (l : Limit) → counted g n which l ≤ mostCounts g which n
+counted-most g n which None = omega arith
+counted-most g n which (At k) = omega arith
+
+counts-rise : (g : Generator) (which : Limitation) (k m : ℕ) → 1 ≤ g .block → k ≤ m → inCounts g which k ≤ inCounts g which m
+counts-rise g Starts k m b h = h
+counts-rise g Hours k m b h = omega arith
+counts-rise g Mwh k m b h = le-div-iff-mul-le b .1 (omega (arith, div-mul-le-self (4 * k) (g .block)))
+
+counted-rise : (g : Generator) (n : ℕ) (which : Limitation) (k l : Limit) → 1 ≤ g .block → AtMost k l → counted g n which k ≤ counted g n which l
+counted-rise g n which None None b h = omega arith
+counted-rise g n which None (At m) b h = absurd h
+counted-rise g n which (At k) None b h = absurd h
+counted-rise g n which (At k) (At m) b h = omega (arith, counts-rise g which k m b h)
+
 module _ (u : UnitRecord) (ok : Ranged u) (n : ℕ) where
   -- the figures are within the table's ranges
-  pub figures-sound : n ≤ 2976 → Sound (figuresOf u n)
+  pub figures-sound : n ≤ mostIntervals → Sound (figuresOf u n)
   unfolding figuresOf
   figures-sound h =
       record {
@@ -77,78 +148,47 @@ module _ (u : UnitRecord) (ok : Ranged u) (n : ℕ) where
         vec = ok .vec;
         mlc = ok .mlc;
         suc = ok .suc;
-        perstart = taken (u .starts);
-        peron = taken (u .hours);
-        perblock = taken (u .mwh);
-        starts = starts-top (u .starts);
-        ons = hours-top (u .hours);
-        blocks = mwh-top (u .mwh);
+        perstart = taken (u .limits .starts);
+        peron = taken (u .limits .hours);
+        perblock = taken (u .limits .mwh);
+        starts = omega (arith, counted-most (u .generator) n Starts (u .limits .starts));
+        ons = omega (arith, counted-most (u .generator) n Hours (u .limits .hours));
+        blocks = omega (arith, counted-most (u .generator) n Mwh (u .limits .mwh), mul-le-mul h (ok .pmax-most));
       }
     where
       taken : (l : Limit) → takenOf l ≤ 1
       taken None = omega arith
       taken (At k) = omega arith
 
-      starts-top : (l : Limit) → startsCount (limited u l None None) n ≤ 2976
-      starts-top None = omega arith
-      starts-top (At k) = omega arith
-
-      hours-top : (l : Limit) → hoursCount (limited u None l None) n ≤ 2976
-      hours-top None = omega arith
-      hours-top (At k) = omega arith
-
-      mwh-top : (l : Limit) → mwhCount (limited u None None l) n ≤ 1488000
-      mwh-top None = omega arith
-      mwh-top (At k) = let h′ : n * u .pmax ≤ 2976 * 500 = mul-le-mul h (ok .pmax-most) in omega arith
-
   -- the table has the opening cell of a run with limitations at most the unit's
-  pub opening-in-table : (a b c : Limit) → AtMost a (u .starts) → AtMost b (u .hours) → AtMost c (u .mwh) → InTable (figuresOf u n) (opening (limited u a b c) n)
-  unfolding figuresOf opening
-  opening-in-table a b c i j k =
+  pub opening-in-table : (limits : Limits) → Under limits (u .limits) → InTable (figuresOf u n) (openingCell (limited u limits) n)
+  unfolding figuresOf openingCell
+  opening-in-table limits h =
       record {
-        state = state (wasOn u);
-        starts = starts-top a (u .starts) i;
-        ons = hours-top b (u .hours) j;
-        blocks = mwh-top c (u .mwh) k;
+        state = state (wasOn (u .opening));
+        starts = counted-rise (u .generator) n Starts (limits .starts) (u .limits .starts) (ok .block) (h Starts);
+        ons = counted-rise (u .generator) n Hours (limits .hours) (u .limits .hours) (ok .block) (h Hours);
+        blocks = counted-rise (u .generator) n Mwh (limits .mwh) (u .limits .mwh) (ok .block) (h Mwh);
       }
     where
-      state : (on : Bool) → cond on (min (u .held) (u .mot) - 1) (u .mot + min (u .held) (u .mdt) - 1) < u .mot + u .mdt
+      state : (on : Bool) → cond on (min (u .opening .held) (u .generator .mot) - 1) (u .generator .mot + min (u .opening .held) (u .generator .mdt) - 1) < u .generator .mot + u .generator .mdt
       state true = omega (arith, ok .mot, ok .mdt)
       state false = omega (arith, ok .mot, ok .mdt)
 
-      starts-top : (k l : Limit) → AtMost k l → startsCount (limited u k None None) n ≤ startsCount (limited u l None None) n
-      starts-top None None h = omega arith
-      starts-top None (At m) h = absurd h
-      starts-top (At k) None h = absurd h
-      starts-top (At k) (At m) h = omega arith
-
-      hours-top : (k l : Limit) → AtMost k l → hoursCount (limited u None k None) n ≤ hoursCount (limited u None l None) n
-      hours-top None None h = omega arith
-      hours-top None (At m) h = absurd h
-      hours-top (At k) None h = absurd h
-      hours-top (At k) (At m) h = omega arith
-
-      mwh-top : (k l : Limit) → AtMost k l → mwhCount (limited u None None k) n ≤ mwhCount (limited u None None l) n
-      mwh-top None None h = omega arith
-      mwh-top None (At m) h = absurd h
-      mwh-top (At k) None h = absurd h
-      mwh-top (At k) (At m) h = let d : 4 * k / u .block ≤ 4 * m / u .block = le-div-iff-mul-le (ok .block) .1 (omega (arith, div-mul-le-self (4 * k) (u .block))) in omega arith
-
 -- the best plan under smaller limitations is that of another cell of the same table
-pub best-lowered : (u : UnitRecord) → Ranged u → (prices : List ℤ) (a b c : Limit) → AtMost a (u .starts) → AtMost b (u .hours) → AtMost c (u .mwh)
-    → best (limited u a b c) prices ≡ planAt (figuresOf u (length prices)) prices (opening (limited u a b c) (length prices))
+pub best-under : (u : UnitRecord) → Ranged u → (prices : List ℤ) (limits : Limits) → Under limits (u .limits)
+    → best (limited u limits) prices ≡ planAt (figuresOf u (length prices)) anywhere prices (openingCell (limited u limits) (length prices))
 unfolding figuresOf
-best-lowered u ok prices a b c i j k =
+best-under u ok prices limits h =
     let n = length prices in
-    let v : UnitRecord = limited u a b c in
-    let same : figuresWith v (startsCount u n) (hoursCount u n) (mwhCount u n) ≡ figuresOf u n =
-    rw (taken-same a (u .starts) i, taken-same b (u .hours) j, taken-same c (u .mwh) k) in
+    let v : UnitRecord = limited u limits in
+    let same : figuresWith v (countFor u n Starts) (countFor u n Hours) (countFor u n Mwh) ≡ figuresOf u n =
+    rw (taken-same (limits .starts) (u .limits .starts) (h Starts), taken-same (limits .hours) (u .limits .hours) (h Hours), taken-same (limits .mwh) (u .limits .mwh) (h Mwh)) in
     best-steps v prices
-    ∙ same-plan v (ranged-limited u a b c ok) (startsCount u n) (hoursCount u n) (mwhCount u n) prices (before v) (opening v n)
-    (opening-alike v (ranged-limited u a b c ok) n)
-    ∙ ap (λ (f : Figures). planAt f prices (opening v n)) same
+    ∙ same-plan v ok (countFor u n Starts) (countFor u n Hours) (countFor u n Mwh) prices (before v) (openingCell v n) (opening-alike v ok n)
+    ∙ ap (λ (f : Figures). planAt f anywhere prices (openingCell v n)) same
 
 -- the best plan is that of the opening cell
-pub best-cell : (u : UnitRecord) → Ranged u → (prices : List ℤ) → best u prices ≡ planAt (figuresOf u (length prices)) prices (opening u (length prices))
-best-cell u ok prices =
-    best-lowered u ok prices (u .starts) (u .hours) (u .mwh) (at-most-itself (u .starts)) (at-most-itself (u .hours)) (at-most-itself (u .mwh))
+pub best-cell : (u : UnitRecord) → Ranged u → (prices : List ℤ)
+    → best u prices ≡ planAt (figuresOf u (length prices)) anywhere prices (openingCell u (length prices))
+best-cell u ok prices = best-under u ok prices (u .limits) (under-itself (u .limits))

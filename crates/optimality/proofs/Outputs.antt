@@ -1,4 +1,4 @@
--- The list of outputs that is tried has exactly the outputs of document 01, ascending.
+-- The list of outputs that is tried has exactly the outputs of the specification, ascending.
 use mathlib.Core.Path.{_≡_, refl, ap, _∙_, subst}
 use mathlib.Core.Bool.{true, _&&_}
 use mathlib.Core.List.{List, [], _∷_, List·Memᴰ, List·Memᴰ·head, List·Memᴰ·tail, List·Memᴰ·cases-cons, List·Memᴰ·not-nil}
@@ -9,10 +9,10 @@ use native.Mathlib.Omega.{arith}
 use borrow.Author.Tests.{le-leb, eq-eqb, leb-true, eqb-true}
 use lib.Dec.{leb, eqb}
 use Rattle.commitment.specs.declared.UnitRecord.{UnitRecord}
-use Rattle.commitment.specs.Ranges.{every}
+use Rattle.lists.specs.Every.{every}
 use Rattle.commitment.specs.Schedule.{isOutput}
 use Rattle.commitment.specs.Best.{ladder, outputs}
-use Rattle.commitment.proofs.Conjunctions.{both}
+use Rattle.lists.proofs.Conjunctions.{both}
 use Rattle.optimality.proofs.Ranges.{Ranged}
 use Rattle.optimality.proofs.Rival.{Ascending, AllIn}
 
@@ -56,60 +56,60 @@ blocks-join a b block h = by (b - a) (omega arith)
 -- ---- the outputs of a unit
 
 module _ (u : UnitRecord) (ok : Ranged u) where
-  pub outputs-ascending : Ascending (outputs u)
+  pub outputs-ascending : Ascending (outputs (u .generator))
   outputs-ascending = (
-    λ n i. omega (arith, ladder-from (suc (u .pmax) - u .pmin) (u .pmin * u .block) (u .block) n (ok .block) i, mul-le-mul-right (u .block) (ok .pmin), ok .block),
-    ladder-ascending (suc (u .pmax) - u .pmin) (u .pmin * u .block) (u .block) (ok .block),
+    λ n i. omega (arith, ladder-from (suc (u .generator .pmax) - u .generator .pmin) (u .generator .pmin * u .generator .block) (u .generator .block) n (ok .block) i, mul-le-mul-right (u .generator .block) (ok .pmin), ok .block),
+    ladder-ascending (suc (u .generator .pmax) - u .generator .pmin) (u .generator .pmin * u .generator .block) (u .generator .block) (ok .block),
   )
 
   -- an output but 0 that is tried is so many blocks
-  pub blocks-of : (m : ℕ) → List·Memᴰ (suc m) (outputs u) → (k : ℕ) × (suc m ≡ k * u .block) × (u .pmin ≤ k) × (k ≤ u .pmax)
+  pub blocks-of : (m : ℕ) → List·Memᴰ (suc m) (outputs (u .generator)) → (k : ℕ) × (suc m ≡ k * u .generator .block) × (u .generator .pmin ≤ k) × (k ≤ u .generator .pmax)
   blocks-of m i =
       ⊎-elim (λ (e : suc m ≡ 0). absurd (omega arith))
-      (λ (t : List·Memᴰ (suc m) (ladder (u .block) (u .pmin * u .block) (suc (u .pmax) - u .pmin))).
-      let r = ladder-is (suc (u .pmax) - u .pmin) (u .pmin * u .block) (u .block) (suc m) t in
-      (u .pmin + r .0, omega (arith, r .2), omega arith, omega (arith, r .1, ok .pmax)))
+      (λ (t : List·Memᴰ (suc m) (ladder (u .generator .block) (u .generator .pmin * u .generator .block) (suc (u .generator .pmax) - u .generator .pmin))).
+      let r = ladder-is (suc (u .generator .pmax) - u .generator .pmin) (u .generator .pmin * u .generator .block) (u .generator .block) (suc m) t in
+      (u .generator .pmin + r .0, omega (arith, r .2), omega arith, omega (arith, r .1, ok .pmax)))
       (List·Memᴰ·cases-cons i)
 
-  output-tried : (m : ℕ) → isOutput u m ≡ true → List·Memᴰ m (outputs u)
+  output-tried : (m : ℕ) → isOutput (u .generator) m ≡ true → List·Memᴰ m (outputs (u .generator))
   output-tried zero e = List·Memᴰ·head refl
   output-tried (suc m) e =
-      let whole = eqb (suc m % u .block) 0 in
-      let low = leb (u .pmin * u .block) (suc m) in
-      let high = leb (suc m) (u .pmax * u .block) in
+      let whole = eqb (suc m % u .generator .block) 0 in
+      let low = leb (u .generator .pmin * u .generator .block) (suc m) in
+      let high = leb (suc m) (u .generator .pmax * u .generator .block) in
       let t = both (whole && low) high e in
       let s = both whole low (t .0) in
-      let z = eqb-true (suc m % u .block) 0 (s .0) in
-      let lo = leb-true (u .pmin * u .block) (suc m) (s .1) in
-      let hi = leb-true (suc m) (u .pmax * u .block) (t .1) in
-      let k : ℕ = suc m / u .block in
-      let is : k * u .block ≡ suc m = omega (arith, div-add-mod' (suc m) (u .block), z) in
-      let least : u .pmin ≤ k = le-of-mul-le-mul-right {k = u .block} (omega arith) (ok .block) in
-      let greatest : k ≤ u .pmax = le-of-mul-le-mul-right {k = u .block} (omega arith) (ok .block) in
+      let z = eqb-true (suc m % u .generator .block) 0 (s .0) in
+      let lo = leb-true (u .generator .pmin * u .generator .block) (suc m) (s .1) in
+      let hi = leb-true (suc m) (u .generator .pmax * u .generator .block) (t .1) in
+      let k : ℕ = suc m / u .generator .block in
+      let is : k * u .generator .block ≡ suc m = omega (arith, div-add-mod' (suc m) (u .generator .block), z) in
+      let least : u .generator .pmin ≤ k = le-of-mul-le-mul-right {k = u .generator .block} (omega arith) (ok .block) in
+      let greatest : k ≤ u .generator .pmax = le-of-mul-le-mul-right {k = u .generator .block} (omega arith) (ok .block) in
       List·Memᴰ·tail
-      (subst (λ (n : ℕ). List·Memᴰ n (ladder (u .block) (u .pmin * u .block) (suc (u .pmax) - u .pmin))) (blocks-join (u .pmin) k (u .block) least ∙ is)
-      (ladder-has (suc (u .pmax) - u .pmin) (u .pmin * u .block) (u .block) (k - u .pmin) (omega arith)))
+      (subst (λ (n : ℕ). List·Memᴰ n (ladder (u .generator .block) (u .generator .pmin * u .generator .block) (suc (u .generator .pmax) - u .generator .pmin))) (blocks-join (u .generator .pmin) k (u .generator .block) least ∙ is)
+      (ladder-has (suc (u .generator .pmax) - u .generator .pmin) (u .generator .pmin * u .generator .block) (u .generator .block) (k - u .generator .pmin) (omega arith)))
 
-  tried-output : (m : ℕ) → List·Memᴰ m (outputs u) → isOutput u m ≡ true
+  tried-output : (m : ℕ) → List·Memᴰ m (outputs (u .generator)) → isOutput (u .generator) m ≡ true
   tried-output zero i = refl
   tried-output (suc m) i =
       let r = blocks-of m i in
       let k : ℕ = r .0 in
-      let z : suc m % u .block ≡ 0 = ap (λ (n : ℕ). n % u .block) (r .1) ∙ mul-mod-left k (u .block) in
+      let z : suc m % u .generator .block ≡ 0 = ap (λ (n : ℕ). n % u .generator .block) (r .1) ∙ mul-mod-left k (u .generator .block) in
       simp (
         z,
         eq-eqb 0 0 refl,
-        le-leb (u .pmin * u .block) (suc m) (omega (arith, r .1, mul-le-mul-right (u .block) (r .2))),
-        le-leb (suc m) (u .pmax * u .block) (omega (arith, r .1, mul-le-mul-right (u .block) (r .3))),
+        le-leb (u .generator .pmin * u .generator .block) (suc m) (omega (arith, r .1, mul-le-mul-right (u .generator .block) (r .2))),
+        le-leb (suc m) (u .generator .pmax * u .generator .block) (omega (arith, r .1, mul-le-mul-right (u .generator .block) (r .3))),
       )
 
   -- a list is of outputs exactly where each is tried
-  pub all-tried : (s : List ℕ) → every (isOutput u) s ≡ true → AllIn (outputs u) s
+  pub all-tried : (s : List ℕ) → every (isOutput (u .generator)) s ≡ true → AllIn (outputs (u .generator)) s
   all-tried [] e = tt
   all-tried (m ∷ s) e =
-      let t = both (isOutput u m) (every (isOutput u) s) e in
+      let t = both (isOutput (u .generator) m) (every (isOutput (u .generator)) s) e in
       (output-tried m (t .0), all-tried s (t .1))
 
-  pub tried-all : (s : List ℕ) → AllIn (outputs u) s → every (isOutput u) s ≡ true
+  pub tried-all : (s : List ℕ) → AllIn (outputs (u .generator)) s → every (isOutput (u .generator)) s ≡ true
   tried-all [] i = refl
   tried-all (m ∷ s) i = simp (tried-output m (i .0)) (tried-all s (i .1))

@@ -12,9 +12,11 @@ use lib.ListN.{length}
 use lib.Signed.{_≤ℤ_, _<ℤ_, ltZ}
 use Rattle.integers.proofs.Linear.{zarith, zsum}
 use Rattle.integers.proofs.Order.{ltZ-dec}
+use Rattle.commitment.specs.declared.BestProfit.{BestProfit}
+use Rattle.commitment.specs.declared.BestProfit.the-variants.{Nothing, Profit}
 use Rattle.commitment.specs.Order.{earlier}
 use Rattle.commitment.specs.Best.{Plan, nothing, plan, better, firstBest}
-use Rattle.optimality.specs.Machine.{Step, stop, go, after, along, run, bestFrom}
+use Rattle.optimality.specs.Machine.{Step, stop, go, ended, after, along, run, bestFrom}
 
 pub not-plan : {s : List ℕ} {p : ℤ} → nothing ≡ plan s p → ⊥
 not-plan e = let z : _≡_ {A = ℕ} 0 1 = cc in omega arith
@@ -151,40 +153,44 @@ module _ {State : Type 0} where
       from nothing i e = absurd (not-plan e)
       from (plan r q) i e = (x, r, q, i)
 
-module _ (State Input : Type 0) (step : State → Input → ℕ → Step State) where
+-- no interval, no output
+ended-empty : (v : BestProfit) (s : List ℕ) (p : ℤ) → ended v ≡ plan s p → [] ≡ s
+ended-empty Nothing s p e = absurd (not-plan e)
+ended-empty (Profit q) s p e = cc
+
+module _ (State Input : Type 0) (step : State → Input → ℕ → Step State) (ends : State → BestProfit) where
   -- a run has an output for each interval
-  pub run-length : (is : List Input) (x : State) (r s : List ℕ) (p : ℤ) → run State Input step is x r ≡ plan s p → length r ≡ length is
+  pub run-length : (is : List Input) (x : State) (r s : List ℕ) (p : ℤ) → run State Input step ends is x r ≡ plan s p → length r ≡ length is
   run-length [] x [] s p e = refl
   run-length [] x (m ∷ r) s p e = absurd (not-plan e)
   run-length (i ∷ is) x [] s p e = absurd (not-plan e)
   run-length (i ∷ is) x (m ∷ r) s p e =
-      let a = goes-on m (step x i m) (λ y. run State Input step is y r) s p e in
+      let a = goes-on m (step x i m) (λ y. run State Input step ends is y r) s p e in
       ap suc (run-length is (a .0) r (a .1) (a .2) (a .3))
 
   module _ (outputs : List ℕ) where
     -- the best is a run of such outputs
-    pub attained : (is : List Input) (x : State) (s : List ℕ) (p : ℤ) → bestFrom State Input step outputs is x ≡ plan s p
-        → (run State Input step is x s ≡ plan s p) × AllIn outputs s
+    pub attained : (is : List Input) (x : State) (s : List ℕ) (p : ℤ) → bestFrom State Input step ends outputs is x ≡ plan s p
+        → (run State Input step ends is x s ≡ plan s p) × AllIn outputs s
     unfolding Front
     attained [] x s p e =
-        let h : [] ≡ s = cc in
-        subst (λ (z : List ℕ). (run State Input step [] x z ≡ plan z p) × AllIn outputs z) h ((cc), tt)
+        subst (λ (z : List ℕ). (run State Input step ends [] x z ≡ plan s p) × AllIn outputs z) (ended-empty (ends x) s p e) (e, tt)
     attained (i ∷ is) x s p e =
-        let k = bestFrom State Input step outputs is in
+        let k = bestFrom State Input step ends outputs is in
         let try : ℕ → Plan = λ m. along m (step x i m) k in
         let f = found try outputs (plan s p) (pick (map try outputs) s p e) in
-        let c = front outputs (f .0) (step x i (f .0)) k (λ y r. run State Input step is y r) (λ y r q e′. attained is y r q e′) s p (f .2) in
-        subst (λ (z : List ℕ). (run State Input step (i ∷ is) x z ≡ plan z p) × AllIn outputs z) (c .1)
+        let c = front outputs (f .0) (step x i (f .0)) k (λ y r. run State Input step ends is y r) (λ y r q e′. attained is y r q e′) s p (f .2) in
+        subst (λ (z : List ℕ). (run State Input step ends (i ∷ is) x z ≡ plan z p) × AllIn outputs z) (c .1)
         (c .3 ∙ ap (λ (z : List ℕ). plan z p) (sym (c .1)), (f .1, c .2))
 
     -- the best beats every run of such outputs
-    pub no-rival : Ascending outputs → (is : List Input) (x : State) (r : List ℕ) (q : ℤ) → AllIn outputs r → run State Input step is x r ≡ plan r q
-        → Beats (bestFrom State Input step outputs is x) r q
-    no-rival asc [] x [] q a e = inr (cc, refl)
+    pub no-rival : Ascending outputs → (is : List Input) (x : State) (r : List ℕ) (q : ℤ) → AllIn outputs r → run State Input step ends is x r ≡ plan r q
+        → Beats (bestFrom State Input step ends outputs is x) r q
+    no-rival asc [] x [] q a e = subst (λ (b : Plan). Beats b [] q) (sym e) (inr (refl, refl))
     no-rival asc [] x (m ∷ r) q a e = absurd (not-plan e)
     no-rival asc (i ∷ is) x [] q a e = absurd (not-plan e)
     no-rival asc (i ∷ is) x (m ∷ r) q a e =
-        among outputs (step x i) (bestFrom State Input step outputs is) m r q asc (a .0)
-        (past-step m r q (step x i m) (λ y. run State Input step is y r) (bestFrom State Input step outputs is)
+        among outputs (step x i) (bestFrom State Input step ends outputs is) m r q asc (a .0)
+        (past-step m r q (step x i m) (λ y. run State Input step ends is y r) (bestFrom State Input step ends outputs is)
         (λ y q′ e′. no-rival asc is y r q′ (a .1) e′)
         e)

@@ -5,8 +5,9 @@ use mathlib.Core.List.{List, [], _∷_, map, List·Memᴰ, List·Memᴰ·head, L
 use Prim.Native.Nat.{ℕ, suc}
 use lib.IntN.{ℤ}
 use lib.ListN.{length}
+use Rattle.commitment.specs.declared.BestProfit.{BestProfit}
 use Rattle.commitment.specs.Best.{Plan, firstBest}
-use Rattle.optimality.specs.Machine.{Step, stop, go, allow, after, along, bestFrom}
+use Rattle.optimality.specs.Machine.{Step, stop, go, ended, allow, after, along, bestFrom}
 
 -- both steps are not allowed, or both earn the same and lead to states that are alike
 abbrev pub Match : {A B : Type 0} → (A → B → Type 0) → Step A → Step B → Type 0
@@ -32,13 +33,14 @@ along-match Alike m (go e x) stop f g h k = absurd h
 along-match Alike m (go e x) (go e′ y) f g h k = ap₂ (λ (z : ℤ) (a : Plan). after m z a) (h .0) (k x y (h .1))
 
 -- `Alike n` says that two states are alike with n intervals to go
-module _ (A B Input : Type 0) (one : A → Input → ℕ → Step A) (two : B → Input → ℕ → Step B) (Alike : ℕ → A → B → Type 0) (outputs : List ℕ)
-    (match : (n : ℕ) (x : A) (y : B) (i : Input) (m : ℕ) → List·Memᴰ m outputs → Alike (suc n) x y → Match (Alike n) (one x i m) (two y i m)) where
-  pub same-best : (is : List Input) (x : A) (y : B) → Alike (length is) x y → bestFrom A Input one outputs is x ≡ bestFrom B Input two outputs is y
-  same-best [] x y h = refl
+module _ (A B Input : Type 0) (one : A → Input → ℕ → Step A) (two : B → Input → ℕ → Step B) (one-ends : A → BestProfit) (two-ends : B → BestProfit) (Alike : ℕ → A → B → Type 0) (outputs : List ℕ)
+    (match : (n : ℕ) (x : A) (y : B) (i : Input) (m : ℕ) → List·Memᴰ m outputs → Alike (suc n) x y → Match (Alike n) (one x i m) (two y i m))
+    (alike-ends : (x : A) (y : B) → Alike 0 x y → one-ends x ≡ two-ends y) where
+  pub same-best : (is : List Input) (x : A) (y : B) → Alike (length is) x y → bestFrom A Input one one-ends outputs is x ≡ bestFrom B Input two two-ends outputs is y
+  same-best [] x y h = ap ended (alike-ends x y h)
   same-best (i ∷ is) x y h =
-      let f = bestFrom A Input one outputs is in
-      let g = bestFrom B Input two outputs is in
+      let f = bestFrom A Input one one-ends outputs is in
+      let g = bestFrom B Input two two-ends outputs is in
       ap firstBest
       (map-same (λ m. along m (one x i m) f) (λ m. along m (two y i m) g) outputs
       (λ m mem. along-match (Alike (length is)) m (one x i m) (two y i m) f g (match (length is) x y i m mem h) (λ x′ y′ h′. same-best is x′ y′ h′)))

@@ -10,24 +10,26 @@ use borrow.Author.Tests.{ltb-true, leb-true, ne-eqb}
 use lib.Dec.{leb, ltb}
 use lib.IntN.{ℤ, pos, _-ℤ_}
 use lib.Signed.{ltZ}
-use Rattle.commitment.specs.Best.{nothing, ladder}
-use Rattle.commitment.proofs.Conjunctions.{both}
+use Rattle.commitment.specs.Best.{ladder, profitOf}
+use Rattle.lists.proofs.Conjunctions.{both}
 use Rattle.optimality.specs.declared.Figures.{Figures}
 use Rattle.optimality.specs.declared.Cell.{Cell}
-use Rattle.optimality.specs.Machine.{Step, go, allow, after, along, Value, noSchedule, earning, valueOf, more, most, valueAlong}
+use Rattle.commitment.specs.declared.BestProfit.{BestProfit}
+use Rattle.commitment.specs.declared.BestProfit.the-variants.{Nothing, Profit}
+use Rattle.optimality.specs.Machine.{Step, go, allow, after, along, more, most, valueAlong}
 use Rattle.optimality.specs.Cells.{Sound, InTable, states, afterOff, afterOn, startTakes, startPays, gain, mayRun, offCell, onCell, offStep, onStep, cellStep, rungs, choices, planAt, valueAt, offValue, onValue, onBest}
 use Rattle.optimality.proofs.Outputs.{ladder-is, blocks-join}
 use Rattle.optimality.proofs.Values.{no-earning, value-from, first-reaching}
 
 -- the best plan's profit is the value
-pub plan-value : (f : Figures) (prices : List ℤ) (c : Cell) → valueOf (planAt f prices c) ≡ valueAt f prices c
+pub plan-value : (f : Figures) (ends : Cell → BestProfit) (prices : List ℤ) (c : Cell) → profitOf (planAt f ends prices c) ≡ valueAt f ends prices c
 unfolding planAt valueAt
-plan-value f prices c = value-from Cell ℤ (cellStep f) (choices f) prices c
+plan-value f ends prices c = value-from Cell ℤ (cellStep f) ends (choices f) prices c
 
--- after the last interval nothing more is earned
-pub value-end : (f : Figures) (c : Cell) → valueAt f [] c ≡ earning (pos 0)
+-- after the last interval
+pub value-end : (f : Figures) (ends : Cell → BestProfit) (c : Cell) → valueAt f ends [] c ≡ ends c
 unfolding valueAt
-value-end f c = refl
+value-end f ends c = refl
 
 -- ---- outputs in blocks
 
@@ -43,19 +45,19 @@ ladder-split block first (suc a) b =
 
 -- ---- what the plan's output makes of a cell
 
-pub record OffTurn (f : Figures) (price : ℤ) (prices : List ℤ) (c : Cell) : Type 0 where
+pub record OffTurn (f : Figures) (ends : Cell → BestProfit) (price : ℤ) (prices : List ℤ) (c : Cell) : Type 0 where
   pub leads : afterOff f (c .state) < states f
-  pub is : planAt f (price ∷ prices) c ≡ after 0 (pos 0) (planAt f prices (offCell f c))
+  pub is : planAt f ends (price ∷ prices) c ≡ after 0 (pos 0) (planAt f ends prices (offCell f c))
 
-pub record OnTurn (f : Figures) (price : ℤ) (prices : List ℤ) (c : Cell) (k : ℕ) : Type 0 where
+pub record OnTurn (f : Figures) (ends : Cell → BestProfit) (price : ℤ) (prices : List ℤ) (c : Cell) (k : ℕ) : Type 0 where
   pub leads : afterOn f (c .state) < states f
   pub starts : startTakes f (c .state) ≤ c .starts
   pub ons : f .peron ≤ c .ons
   pub blocks : k * f .perblock ≤ c .blocks
-  pub is : planAt f (price ∷ prices) c ≡ after (k * f .block) (gain f price k -ℤ pos (startPays f (c .state))) (planAt f prices (onCell f c k))
+  pub is : planAt f ends (price ∷ prices) c ≡ after (k * f .block) (gain f price k -ℤ pos (startPays f (c .state))) (planAt f ends prices (onCell f c k))
 
 -- a step with a value is allowed
-leads-on : (t : Bool) (g : ℤ) (y : Cell) (rest : Cell → Value) (p : ℤ) → valueAlong (allow t (go g y)) rest ≡ earning p → t ≡ true
+leads-on : (t : Bool) (g : ℤ) (y : Cell) (rest : Cell → BestProfit) (p : ℤ) → valueAlong (allow t (go g y)) rest ≡ Profit p → t ≡ true
 leads-on true g y rest p e = refl
 leads-on false g y rest p e = absurd (no-earning e)
 
@@ -66,7 +68,7 @@ off-in-table f c h t = record { state = t; starts = h .starts; ons = h .ons; blo
 pub on-in-table : (f : Figures) (c : Cell) (k : ℕ) → InTable f c → afterOn f (c .state) < states f → InTable f (onCell f c k)
 on-in-table f c k h t = record { state = t; starts = omega (arith, h .starts); ons = omega (arith, h .ons); blocks = omega (arith, h .blocks) }
 
-module _ (f : Figures) (ok : Sound f) where
+module _ (f : Figures) (ok : Sound f) (ends : Cell → BestProfit) where
   in-blocks : (c : Cell) (price : ℤ) (k : ℕ) → 1 ≤ k → cellStep f c price (k * f .block) ≡ onStep f c price k
   in-blocks c price k h =
       let p : 1 * 1 ≤ k * f .block = mul-le-mul h (ok .block) in
@@ -75,7 +77,7 @@ module _ (f : Figures) (ok : Sound f) where
 
   -- ---- a cell's value by the values of the cells after it
 
-  ladder-best : (rest : Cell → Value) (c : Cell) (price : ℤ) (k count : ℕ) → 1 ≤ k
+  ladder-best : (rest : Cell → BestProfit) (c : Cell) (price : ℤ) (k count : ℕ) → 1 ≤ k
       → most (map (λ m. valueAlong (cellStep f c price m) rest) (ladder (f .block) (k * f .block) count)) ≡ onBest f rest c price k count
   ladder-best rest c price k zero h = refl
   ladder-best rest c price k (suc count) h =
@@ -85,36 +87,36 @@ module _ (f : Figures) (ok : Sound f) where
       ∙ ladder-best rest c price (suc k) count (omega arith))
 
   pub value-turn : (price : ℤ) (prices : List ℤ) (c : Cell)
-      → valueAt f (price ∷ prices) c ≡ more (offValue f (valueAt f prices) c) (onBest f (valueAt f prices) c price (f .pmin) (rungs f))
+      → valueAt f ends (price ∷ prices) c ≡ more (offValue f (valueAt f ends prices) c) (onBest f (valueAt f ends prices) c price (f .pmin) (rungs f))
   unfolding valueAt
-  value-turn price prices c = ap (more (offValue f (valueAt f prices) c)) (ladder-best (valueAt f prices) c price (f .pmin) (rungs f) (ok .pmin))
+  value-turn price prices c = ap (more (offValue f (valueAt f ends prices) c)) (ladder-best (valueAt f ends prices) c price (f .pmin) (rungs f) (ok .pmin))
 
   -- where the unit may not run, no output has a value
-  pub may-not-run : (rest : Cell → Value) (c : Cell) (price : ℤ) (k count : ℕ) → mayRun f c ≡ false → onBest f rest c price k count ≡ noSchedule
+  pub may-not-run : (rest : Cell → BestProfit) (c : Cell) (price : ℤ) (k count : ℕ) → mayRun f c ≡ false → onBest f rest c price k count ≡ Nothing
   may-not-run rest c price k zero e = refl
   may-not-run rest c price k (suc count) e = rw e (may-not-run rest c price (suc k) count e)
 
   -- ---- the plan's output, by the values: off where that reaches the cell's value, else the first number of blocks that does
 
-  module _ (price : ℤ) (prices : List ℤ) (c : Cell) (best : ℤ) (worth : valueAt f (price ∷ prices) c ≡ earning best) where
-    plan-off : offValue f (valueAt f prices) c ≡ earning best → planAt f (price ∷ prices) c ≡ along 0 (offStep f c) (planAt f prices)
+  module _ (price : ℤ) (prices : List ℤ) (c : Cell) (best : ℤ) (worth : valueAt f ends (price ∷ prices) c ≡ Profit best) where
+    plan-off : offValue f (valueAt f ends prices) c ≡ Profit best → planAt f ends (price ∷ prices) c ≡ along 0 (offStep f c) (planAt f ends prices)
     unfolding planAt valueAt
     plan-off h =
-        first-reaching Cell ℤ (cellStep f) (choices f) price prices c [] 0 (ladder (f .block) (f .pmin * f .block) (rungs f)) refl
+        first-reaching Cell ℤ (cellStep f) ends (choices f) price prices c [] 0 (ladder (f .block) (f .pmin * f .block) (rungs f)) refl
         (λ n i. absurd (List·Memᴰ·not-nil i))
         (h ∙ sym worth)
 
-    plan-on : (offValue f (valueAt f prices) c ≡ earning best → ⊥) → (k : ℕ) → f .pmin ≤ k → k ≤ f .pmax
-        → ((j : ℕ) → f .pmin ≤ j → j < k → onValue f (valueAt f prices) c price j ≡ earning best → ⊥) → onValue f (valueAt f prices) c price k ≡ earning best
-        → planAt f (price ∷ prices) c ≡ along (k * f .block) (onStep f c price k) (planAt f prices)
+    plan-on : (offValue f (valueAt f ends prices) c ≡ Profit best → ⊥) → (k : ℕ) → f .pmin ≤ k → k ≤ f .pmax
+        → ((j : ℕ) → f .pmin ≤ j → j < k → onValue f (valueAt f ends prices) c price j ≡ Profit best → ⊥) → onValue f (valueAt f ends prices) c price k ≡ Profit best
+        → planAt f ends (price ∷ prices) c ≡ along (k * f .block) (onStep f c price k) (planAt f ends prices)
     unfolding planAt valueAt
     plan-on off k lo hi short h =
-        first-reaching Cell ℤ (cellStep f) (choices f) price prices c (0 ∷ ladder (f .block) (f .pmin * f .block) (k - f .pmin)) (k * f .block)
+        first-reaching Cell ℤ (cellStep f) ends (choices f) price prices c (0 ∷ ladder (f .block) (f .pmin * f .block) (k - f .pmin)) (k * f .block)
         (ladder (f .block) (k * f .block + f .block) (f .pmax - k))
         split
         passed
-        (ap (λ (t : Step Cell). valueAlong t (valueAt f prices)) (in-blocks c price k (omega (arith, ok .pmin))) ∙ h ∙ sym worth)
-        ∙ ap (λ (t : Step Cell). along (k * f .block) t (planAt f prices)) (in-blocks c price k (omega (arith, ok .pmin)))
+        (ap (λ (t : Step Cell). valueAlong t (valueAt f ends prices)) (in-blocks c price k (omega (arith, ok .pmin))) ∙ h ∙ sym worth)
+        ∙ ap (λ (t : Step Cell). along (k * f .block) t (planAt f ends prices)) (in-blocks c price k (omega (arith, ok .pmin)))
       where
         split : choices f
             ≡ (0 ∷ ladder (f .block) (f .pmin * f .block) (k - f .pmin)) ++ ((k * f .block) ∷ ladder (f .block) (k * f .block + f .block) (f .pmax - k))
@@ -124,58 +126,58 @@ module _ (f : Figures) (ok : Sound f) where
             ap (_∷_ 0) (ap (ladder (f .block) (f .pmin * f .block)) n ∙ (rw m at (ladder-split (f .block) (f .pmin * f .block) (k - f .pmin) (f .pmax - k))))
 
         passed : (n : ℕ) → List·Memᴰ n (0 ∷ ladder (f .block) (f .pmin * f .block) (k - f .pmin))
-            → valueAlong (cellStep f c price n) (valueAt f prices) ≡ valueAt f (price ∷ prices) c → ⊥
+            → valueAlong (cellStep f c price n) (valueAt f ends prices) ≡ valueAt f ends (price ∷ prices) c → ⊥
         passed n i e =
             ⊎-elim (λ (z : n ≡ 0). off (rw z at e ∙ worth))
             (λ (t : List·Memᴰ n (ladder (f .block) (f .pmin * f .block) (k - f .pmin))).
             let r = ladder-is (k - f .pmin) (f .pmin * f .block) (f .block) n t in
             let m : n ≡ (f .pmin + r .0) * f .block = omega (arith, r .2) in
             short (f .pmin + r .0) (omega arith) (omega (arith, r .1, lo))
-            (ap (λ (t : Step Cell). valueAlong t (valueAt f prices)) (sym (in-blocks c price (f .pmin + r .0) (omega (arith, ok .pmin)))) ∙ (rw m at e) ∙ worth))
+            (ap (λ (t : Step Cell). valueAlong t (valueAt f ends prices)) (sym (in-blocks c price (f .pmin + r .0) (omega (arith, ok .pmin)))) ∙ (rw m at e) ∙ worth))
             (List·Memᴰ·cases-cons i)
 
-    reached : (v w : Value) → more v w ≡ earning best → (v ≡ earning best) ⊎ (w ≡ earning best)
-    reached noSchedule w e = inr e
-    reached (earning p) noSchedule e = inl e
-    reached (earning p) (earning q) e = by (ltZ p q) e
+    reached : (v w : BestProfit) → more v w ≡ Profit best → (v ≡ Profit best) ⊎ (w ≡ Profit best)
+    reached Nothing w e = inr e
+    reached (Profit p) Nothing e = inl e
+    reached (Profit p) (Profit q) e = by (ltZ p q) e
       where
-        by : (t : Bool) → cond t (earning q) (earning p) ≡ earning best → (earning p ≡ earning best) ⊎ (earning q ≡ earning best)
+        by : (t : Bool) → cond t (Profit q) (Profit p) ≡ Profit best → (Profit p ≡ Profit best) ⊎ (Profit q ≡ Profit best)
         by true e = inr e
         by false e = inl e
 
-    one-on : (k count : ℕ) → onBest f (valueAt f prices) c price k count ≡ earning best
-        → (j : ℕ) × (k ≤ j) × (j < k + count) × (onValue f (valueAt f prices) c price j ≡ earning best)
+    one-on : (k count : ℕ) → onBest f (valueAt f ends prices) c price k count ≡ Profit best
+        → (j : ℕ) × (k ≤ j) × (j < k + count) × (onValue f (valueAt f ends prices) c price j ≡ Profit best)
     one-on k zero e = absurd (no-earning e)
     one-on k (suc count) e =
-        ⊎-elim (λ (h : onValue f (valueAt f prices) c price k ≡ earning best). (k, omega arith, omega arith, h))
-        (λ (h : onBest f (valueAt f prices) c price (suc k) count ≡ earning best).
+        ⊎-elim (λ (h : onValue f (valueAt f ends prices) c price k ≡ Profit best). (k, omega arith, omega arith, h))
+        (λ (h : onBest f (valueAt f ends prices) c price (suc k) count ≡ Profit best).
         let r = one-on (suc k) count h in
         (r .0, omega (arith, r .1), omega (arith, r .2), r .3))
-        (reached (onValue f (valueAt f prices) c price k) (onBest f (valueAt f prices) c price (suc k) count) e)
+        (reached (onValue f (valueAt f ends prices) c price k) (onBest f (valueAt f ends prices) c price (suc k) count) e)
 
     -- some output reaches it
-    pub some-turn : (offValue f (valueAt f prices) c ≡ earning best → ⊥)
-        → ((k : ℕ) → f .pmin ≤ k → k ≤ f .pmax → onValue f (valueAt f prices) c price k ≡ earning best → ⊥) → ⊥
+    pub some-turn : (offValue f (valueAt f ends prices) c ≡ Profit best → ⊥)
+        → ((k : ℕ) → f .pmin ≤ k → k ≤ f .pmax → onValue f (valueAt f ends prices) c price k ≡ Profit best → ⊥) → ⊥
     some-turn off on =
-        ⊎-elim (λ (h : offValue f (valueAt f prices) c ≡ earning best). off h)
-        (λ (h : onBest f (valueAt f prices) c price (f .pmin) (rungs f) ≡ earning best).
+        ⊎-elim (λ (h : offValue f (valueAt f ends prices) c ≡ Profit best). off h)
+        (λ (h : onBest f (valueAt f ends prices) c price (f .pmin) (rungs f) ≡ Profit best).
         let r = one-on (f .pmin) (rungs f) h in
         on (r .0) (r .1) (omega (arith, r .2, ok .pmax)) (r .3))
-        (reached (offValue f (valueAt f prices) c) (onBest f (valueAt f prices) c price (f .pmin) (rungs f)) (sym (value-turn price prices c) ∙ worth))
+        (reached (offValue f (valueAt f ends prices) c) (onBest f (valueAt f ends prices) c price (f .pmin) (rungs f)) (sym (value-turn price prices c) ∙ worth))
 
     -- off is the plan's output where it reaches the cell's value
-    pub off-turn : offValue f (valueAt f prices) c ≡ earning best → OffTurn f price prices c
+    pub off-turn : offValue f (valueAt f ends prices) c ≡ Profit best → OffTurn f ends price prices c
     off-turn h =
-        let t = leads-on (ltb (afterOff f (c .state)) (states f)) (pos 0) (offCell f c) (valueAt f prices) best h in
+        let t = leads-on (ltb (afterOff f (c .state)) (states f)) (pos 0) (offCell f c) (valueAt f ends prices) best h in
         record { leads = ltb-true (afterOff f (c .state)) (states f) t; is = plan-off h ∙ (rw t) }
 
     -- where off does not, the first number of blocks that reaches it is the plan's
-    pub on-turn : (offValue f (valueAt f prices) c ≡ earning best → ⊥) → (k : ℕ) → f .pmin ≤ k → k ≤ f .pmax
-        → ((j : ℕ) → f .pmin ≤ j → j < k → onValue f (valueAt f prices) c price j ≡ earning best → ⊥) → onValue f (valueAt f prices) c price k ≡ earning best
-        → OnTurn f price prices c k
+    pub on-turn : (offValue f (valueAt f ends prices) c ≡ Profit best → ⊥) → (k : ℕ) → f .pmin ≤ k → k ≤ f .pmax
+        → ((j : ℕ) → f .pmin ≤ j → j < k → onValue f (valueAt f ends prices) c price j ≡ Profit best → ⊥) → onValue f (valueAt f ends prices) c price k ≡ Profit best
+        → OnTurn f ends price prices c k
     on-turn off k lo hi short h =
         let room = leb (k * f .perblock) (c .blocks) in
-        let t = leads-on (mayRun f c && room) (gain f price k -ℤ pos (startPays f (c .state))) (onCell f c k) (valueAt f prices) best h in
+        let t = leads-on (mayRun f c && room) (gain f price k -ℤ pos (startPays f (c .state))) (onCell f c k) (valueAt f ends prices) best h in
         let all = both (mayRun f c) room t in
         let run = both _ (leb (f .peron) (c .ons)) (all .0) in
         let start = both (ltb (afterOn f (c .state)) (states f)) (leb (startTakes f (c .state)) (c .starts)) (run .0) in

@@ -7,14 +7,18 @@ use lib.Dec.{leb, ltb, eqb}
 use lib.IntN.{ℤ, pos, _-ℤ_}
 use Rattle.commitment.specs.declared.Limit.{Limit}
 use Rattle.commitment.specs.declared.Limit.the-variants.{None, At}
+use Rattle.commitment.specs.declared.Limitation.the-variants.{Starts, Hours, Mwh}
+use Rattle.commitment.specs.declared.BestProfit.{BestProfit}
+use Rattle.commitment.specs.declared.BestProfit.the-variants.{Nothing}
 use Rattle.commitment.specs.declared.UnitRecord.{UnitRecord}
+use Rattle.commitment.specs.Bounds.{mostMw, mostBlocks, mostTime, mostVec, mostMlc, mostSuc, mostIntervals}
 use Rattle.commitment.specs.Keeping.{wasOn}
 use Rattle.commitment.specs.Profit.{margin}
 use Rattle.commitment.specs.Best.{Plan, ladder}
-use Rattle.commitment.specs.Cells.{startsCount, hoursCount, mwhCount}
+use Rattle.commitment.specs.Cells.{countFor}
 use Rattle.optimality.specs.declared.Figures.{Figures}
 use Rattle.optimality.specs.declared.Cell.{Cell}
-use Rattle.optimality.specs.Machine.{Step, allow, go, bestFrom, Value, noSchedule, more, valueAlong, valueFrom}
+use Rattle.optimality.specs.Machine.{Step, allow, go, bestFrom, more, valueAlong, valueFrom}
 
 abbrev pub cell : ℕ → ℕ → ℕ → ℕ → Cell
 cell state starts ons blocks = record { state = state; starts = starts; ons = ons; blocks = blocks }
@@ -30,45 +34,45 @@ takenOf (At limit) = 1
 abbrev pub figuresWith : UnitRecord → ℕ → ℕ → ℕ → Figures
 figuresWith u starts ons blocks =
     record {
-      block = u .block;
-      pmin = u .pmin;
-      pmax = u .pmax;
-      mot = u .mot;
-      mdt = u .mdt;
-      vec = u .vec;
-      mlc = u .mlc;
-      suc = u .suc;
-      perstart = takenOf (u .starts);
-      peron = takenOf (u .hours);
-      perblock = takenOf (u .mwh);
+      block = u .generator .block;
+      pmin = u .generator .pmin;
+      pmax = u .generator .pmax;
+      mot = u .generator .mot;
+      mdt = u .generator .mdt;
+      vec = u .costs .vec;
+      mlc = u .costs .mlc;
+      suc = u .costs .suc;
+      perstart = takenOf (u .limits .starts);
+      peron = takenOf (u .limits .hours);
+      perblock = takenOf (u .limits .mwh);
       starts = starts;
       ons = ons;
       blocks = blocks;
     }
 
--- a, b and c of document 01
+-- a, b and c of the specification
 unfoldable pub figuresOf : UnitRecord → ℕ → Figures
-figuresOf u n = figuresWith u (startsCount u n) (hoursCount u n) (mwhCount u n)
+figuresOf u n = figuresWith u (countFor u n Starts) (countFor u n Hours) (countFor u n Mwh)
 
 -- the ranges of the figures
 pub record Sound (f : Figures) : Type 0 where
   pub block : 1 ≤ f .block
   pub pmin : 1 ≤ f .pmin
   pub pmax : f .pmin ≤ f .pmax
-  pub top : f .pmax * f .block ≤ 500
+  pub top : f .pmax * f .block ≤ mostMw
   pub mot : 1 ≤ f .mot
-  pub mot-most : f .mot ≤ 96
+  pub mot-most : f .mot ≤ mostTime
   pub mdt : 1 ≤ f .mdt
-  pub mdt-most : f .mdt ≤ 96
-  pub vec : f .vec ≤ 2000000
-  pub mlc : f .mlc ≤ 1000000000
-  pub suc : f .suc ≤ 4000000000
+  pub mdt-most : f .mdt ≤ mostTime
+  pub vec : f .vec ≤ mostVec
+  pub mlc : f .mlc ≤ mostMlc
+  pub suc : f .suc ≤ mostSuc
   pub perstart : f .perstart ≤ 1
   pub peron : f .peron ≤ 1
   pub perblock : f .perblock ≤ 1
-  pub starts : f .starts ≤ 2976
-  pub ons : f .ons ≤ 2976
-  pub blocks : f .blocks ≤ 1488000
+  pub starts : f .starts ≤ mostIntervals
+  pub ons : f .ons ≤ mostIntervals
+  pub blocks : f .blocks ≤ mostIntervals * mostBlocks
 
 -- ---- state numbers: below mot on for s + 1 intervals (mot or more at the last), from mot on off for s - mot + 1 (mdt or more at the last)
 
@@ -127,32 +131,34 @@ choices f = 0 ∷ ladder (f .block) (f .pmin * f .block) (rungs f)
 
 -- ---- the best plan from a cell over the prices to come, and its profit alone
 
-unfoldable pub planAt : Figures → List ℤ → Cell → Plan
-planAt f prices c = bestFrom Cell ℤ (cellStep f) (choices f) prices c
+module _ (f : Figures) (ends : Cell → BestProfit) where
+  unfoldable pub planAt : List ℤ → Cell → Plan
+  planAt prices c = bestFrom Cell ℤ (cellStep f) ends (choices f) prices c
 
-unfoldable pub valueAt : Figures → List ℤ → Cell → Value
-valueAt f prices c = valueFrom Cell ℤ (cellStep f) (choices f) prices c
+  unfoldable pub valueAt : List ℤ → Cell → BestProfit
+  valueAt prices c = valueFrom Cell ℤ (cellStep f) ends (choices f) prices c
 
 -- ---- a cell by the cells after it: what the rest of the intervals is worth from each cell being `rest`
 
-abbrev pub offValue : Figures → (Cell → Value) → Cell → Value
+abbrev pub offValue : Figures → (Cell → BestProfit) → Cell → BestProfit
 offValue f rest c = valueAlong (offStep f c) rest
 
-abbrev pub onValue : Figures → (Cell → Value) → Cell → ℤ → ℕ → Value
+abbrev pub onValue : Figures → (Cell → BestProfit) → Cell → ℤ → ℕ → BestProfit
 onValue f rest c price k = valueAlong (onStep f c price k) rest
 
 -- the best of so many outputs from k blocks on
-abbrev pub onBest : Figures → (Cell → Value) → Cell → ℤ → ℕ → ℕ → Value
-onBest f rest c price k zero = noSchedule
+abbrev pub onBest : Figures → (Cell → BestProfit) → Cell → ℤ → ℕ → ℕ → BestProfit
+onBest f rest c price k zero = Nothing
 onBest f rest c price k (suc count) = more (onValue f rest c price k) (onBest f rest c price (suc k) count)
 
 -- ---- the cell before interval 1, for n intervals
 
 abbrev pub openingState : UnitRecord → ℕ
-openingState u = cond (wasOn u) (min (u .held) (u .mot) - 1) (u .mot + min (u .held) (u .mdt) - 1)
+openingState u =
+    cond (wasOn (u .opening)) (min (u .opening .held) (u .generator .mot) - 1) (u .generator .mot + min (u .opening .held) (u .generator .mdt) - 1)
 
-unfoldable pub opening : UnitRecord → ℕ → Cell
-opening u n = cell (openingState u) (startsCount u n) (hoursCount u n) (mwhCount u n)
+unfoldable pub openingCell : UnitRecord → ℕ → Cell
+openingCell u n = cell (openingState u) (countFor u n Starts) (countFor u n Hours) (countFor u n Mwh)
 
 -- a cell of the table has no more left than the tops
 pub record InTable (f : Figures) (c : Cell) : Type 0 where

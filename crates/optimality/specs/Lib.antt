@@ -1,3 +1,4 @@
+-- Machine: any machine of steps. Cells: the machine whose state is a cell of the table. Runs: smaller limitations. Outcomes: what each says.
 pub mod Machine
 pub mod Cells
 pub mod Outcomes

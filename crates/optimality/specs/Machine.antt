@@ -1,10 +1,13 @@
 -- A machine of steps: from a state, what an interval brings (an input) and an output lead to a next state and earn something, or are not allowed.
--- Its best plan by recursion over the intervals, and the best plan's profit alone.
+-- Its best plan by recursion over the intervals, and the best plan's profit alone; `ends` says of each state what a plan that ends there earns in it,
+-- if it may end there.
 use mathlib.Core.Bool.{Bool, true, false, cond}
 use mathlib.Core.List.{List, [], _∷_, map}
 use Prim.Native.Nat.{ℕ}
 use lib.IntN.{ℤ, pos, _+ℤ_}
 use lib.Signed.{ltZ}
+use Rattle.commitment.specs.declared.BestProfit.{BestProfit}
+use Rattle.commitment.specs.declared.BestProfit.the-variants.{Nothing, Profit}
 use Rattle.commitment.specs.Best.{Plan, nothing, plan, firstBest}
 
 -- a step is not allowed, or earns something and leads on
@@ -16,7 +19,16 @@ abbrev pub allow : {State : Type 0} → Bool → Step State → Step State
 allow true step = step
 allow false step = stop
 
+-- a plan may end in any state, which earns nothing more
+abbrev pub anywhere : {State : Type 0} → State → BestProfit
+anywhere x = Profit (pos 0)
+
 -- ---- plans
+
+-- the plan of no intervals
+abbrev pub ended : BestProfit → Plan
+ended Nothing = nothing
+ended (Profit p) = plan [] p
 
 -- a plan with one interval in front of it, that has output m and earns g
 abbrev pub after : ℕ → ℤ → Plan → Plan
@@ -27,47 +39,39 @@ abbrev pub along : {State : Type 0} → ℕ → Step State → (State → Plan) 
 along m stop rest = nothing
 along m (go g x) rest = after m g (rest x)
 
-module _ (State Input : Type 0) (step : State → Input → ℕ → Step State) where
+module _ (State Input : Type 0) (step : State → Input → ℕ → Step State) (ends : State → BestProfit) where
   -- a list of outputs with what it earns from a state, where every step is allowed
   abbrev pub run : List Input → State → List ℕ → Plan
-  run [] x [] = plan [] (pos 0)
+  run [] x [] = ended (ends x)
   run [] x (m ∷ ms) = nothing
   run (i ∷ is) x [] = nothing
   run (i ∷ is) x (m ∷ ms) = along m (step x i m) (λ y. run is y ms)
 
   -- the best first output, with the best plan of the intervals after it
   abbrev pub bestFrom : List ℕ → List Input → State → Plan
-  bestFrom outputs [] x = plan [] (pos 0)
+  bestFrom outputs [] x = ended (ends x)
   bestFrom outputs (i ∷ is) x = firstBest (map (λ m. along m (step x i m) (bestFrom outputs is)) outputs)
 
--- ---- values: a plan's profit alone
+-- ---- best profits alone
 
-pub data Value : Type 0 where
-  noSchedule : Value
-  earning : ℤ → Value
+abbrev pub more : BestProfit → BestProfit → BestProfit
+more Nothing w = w
+more (Profit p) Nothing = Profit p
+more (Profit p) (Profit q) = cond (ltZ p q) (Profit q) (Profit p)
 
-abbrev pub valueOf : Plan → Value
-valueOf nothing = noSchedule
-valueOf (plan s p) = earning p
-
-abbrev pub more : Value → Value → Value
-more noSchedule w = w
-more (earning p) noSchedule = earning p
-more (earning p) (earning q) = cond (ltZ p q) (earning q) (earning p)
-
-abbrev pub most : List Value → Value
-most [] = noSchedule
+abbrev pub most : List BestProfit → BestProfit
+most [] = Nothing
 most (v ∷ vs) = more v (most vs)
 
-abbrev pub plus : ℤ → Value → Value
-plus g noSchedule = noSchedule
-plus g (earning p) = earning (g +ℤ p)
+abbrev pub plus : ℤ → BestProfit → BestProfit
+plus g Nothing = Nothing
+plus g (Profit p) = Profit (g +ℤ p)
 
-abbrev pub valueAlong : {State : Type 0} → Step State → (State → Value) → Value
-valueAlong stop rest = noSchedule
+abbrev pub valueAlong : {State : Type 0} → Step State → (State → BestProfit) → BestProfit
+valueAlong stop rest = Nothing
 valueAlong (go g x) rest = plus g (rest x)
 
-module _ (State Input : Type 0) (step : State → Input → ℕ → Step State) where
-  abbrev pub valueFrom : List ℕ → List Input → State → Value
-  valueFrom outputs [] x = earning (pos 0)
+module _ (State Input : Type 0) (step : State → Input → ℕ → Step State) (ends : State → BestProfit) where
+  abbrev pub valueFrom : List ℕ → List Input → State → BestProfit
+  valueFrom outputs [] x = ends x
   valueFrom outputs (i ∷ is) x = most (map (λ m. valueAlong (step x i m) (valueFrom outputs is)) outputs)

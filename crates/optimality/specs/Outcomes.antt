@@ -1,48 +1,49 @@
--- What an outcome says of a limitation, in document 01's words and by rivals; `with k` is the unit with that limitation at k, the others whole.
+-- What an outcome says of a limitation, in the specification's words and by rivals.
 use mathlib.Core.Path.{_≡_}
 use mathlib.Core.List.{List}
 use Prim.Native.Nat.{ℕ, suc}
 use lib.IntN.{ℤ, pos, _-ℤ_}
 use lib.Signed.{_≤ℤ_}
-use Rattle.commitment.specs.declared.Limit.{Limit}
 use Rattle.commitment.specs.declared.Limit.the-variants as limit
+use Rattle.commitment.specs.declared.Limitation.{Limitation}
 use Rattle.commitment.specs.declared.Outcome.{Outcome}
 use Rattle.commitment.specs.declared.Outcome.the-variants as outcome
 use Rattle.commitment.specs.declared.UnitRecord.{UnitRecord}
+use Rattle.commitment.specs.Limits.{limitFor}
 use Rattle.commitment.specs.Rivals.{Rival, IsBest}
-use Rattle.commitment.specs.Valuing.{lowered}
+use Rattle.commitment.specs.Valuing.{lowered, runAt}
 
 -- "`empty` (nine tenths rounds to 0)"
-pub record EmptyAt (l : Limit) : Type 0 where
+pub record EmptyAt (u : UnitRecord) (which : Limitation) : Type 0 where
   pub figure : ℕ
-  pub limited : l ≡ limit.At figure
+  pub limited : limitFor (u .limits) which ≡ limit.At figure
   pub nine-tenths : lowered figure ≡ 0
 
 -- "`never` (not empty, and no schedule keeps the figure one unit less)"
-pub record NeverAt (with : ℕ → UnitRecord) (prices : List ℤ) (l : Limit) : Type 0 where
+pub record NeverAt (u : UnitRecord) (prices : List ℤ) (which : Limitation) : Type 0 where
   pub figure : ℕ
   pub less : ℕ
-  pub limited : l ≡ limit.At figure
+  pub limited : limitFor (u .limits) which ≡ limit.At figure
   pub nine-tenths : lowered figure ≡ suc less
-  pub none-lower : (r : List ℕ) → Rival (with less) prices r → ⊥
+  pub none-lower : (r : List ℕ) → Rival (runAt u which less) prices r → ⊥
 
 -- "the gap in quarter-cents, which is the first run's best profit less the lower run's"
-pub record GapAt (with : ℕ → UnitRecord) (prices : List ℤ) (l : Limit) (gap : ℤ) : Type 0 where
+pub record GapAt (u : UnitRecord) (prices : List ℤ) (which : Limitation) (gap : ℤ) : Type 0 where
   pub figure : ℕ
   pub less : ℕ
-  pub limited : l ≡ limit.At figure
+  pub limited : limitFor (u .limits) which ≡ limit.At figure
   pub nine-tenths : lowered figure ≡ suc less
   pub schedule : List ℕ
   pub profit : ℤ
-  pub first : IsBest (with (suc less)) prices schedule profit
+  pub first : IsBest (runAt u which (suc less)) prices schedule profit
   pub lower-schedule : List ℕ
   pub lower-profit : ℤ
-  pub lower : IsBest (with less) prices lower-schedule lower-profit
+  pub lower : IsBest (runAt u which less) prices lower-schedule lower-profit
   pub difference : gap ≡ profit -ℤ lower-profit
   pub never-below-zero : pos 0 ≤ℤ gap
 
-abbrev pub Says : (ℕ → UnitRecord) → List ℤ → Limit → Outcome → Type 0
-Says with prices l outcome.None = l ≡ limit.None
-Says with prices l outcome.Empty = EmptyAt l
-Says with prices l outcome.Never = NeverAt with prices l
-Says with prices l (outcome.Gap gap) = GapAt with prices l gap
+abbrev pub Says : UnitRecord → List ℤ → Limitation → Outcome → Type 0
+Says u prices which outcome.None = limitFor (u .limits) which ≡ limit.None
+Says u prices which outcome.Empty = EmptyAt u which
+Says u prices which outcome.Never = NeverAt u prices which
+Says u prices which (outcome.Gap gap) = GapAt u prices which gap

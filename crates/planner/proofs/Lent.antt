@@ -1,6 +1,7 @@
--- What it says that the slices lent are long enough and the case is in order.
-use mathlib.Core.Path.{_≡_, refl, sym, ap, _∙_}
-use mathlib.Core.List.{List, _++_}
+-- What is found before any work and by it, in turn; and what it says that a case passed: the slices lent are long enough.
+use mathlib.Core.Path.{_≡_, sym, ap, _∙_}
+use mathlib.Core.Bool.{Bool, true}
+use mathlib.Core.List.{List, [], _∷_, _++_}
 use Prim.Native.Nat.{ℕ, _+_, _*_, _≤_}
 use borrow.Author.Tests.{leb-true}
 use lib.Dec.{leb}
@@ -9,82 +10,89 @@ use lib.ListN.{length, drop, replicate}
 use Rattle.commitment.specs.declared.Cause.the-variants.{Length, Scratch}
 use Rattle.commitment.specs.declared.Checked.the-variants.{Passed}
 use Rattle.commitment.specs.declared.UnitRecord.{UnitRecord}
-use Rattle.commitment.specs.Cells.{layerCells, cellsNeeded}
-use Rattle.commitment.specs.Ranges.{caseChecked}
-use Rattle.commitment.proofs.Passing.{Passing, passing, unless-passed, then-passed}
+use Rattle.commitment.specs.Causes.{_else_, firstOf}
+use Rattle.commitment.specs.Cells.{cellsNeeded}
+use Rattle.commitment.specs.Ranges.{pricesKept, caseChecks, caseChecked, Priced}
+use Rattle.commitment.proofs.Causes.{checkedThen, in-turn, unless-passed, then-passed}
+use Rattle.commitment.proofs.Passing.{Passing, passing, prices-small}
 use Rattle.optimality.specs.declared.Figures.{Figures}
-use Rattle.optimality.specs.Cells.{Sound, states, figuresOf}
+use Rattle.optimality.specs.Machine.{anywhere}
+use Rattle.optimality.specs.Cells.{Sound, figuresOf}
 use Rattle.optimality.proofs.Opening.{figures-sound}
 use Rattle.optimality.proofs.Ranges.{ranged}
-use Rattle.layers.specs.Layers.{Room, Filled, Priced, width}
-use Rattle.layers.proofs.Widths.{width-is}
+use Rattle.geometry.specs.Geometry.{width}
+use Rattle.geometry.specs.Layers.{Room, Filled}
+use Rattle.geometry.proofs.Widths.{width-is}
+use Rattle.planner.specs.Planning.{slicesChecks, lentChecks, lentChecked, scheduleChecks, scheduleChecked, planChecked, scratchAfter}
 use Rattle.planner.specs.Tables.{Worked}
-use Rattle.planner.specs.Planning.{scratchChecked, lentChecked, planLent, scratchAfter}
-use Rattle.planner.specs.Valuing.{valueLent}
+use Rattle.planner.specs.Valuing.{valueLentChecks, valueLent, valueChecked}
+use Rattle.planner.proofs.Worked.{worked}
 
-scratch-fits : (u : UnitRecord) (n scratch : ℕ) → scratchChecked u n scratch ≡ Passed → cellsNeeded u n ≤ scratch
-scratch-fits u n scratch e = leb-true (cellsNeeded u n) scratch (unless-passed (leb (cellsNeeded u n) scratch) Scratch Passed e .0)
+-- ---- in turn
 
-pub record ValueLent (u : UnitRecord) (prices : List ℤ) (scratch : ℕ) : Type 0 where
-  pub case : Passing u prices
+module _ (u : UnitRecord) (prices : List ℤ) where
+  pub lent-turn : (long : Bool) (scratch : ℕ)
+      → lentChecked u prices long scratch ≡ checkedThen (caseChecked u (pricesKept prices) (length prices)) (firstOf (slicesChecks u (length prices) long scratch))
+  unfolding lentChecked caseChecked
+  lent-turn long scratch = in-turn (caseChecks u (pricesKept prices) (length prices)) (slicesChecks u (length prices) long scratch)
+
+  -- valuing takes no schedule slice
+  pub value-lent : (scratch : ℕ) → lentChecked u prices true scratch ≡ valueLent u prices scratch
+  unfolding lentChecked valueLent
+  value-lent scratch =
+      in-turn (caseChecks u (pricesKept prices) (length prices)) (slicesChecks u (length prices) true scratch)
+      ∙ sym (in-turn (caseChecks u (pricesKept prices) (length prices)) ((leb (cellsNeeded u (length prices)) scratch else Scratch) ∷ []))
+
+  pub plan-turn : (scratch schedule : ℕ)
+      → planChecked u prices scratch schedule ≡ checkedThen (lentChecked u prices (leb (length prices) schedule) scratch) (scheduleChecked u prices)
+  unfolding planChecked lentChecked
+  plan-turn scratch schedule = in-turn (lentChecks u prices (leb (length prices) schedule) scratch) (scheduleChecks u prices)
+
+  pub value-turn : (scratch : ℕ) → valueChecked u prices scratch ≡ checkedThen (valueLent u prices scratch) (scheduleChecked u prices)
+  unfolding valueChecked valueLent
+  value-turn scratch = in-turn (valueLentChecks u prices scratch) (scheduleChecks u prices)
+
+-- ---- a case that passed
+
+pub record Lent (u : UnitRecord) (prices : List ℤ) (long : Bool) (scratch : ℕ) : Type 0 where
+  pub case : Passing u (pricesKept prices) (length prices)
+  pub entries : long ≡ true
   pub cells : cellsNeeded u (length prices) ≤ scratch
 
-pub value-lent : (u : UnitRecord) (prices : List ℤ) (scratch : ℕ) → valueLent u prices scratch ≡ Passed → ValueLent u prices scratch
-unfolding valueLent
-value-lent u prices scratch e =
-    let a = then-passed (caseChecked u prices) (scratchChecked u (length prices) scratch) e in
-    record { case = passing u prices (a .0); cells = scratch-fits u (length prices) scratch (a .1) }
-
-pub record PlanLent (u : UnitRecord) (prices : List ℤ) (scratch schedule : ℕ) : Type 0 where
-  pub value : ValueLent u prices scratch
-  pub entries : length prices ≤ schedule
-
-pub plan-lent : (u : UnitRecord) (prices : List ℤ) (scratch schedule : ℕ) → planLent u prices scratch schedule ≡ Passed → PlanLent u prices scratch schedule
-unfolding planLent
-plan-lent u prices scratch schedule e =
-    let a = then-passed (caseChecked u prices) (lentChecked u (length prices) scratch schedule) e in
-    let b = unless-passed (leb (length prices) schedule) Length (scratchChecked u (length prices) scratch) (a .1) in
-    record {
-      value = record { case = passing u prices (a .0); cells = scratch-fits u (length prices) scratch (b .1) };
-      entries = leb-true (length prices) schedule (b .0);
-    }
+pub lent : (u : UnitRecord) (prices : List ℤ) (long : Bool) (scratch : ℕ) → lentChecked u prices long scratch ≡ Passed → Lent u prices long scratch
+lent u prices long scratch e =
+    let a = then-passed (caseChecked u (pricesKept prices) (length prices)) (firstOf (slicesChecks u (length prices) long scratch)) (sym (lent-turn u prices long scratch) ∙ e) in
+    let b = unless-passed long Length _ (a .1) in
+    let c = unless-passed (leb (cellsNeeded u (length prices)) scratch) Scratch Passed (b .1) in
+    record { case = passing u (pricesKept prices) (length prices) (a .0); entries = b .0; cells = leb-true (cellsNeeded u (length prices)) scratch (c .0) }
 
 -- ---- the table that fits what is lent: figures f, layers of w cells
 
 pub record Fitted (u : UnitRecord) (prices : List ℤ) (scratch : ℕ) (f : Figures) (w : ℕ) : Type 0 where
   pub room : Room f (length prices) scratch
   pub priced : Priced prices
-  pub wide : w ≡ width f
   pub all : (length prices + 1) * w ≡ cellsNeeded u (length prices)
   pub most : (length prices + 1) * w ≤ scratch
-  pub worked : (cells : List ℤ) → length cells ≡ scratch → Filled f prices cells → Worked u prices cells
+  pub works : (cells : List ℤ) → length cells ≡ scratch → Filled f anywhere prices cells → Worked u prices cells
 
-module _ (u : UnitRecord) (prices : List ℤ) (scratch : ℕ) (h : ValueLent u prices scratch) (f : Figures) (is : f ≡ figuresOf u (length prices)) where
+module _ (u : UnitRecord) (prices : List ℤ) (scratch : ℕ) (h : Lent u prices true scratch) (f : Figures) (is : f ≡ figuresOf u (length prices)) where
   pub lent-sound : Sound f
-  lent-sound = rw is (figures-sound u (ranged u (h .case .ranges) (h .case .shape)) (length prices) (h .case .most-prices))
+  lent-sound =
+      let o = h .case .order in
+      rw is (figures-sound u (ranged u (o .ranges) (o .shape)) (length prices) (o .short))
 
-  layer-is : (w : ℕ) → w ≡ states f * (f .starts + 1) * (f .ons + 1) * (f .blocks + 1) → w ≡ layerCells u (length prices)
-  unfolding figuresOf
-  layer-is w layer = layer ∙ rw is refl
-
-  pub fitted : (w : ℕ) → w ≡ states f * (f .starts + 1) * (f .ons + 1) * (f .blocks + 1) → Fitted u prices scratch f w
-  fitted w layer =
-      let cells : (length prices + 1) * w ≡ cellsNeeded u (length prices) = ap (λ (n : ℕ). (length prices + 1) * n) (layer-is w layer) in
+  pub fitted : (w : ℕ) → w ≡ width f → Fitted u prices scratch f w
+  fitted w wide =
+      let o = h .case .order in
+      let layer : width f ≡ width (figuresOf u (length prices)) = ap width is in
+      let cells : (length prices + 1) * w ≡ cellsNeeded u (length prices) = ap (λ (n : ℕ). (length prices + 1) * n) (wide ∙ layer ∙ width-is u (length prices)) in
+      let priced = prices-small prices (h .case .prices) in
       record {
-        room = record { sound = lent-sound; short = h .case .most-prices; fits = rw (is, width-is u (length prices)) (h .cells) };
-        priced = h .case .price-at;
-        wide = layer-is w layer ∙ sym (rw is (width-is u (length prices)));
+        room = record { sound = lent-sound; short = o .short; fits = rw (is, width-is u (length prices)) (h .cells) };
+        priced = priced;
         all = cells;
         most = rw cells (h .cells);
-        worked = λ held long filled.
-            record {
-              ranges = h .case .ranges;
-              shape = h .case .shape;
-              short = h .case .most-prices;
-              priced = h .case .price-at;
-              room = rw long (h .cells);
-              filled = rw is at filled;
-            };
+        works = λ stored long filled. worked u prices stored o priced (rw long (h .cells)) (rw is at filled);
       }
 
 -- the scratch after all layers are cleared, of which the fill left what lies behind them

@@ -1,79 +1,107 @@
--- What a filled table gives: room, the opening cell's best, small profits.
+-- What a filled table gives: the best profit of every run, and the plan.
 use mathlib.Core.Path.{_≡_, refl, sym, ap, _∙_}
 use mathlib.Core.List.{List}
-use Prim.Native.Nat.{ℕ, _^_, _≤_, _<_}
+use Prim.Native.Nat.{ℕ, _≤_, _<_}
 use native.Mathlib.Omega.{arith}
 use lib.IntN.{ℤ, natAbs}
 use lib.ListN.{length}
+use Rattle.commitment.specs.declared.BestProfit.{BestProfit}
+use Rattle.commitment.specs.declared.BestProfit.the-variants.{Nothing, Profit}
+use Rattle.commitment.specs.declared.Limits.{Limits}
 use Rattle.commitment.specs.declared.Outcomes.{Outcomes}
 use Rattle.commitment.specs.declared.UnitRecord.{UnitRecord}
-use Rattle.commitment.specs.Best.{Plan, nothing, plan, best}
-use Rattle.optimality.specs.declared.Cell.{Cell}
-use Rattle.optimality.specs.Machine.{Value, noSchedule, earning, valueOf}
-use Rattle.optimality.specs.Cells.{InTable, figuresOf, opening, planAt, valueAt}
-use Rattle.optimality.specs.Runs.{gapBetween}
-use Rattle.optimality.proofs.Opening.{at-most-itself}
-use Rattle.optimality.proofs.Opening.{figures-sound, opening-in-table, best-cell}
+use Rattle.commitment.specs.Best.{Plan, nothing, plan, best, profitOf}
+use Rattle.commitment.specs.Bounds.{mostIntervals}
+use Rattle.commitment.specs.Cells.{cellsNeeded}
+use Rattle.commitment.specs.Limits.{limited}
+use Rattle.commitment.specs.Ranges.{InOrder, Priced}
+use Rattle.optimality.specs.Machine.{anywhere}
+use Rattle.optimality.specs.Cells.{Sound, InTable, figuresOf, openingCell, planAt, valueAt}
+use Rattle.optimality.specs.Runs.{Under}
+use Rattle.optimality.proofs.Opening.{under-itself, figures-sound, opening-in-table, best-cell}
 use Rattle.optimality.proofs.Ranges.{Ranged, ranged}
-use Rattle.optimality.proofs.Turns.{plan-value}
-use Rattle.table.specs.declared.Best.the-variants.{Profit, Nothing}
-use Rattle.table.specs.Answers.{bestOf}
-use Rattle.layers.specs.Layers.{Room, Holds}
-use Rattle.layers.proofs.Widths.{width-is}
+use Rattle.optimality.proofs.Runs.{profit-under}
+use Rattle.geometry.specs.Layers.{told, inFront, Holds, Filled, Room}
+use Rattle.geometry.proofs.Telling.{first-told}
+use Rattle.geometry.proofs.Widths.{width-is}
 use Rattle.planner.specs.declared.Reported.{Reported}
 use Rattle.planner.specs.declared.Reported.the-variants.{Report as Given}
-use Rattle.planner.specs.Tables.{Worked, profitIn, gapOf}
+use Rattle.planner.specs.Tables.{amount, mostAmount, Told, Worked}
 
--- ---- bests
+-- ---- best profits and plans
 
-pub no-plan : (b : Plan) → bestOf (valueOf b) ≡ Nothing → b ≡ nothing
+pub no-plan : (b : Plan) → profitOf b ≡ Nothing → b ≡ nothing
 no-plan nothing e = refl
 no-plan (plan s p) e = let z : _≡_ {A = ℕ} 0 1 = cc in absurd (omega arith)
 
-pub some-plan : (b : Plan) (p : ℤ) → bestOf (valueOf b) ≡ Profit p → (s : List ℕ) × (b ≡ plan s p)
+pub some-plan : (b : Plan) (p : ℤ) → profitOf b ≡ Profit p → (s : List ℕ) × (b ≡ plan s p)
 some-plan nothing p e = let z : _≡_ {A = ℕ} 0 1 = cc in absurd (omega arith)
 some-plan (plan s q) p e = let same : q ≡ p = cc in (s, ap (plan s) same)
-
-pub not-none : (v : Value) (p : ℤ) → bestOf v ≡ Profit p → v ≡ noSchedule → ⊥
-not-none noSchedule p e n = let z : _≡_ {A = ℕ} 0 1 = cc in omega arith
-not-none (earning q) p e n = let z : _≡_ {A = ℕ} 0 1 = cc in omega arith
 
 -- a report is the plan's count and profit, with the outcomes
 pub same-report : {a a′ : ℕ} {p p′ : ℤ} {o o′ : Outcomes} → a ≡ a′ → p ≡ p′ → o ≡ o′
     → _≡_ {A = Reported} (Given (record { count = a; profit = p; outcomes = o })) (Given (record { count = a′; profit = p′; outcomes = o′ }))
 same-report e f g = cc
 
-pub gap-is : (a b : Value) → gapOf (bestOf a) (bestOf b) ≡ gapBetween a b
-gap-is a noSchedule = refl
-gap-is noSchedule (earning q) = refl
-gap-is (earning p) (earning q) = refl
+-- ---- a filled table
 
-held-small : (n : ℕ) (v : Value) (r : ℤ) → n ≤ 2976 → Holds n v r → natAbs (profitIn (bestOf v)) < 2 ^ 61
-held-small n noSchedule r h k = omega arith
-held-small n (earning p) r h k = omega (arith, k .1)
+stored-small : (n : ℕ) (v : BestProfit) (r : ℤ) → n ≤ mostIntervals → Holds n v r → natAbs (amount v) < mostAmount
+stored-small n Nothing r h k = omega arith
+stored-small n (Profit p) r h k = omega (arith, k .1)
+
+-- of a case in order
+pub worked : (u : UnitRecord) (prices cells : List ℤ) → InOrder u (length prices) → Priced prices → cellsNeeded u (length prices) ≤ length cells
+    → Filled (figuresOf u (length prices)) anywhere prices cells → Worked u prices cells
+worked u prices cells order priced room filled =
+    record {
+      told =
+          record {
+            order = order;
+            wide = omega (arith, width-is u (length prices), room);
+            first = λ c i. first-told (figuresOf u (length prices)) anywhere prices cells c filled (order .short) i;
+            small = λ c i. stored-small (length prices) (valueAt (figuresOf u (length prices)) anywhere prices c) _ (order .short) (filled .layers 0 (omega arith) .holds c i);
+          };
+      priced = priced;
+      room = room;
+      filled = filled;
+    }
+
+module _ (u : UnitRecord) (prices cells : List ℤ) (t : Told u prices cells) where
+  pub unit-ranged : Ranged u
+  unit-ranged = ranged u (t .order .ranges) (t .order .shape)
+
+  pub sound : Sound (figuresOf u (length prices))
+  sound = figures-sound u unit-ranged (length prices) (t .order .short)
+
+  module _ (limits : Limits) (under : Under limits (u .limits)) where
+    pub run-inside : InTable (figuresOf u (length prices)) (openingCell (limited u limits) (length prices))
+    run-inside = opening-in-table u unit-ranged (length prices) limits under
+
+    -- the opening cell under smaller limitations tells their best profit
+    pub run-told : told (inFront (figuresOf u (length prices)) cells (openingCell (limited u limits) (length prices))) ≡ profitOf (best (limited u limits) prices)
+    run-told = t .first (openingCell (limited u limits) (length prices)) run-inside ∙ sym (profit-under u unit-ranged prices limits under)
+
+    pub run-small : natAbs (amount (profitOf (best (limited u limits) prices))) < mostAmount
+    run-small = rw (profit-under u unit-ranged prices limits under) (t .small (openingCell (limited u limits) (length prices)) run-inside)
 
 module _ (u : UnitRecord) (prices cells : List ℤ) (w : Worked u prices cells) where
-  pub in-order : Ranged u
-  in-order = ranged u (w .ranges) (w .shape)
-
   pub room : Room (figuresOf u (length prices)) (length prices) (length cells)
   room =
       record {
-        sound = figures-sound u in-order (length prices) (w .short);
-        short = w .short;
+        sound = sound u prices cells (w .told);
+        short = w .told .order .short;
         fits = rw (width-is u (length prices)) (w .room);
       }
 
-  pub opening-in : InTable (figuresOf u (length prices)) (opening u (length prices))
-  opening-in =
-      opening-in-table u in-order (length prices) (u .starts) (u .hours) (u .mwh) (at-most-itself (u .starts)) (at-most-itself (u .hours)) (at-most-itself (u .mwh))
+  pub opening-inside : InTable (figuresOf u (length prices)) (openingCell u (length prices))
+  opening-inside = run-inside u prices cells (w .told) (u .limits) (under-itself (u .limits))
 
-  -- the opening cell has the best plan's value
-  pub opening-best : valueAt (figuresOf u (length prices)) prices (opening u (length prices)) ≡ valueOf (best u prices)
-  opening-best = sym (plan-value (figuresOf u (length prices)) prices (opening u (length prices))) ∙ ap valueOf (sym (best-cell u in-order prices))
+  pub opening-plan : planAt (figuresOf u (length prices)) anywhere prices (openingCell u (length prices)) ≡ best u prices
+  opening-plan = sym (best-cell u (unit-ranged u prices cells (w .told)) prices)
 
-  pub best-small : (c : Cell) → InTable (figuresOf u (length prices)) c → natAbs (profitIn (bestOf (valueAt (figuresOf u (length prices)) prices c))) < 2 ^ 61
-  best-small c i = held-small (length prices) (valueAt (figuresOf u (length prices)) prices c) _ (w .short) (w .filled .layers 0 (omega arith) .holds c i)
-
-  pub opening-plan : planAt (figuresOf u (length prices)) prices (opening u (length prices)) ≡ best u prices
-  opening-plan = sym (best-cell u in-order prices)
+  -- where there is a schedule, the opening cell has a best profit
+  pub opening-some : (p : ℤ) → profitOf (best u prices) ≡ Profit p → valueAt (figuresOf u (length prices)) anywhere prices (openingCell u (length prices)) ≡ Nothing → ⊥
+  opening-some p e n =
+      let none : profitOf (best u prices) ≡ Nothing = profit-under u (unit-ranged u prices cells (w .told)) prices (u .limits) (under-itself (u .limits)) ∙ n in
+      let z : _≡_ {A = ℕ} 0 1 = cc in
+      omega arith

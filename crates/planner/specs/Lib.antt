@@ -1,3 +1,4 @@
+-- Planning, Valuing and Reporting: the answer of each call and what it leaves. Tables: what the functions behind them ask.
 pub mod Planning
 pub mod Valuing
 pub mod Reporting

@@ -1,6 +1,6 @@
 -- Planning: the best plan, or why there is none; what becomes of the lent slices.
 use mathlib.Core.Bool.{Bool, true, false}
-use mathlib.Core.List.{List, [], _++_}
+use mathlib.Core.List.{List, [], _∷_, _++_}
 use Prim.Native.Nat.{ℕ}
 use lib.Dec.{leb}
 use lib.IntN.{ℤ, pos}
@@ -11,35 +11,41 @@ use Rattle.commitment.specs.declared.Checked.the-variants.{Passed}
 use Rattle.commitment.specs.declared.Checked.the-variants as checked
 use Rattle.commitment.specs.declared.UnitRecord.{UnitRecord}
 use Rattle.commitment.specs.Best.{Plan, nothing, plan, best}
-use Rattle.commitment.specs.Causes.{numberOf, unless, checkedThen}
+use Rattle.commitment.specs.Causes.{numberOf, Check, _else_, firstOf}
 use Rattle.commitment.specs.Cells.{cellsNeeded}
-use Rattle.commitment.specs.Ranges.{caseChecked}
+use Rattle.commitment.specs.Ranges.{pricesKept, caseChecks}
 use Rattle.planner.specs.declared.Planned.{Planned}
 use Rattle.planner.specs.declared.Planned.the-variants.{Plan as Given, Refused}
 
--- ---- the causes: 3, 4, 5, then 7 (schedule slice shorter than the prices), 8 (scratch shorter than needed), 9 (no schedule)
+-- ---- the causes: those of the case, then 7 (schedule slice shorter than the prices), 8 (scratch shorter than needed), 9 (no schedule)
 
--- what is lent for n intervals: a scratch and a schedule slice of so many entries
-abbrev pub scratchChecked : UnitRecord → ℕ → ℕ → Checked
-scratchChecked u n scratch = unless (leb (cellsNeeded u n) scratch) Scratch Passed
+-- beside a schedule slice that is long enough or not, a scratch of so many cells
+abbrev pub slicesChecks : UnitRecord → ℕ → Bool → ℕ → List Check
+slicesChecks u n long scratch = (long else Length) ∷ (leb (cellsNeeded u n) scratch else Scratch) ∷ []
 
-abbrev pub lentChecked : UnitRecord → ℕ → ℕ → ℕ → Checked
-lentChecked u n scratch schedule = unless (leb n schedule) Length (scratchChecked u n scratch)
-
--- the causes that are found before any work
-unfoldable pub planLent : UnitRecord → List ℤ → ℕ → ℕ → Checked
-planLent u prices scratch schedule = checkedThen (caseChecked u prices) (lentChecked u (length prices) scratch schedule)
+abbrev pub lentChecks : UnitRecord → List ℤ → Bool → ℕ → List Check
+lentChecks u prices long scratch = caseChecks u (pricesKept prices) (length prices) ++ slicesChecks u (length prices) long scratch
 
 abbrev pub hasSchedule : Plan → Bool
 hasSchedule nothing = false
 hasSchedule (plan s p) = true
 
--- 9, found by the work
-abbrev pub scheduleChecked : UnitRecord → List ℤ → Checked
-scheduleChecked u prices = unless (hasSchedule (best u prices)) NoSchedule Passed
+-- found by the work
+abbrev pub scheduleChecks : UnitRecord → List ℤ → List Check
+scheduleChecks u prices = (hasSchedule (best u prices) else NoSchedule) ∷ []
 
-abbrev pub planChecked : UnitRecord → List ℤ → ℕ → ℕ → Checked
-planChecked u prices scratch schedule = checkedThen (planLent u prices scratch schedule) (scheduleChecked u prices)
+abbrev pub planChecks : UnitRecord → List ℤ → ℕ → ℕ → List Check
+planChecks u prices scratch schedule = lentChecks u prices (leb (length prices) schedule) scratch ++ scheduleChecks u prices
+
+-- what is found before any work, by the work, and by both
+unfoldable pub lentChecked : UnitRecord → List ℤ → Bool → ℕ → Checked
+lentChecked u prices long scratch = firstOf (lentChecks u prices long scratch)
+
+abbrev pub scheduleChecked : UnitRecord → List ℤ → Checked
+scheduleChecked u prices = firstOf (scheduleChecks u prices)
+
+unfoldable pub planChecked : UnitRecord → List ℤ → ℕ → ℕ → Checked
+planChecked u prices scratch schedule = firstOf (planChecks u prices scratch schedule)
 
 -- ---- the answer
 
@@ -69,7 +75,7 @@ abbrev pub scheduleLeft : UnitRecord → List ℤ → ℕ → List ℕ → List 
 scheduleLeft u prices cells was = scheduleAfter (planChecked u prices cells (length was)) (best u prices) was
 
 abbrev pub scratchLeft : UnitRecord → List ℤ → ℕ → List ℤ → List ℤ
-scratchLeft u prices entries was = scratchAfter (planLent u prices (length was) entries) (cellsNeeded u (length prices)) was
+scratchLeft u prices entries was = scratchAfter (lentChecked u prices (leb (length prices) entries) (length was)) (cellsNeeded u (length prices)) was
 
 -- ---- the number, the profit and the count of an answer: 0 where there is none; the part that comes back, empty on a refusal
 

@@ -15,7 +15,6 @@ use Rattle.commitment.specs.Valuing.{outcomesOf, noOutcomes}
 use Rattle.planner.specs.Planning.{planChecked}
 use Rattle.planner.specs.declared.Planned.{Planned}
 use Rattle.planner.specs.declared.Planned.the-variants as answer
-use Rattle.planner.specs.declared.Report.{Report}
 use Rattle.planner.specs.declared.Reported.{Reported}
 use Rattle.planner.specs.declared.Reported.the-variants.{Report as Given, Refused}
 

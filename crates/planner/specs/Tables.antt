@@ -1,34 +1,39 @@
--- What the functions that read the table ask, and best profits as they come from it.
+-- What the functions that read the table ask.
 use mathlib.Core.Path.{_≡_}
-use mathlib.Core.Bool.{true}
 use mathlib.Core.List.{List}
-use Prim.Native.Nat.{_≤_}
-use lib.IntN.{ℤ, pos, _-ℤ_}
+use Prim.Native.Nat.{ℕ, _^_, _≤_, _<_}
+use lib.IntN.{ℤ, pos, natAbs}
 use lib.ListN.{length}
-use Rattle.commitment.specs.declared.Outcome.{Outcome}
-use Rattle.commitment.specs.declared.Outcome.the-variants.{Never, Gap}
+use Rattle.commitment.specs.declared.BestProfit.{BestProfit}
+use Rattle.commitment.specs.declared.BestProfit.the-variants.{Nothing, Profit}
 use Rattle.commitment.specs.declared.UnitRecord.{UnitRecord}
 use Rattle.commitment.specs.Cells.{cellsNeeded}
-use Rattle.commitment.specs.Ranges.{rangesKept, shapeKept}
-use Rattle.optimality.specs.Cells.{figuresOf}
-use Rattle.layers.specs.Layers.{Filled, Priced}
-use Rattle.table.specs.declared.Best.{Best}
-use Rattle.table.specs.declared.Best.the-variants.{Profit, Nothing}
+use Rattle.commitment.specs.Ranges.{InOrder, Priced}
+use Rattle.optimality.specs.declared.Cell.{Cell}
+use Rattle.optimality.specs.Machine.{anywhere}
+use Rattle.optimality.specs.Cells.{figuresOf, InTable, valueAt}
+use Rattle.geometry.specs.Geometry.{width}
+use Rattle.geometry.specs.Layers.{told, inFront, Filled}
 
--- a case in order, whose table is filled
+-- a profit, 0 where there is none, and the most that the difference of two leaves room for
+abbrev pub amount : BestProfit → ℤ
+amount Nothing = pos 0
+amount (Profit p) = p
+
+abbrev pub mostAmount : ℕ
+mostAmount = 2 ^ 61
+
+-- a case in order, of whose table the first layer tells the best profit of every cell
+pub record Told (u : UnitRecord) (prices cells : List ℤ) : Type 0 where
+  pub order : InOrder u (length prices)
+  pub wide : width (figuresOf u (length prices)) ≤ length cells
+  pub first : (c : Cell) → InTable (figuresOf u (length prices)) c
+      → told (inFront (figuresOf u (length prices)) cells c) ≡ valueAt (figuresOf u (length prices)) anywhere prices c
+  pub small : (c : Cell) → InTable (figuresOf u (length prices)) c → natAbs (amount (valueAt (figuresOf u (length prices)) anywhere prices c)) < mostAmount
+
+-- the same with the whole table filled
 pub record Worked (u : UnitRecord) (prices cells : List ℤ) : Type 0 where
-  pub ranges : rangesKept u ≡ true
-  pub shape : shapeKept u ≡ true
-  pub short : length prices ≤ 2976
+  pub told : Told u prices cells
   pub priced : Priced prices
   pub room : cellsNeeded u (length prices) ≤ length cells
-  pub filled : Filled (figuresOf u (length prices)) prices cells
-
-abbrev pub profitIn : Best → ℤ
-profitIn (Profit p) = p
-profitIn Nothing = pos 0
-
-abbrev pub gapOf : Best → Best → Outcome
-gapOf first Nothing = Never
-gapOf Nothing (Profit q) = Never
-gapOf (Profit p) (Profit q) = Gap (p -ℤ q)
+  pub filled : Filled (figuresOf u (length prices)) anywhere prices cells

@@ -1,34 +1,37 @@
 -- Valuing: the three outcomes, or why there are none.
-use mathlib.Core.List.{List}
+use mathlib.Core.List.{List, [], _∷_, _++_}
 use Prim.Native.Nat.{ℕ}
+use lib.Dec.{leb}
 use lib.IntN.{ℤ}
 use lib.ListN.{length}
+use Rattle.commitment.specs.declared.Cause.the-variants.{Scratch}
 use Rattle.commitment.specs.declared.Checked.{Checked}
 use Rattle.commitment.specs.declared.Checked.the-variants.{Passed}
 use Rattle.commitment.specs.declared.Checked.the-variants as checked
-use Rattle.commitment.specs.declared.Limit.{Limit}
-use Rattle.commitment.specs.declared.Outcome.{Outcome}
 use Rattle.commitment.specs.declared.Outcomes.{Outcomes}
 use Rattle.commitment.specs.declared.UnitRecord.{UnitRecord}
-use Rattle.commitment.specs.Causes.{numberOf, checkedThen}
+use Rattle.commitment.specs.Causes.{numberOf, Check, _else_, firstOf}
 use Rattle.commitment.specs.Cells.{cellsNeeded}
-use Rattle.commitment.specs.Ranges.{caseChecked}
-use Rattle.commitment.specs.Valuing.{startsOutcome, hoursOutcome, mwhOutcome, outcomesOf, noOutcomes}
-use Rattle.optimality.specs.declared.Cell.{Cell}
-use Rattle.optimality.specs.Runs.{startsCell, hoursCell, mwhCell}
-use Rattle.planner.specs.Planning.{scratchChecked, scheduleChecked, scratchAfter}
-use Rattle.planner.specs.declared.Limitation.{Limitation}
-use Rattle.planner.specs.declared.Limitation.the-variants.{Starts, Hours, Mwh}
+use Rattle.commitment.specs.Ranges.{pricesKept, caseChecks}
+use Rattle.commitment.specs.Valuing.{outcomesOf, noOutcomes}
+use Rattle.planner.specs.Planning.{scheduleChecks, scratchAfter}
 use Rattle.planner.specs.declared.Valued.{Valued}
 use Rattle.planner.specs.declared.Valued.the-variants.{Outcomes as Given, Refused}
 
--- ---- the causes: 3, 4, 5, then 8, then 9
+-- ---- the causes: those of the case, then 8, then 9
+
+abbrev pub valueLentChecks : UnitRecord → List ℤ → ℕ → List Check
+valueLentChecks u prices scratch =
+    caseChecks u (pricesKept prices) (length prices) ++ (leb (cellsNeeded u (length prices)) scratch else Scratch) ∷ []
+
+abbrev pub valueChecks : UnitRecord → List ℤ → ℕ → List Check
+valueChecks u prices scratch = valueLentChecks u prices scratch ++ scheduleChecks u prices
 
 unfoldable pub valueLent : UnitRecord → List ℤ → ℕ → Checked
-valueLent u prices scratch = checkedThen (caseChecked u prices) (scratchChecked u (length prices) scratch)
+valueLent u prices scratch = firstOf (valueLentChecks u prices scratch)
 
-abbrev pub valueChecked : UnitRecord → List ℤ → ℕ → Checked
-valueChecked u prices scratch = checkedThen (valueLent u prices scratch) (scheduleChecked u prices)
+unfoldable pub valueChecked : UnitRecord → List ℤ → ℕ → Checked
+valueChecked u prices scratch = firstOf (valueChecks u prices scratch)
 
 -- ---- the answer
 
@@ -50,21 +53,3 @@ valuedNumber (Refused cause) = numberOf cause
 abbrev pub valuedOutcomes : Valued → Outcomes
 valuedOutcomes (Given outcomes) = outcomes
 valuedOutcomes (Refused cause) = noOutcomes
-
--- ---- one limitation of the three
-
-abbrev pub limitOf : UnitRecord → Limitation → Limit
-limitOf u Starts = u .starts
-limitOf u Hours = u .hours
-limitOf u Mwh = u .mwh
-
-abbrev pub outcomeOf : UnitRecord → List ℤ → Limitation → Outcome
-outcomeOf u prices Starts = startsOutcome u prices
-outcomeOf u prices Hours = hoursOutcome u prices
-outcomeOf u prices Mwh = mwhOutcome u prices
-
--- the cell that a run with k units of the limitation starts from
-abbrev pub runCell : UnitRecord → ℕ → Limitation → ℕ → Cell
-runCell u n Starts k = startsCell u n k
-runCell u n Hours k = hoursCell u n k
-runCell u n Mwh k = mwhCell u n k

@@ -1,234 +1,269 @@
--- A number is given only where its cause holds: what each cause says of a call's inputs, and that a refusal for it implies that.
-use mathlib.Core.Path.{_≡_, refl, sym, ap, subst, _∙_}
+-- A number is given exactly where its cause is the first of the call's order that holds, and an answer exactly where none holds.
+use mathlib.Core.Path.{_≡_, refl, sym, ap, _∙_}
 use mathlib.Core.Bool.{Bool, true, false, _&&_}
-use mathlib.Core.List.{List}
+use mathlib.Core.List.{List, [], _∷_, map}
+use mathlib.Core.Logic.{_↔_, _⊎_, inl, inr, ⊎-elim, Iff·rfl, Iff·trans}
 use Prim.Native.Nat.{ℕ, _<_}
 use native.Mathlib.Omega.{arith}
-use borrow.Author.Tests.{leb-false, eqb-false}
+use borrow.Author.Tests.{leb-false, lt-leb, eqb-false, ne-eqb}
 use lib.Dec.{leb, eqb}
 use lib.IntN.{ℤ}
 use lib.ListN.{length}
+use Rattle.lists.proofs.Conjunctions.{both}
 use Rattle.commitment.specs.declared.Cause.{Cause}
-use Rattle.commitment.specs.declared.Cause.the-variants.{Form, Name, Range, Shape, Horizon, Segments, Length, Scratch, NoSchedule, NotKept}
+use Rattle.commitment.specs.declared.Cause.the-variants.{NoSchedule}
 use Rattle.commitment.specs.declared.Checked.{Checked}
 use Rattle.commitment.specs.declared.Checked.the-variants.{Passed, Refused}
 use Rattle.commitment.specs.declared.CostInputs.{CostInputs}
+use Rattle.commitment.specs.declared.Outcomes.{Outcomes}
 use Rattle.commitment.specs.declared.UnitRecord.{UnitRecord}
 use Rattle.commitment.specs.Best.{Plan, nothing, plan, best}
-use Rattle.commitment.specs.Causes.{unless, checkedThen}
+use Rattle.commitment.specs.Causes.{Check, unless, firstOf}
 use Rattle.commitment.specs.Cells.{cellsNeeded}
 use Rattle.commitment.specs.Figures.{totalMw}
-use Rattle.commitment.specs.Keeping.{keepsCase}
 use Rattle.commitment.specs.Profit.{profit}
-use Rattle.commitment.specs.Ranges.{rangesKept, shapeKept, pricesKept, horizonKept, caseChecked}
-use Rattle.commitment.specs.Rivals.{Rival}
-use Rattle.commitment.specs.Schedule.{isSchedule}
+use Rattle.commitment.specs.Ranges.{rangesKept, shapeKept, pricesKept}
 use Rattle.commitment.specs.Valuing.{outcomesOf}
-use Rattle.commitment.proofs.Passing.{passing, unless-passed, then-passed}
-use Rattle.optimality.proofs.Demands.{no-schedule-exactly}
-use Rattle.casetext.specs.Form.{formKept, namesKept}
+use Rattle.commitment.proofs.Causes.{unless-passed, then-passed}
+use Rattle.optimality.proofs.Optimal.{no-schedule-exactly}
 use Rattle.casefile.specs.declared.CaseRead.the-variants as read
-use Rattle.casefile.specs.Answers.{readCase}
-use Rattle.casefile.specs.Answers as reading
-use Rattle.casefile.specs.Reading.{unitIn, pricesIn, caseKept, textChecked}
-use Rattle.costs.specs.Ranges.{inputsKept, segmentsKept, rangeMw, inputsChecked}
-use Rattle.costs.specs.Ranges as costs
+use Rattle.casefile.specs.Answers.{readBy, readCase}
+use Rattle.casefile.specs.Reading.{unitIn, pricesIn, textChecks, textChecked}
+use Rattle.costs.specs.Ranges.{rangeMw, inputsChecks, inputsChecked}
 use Rattle.costs.specs.declared.Costed.the-variants as cost
-use Rattle.costs.specs.Answers.{threeFigures, costed}
-use Rattle.costs.specs.Answers as costing
+use Rattle.costs.specs.Answers.{threeFigures, costedBy, costed}
 use Rattle.assessment.specs.declared.Assessed.the-variants as hand
-use Rattle.assessment.specs.Assessed.{handedIn, handInChecked, assessed}
-use Rattle.assessment.specs.Assessed as assessing
+use Rattle.assessment.specs.Assessed.{handInChecks, handInChecked, assessedBy, assessed}
 use Rattle.planner.specs.declared.Planned.the-variants as plans
+use Rattle.planner.specs.declared.Report.{Report}
+use Rattle.planner.specs.declared.Reported.the-variants as reports
 use Rattle.planner.specs.declared.Valued.the-variants as values
-use Rattle.planner.specs.Planning.{scratchChecked, lentChecked, planLent, hasSchedule, scheduleChecked, planChecked, plannedBy, planned}
-use Rattle.planner.specs.Valuing.{valueLent, valueChecked, valuedBy, valued}
+use Rattle.planner.specs.Planning.{hasSchedule, scheduleChecked, planChecks, planChecked, lentChecked, plannedBy, planned}
+use Rattle.planner.specs.Reporting.{reportedBy, reported}
+use Rattle.planner.specs.Valuing.{valueChecks, valueChecked, valuedBy, valued}
+use Rattle.planner.proofs.Lent.{plan-turn}
+use Rattle.promises.specs.Causes.{FirstOf, NoneOf, ReadCause, CostCause, HandCause, NoRival, PlanCause, ValueCause, readingOrder, costOrder, handInOrder, planningOrder, valuingOrder}
 
--- ---- along a chain of checks, for whatever is to hold of the cause
+-- ---- along any list of checks: each fails exactly where its cause holds, where those before it are kept
 
-module _ (Holds : Cause → Type 0) {given : Cause} where
-  refused-by : (t : Bool) (cause : Cause) (rest : Checked) → (t ≡ false → Holds cause) → (rest ≡ Refused given → Holds given)
-      → unless t cause rest ≡ Refused given → Holds given
-  refused-by true cause rest this later e = later e
-  refused-by false cause rest this later e = let same : cause ≡ given = cc in subst Holds same (this refl)
+module _ (Holds : Cause → Type 0) where
+  abbrev Judged : List Check → Type 0
+  Judged [] = Unit {0}
+  Judged (check ∷ checks) = ((check .kept ≡ false) ↔ Holds (check .cause)) × (check .kept ≡ true → Judged checks)
 
-  refused-then : (first further : Checked) → (first ≡ Refused given → Holds given) → (first ≡ Passed → further ≡ Refused given → Holds given)
-      → checkedThen first further ≡ Refused given → Holds given
-  refused-then Passed further early late e = late refl e
-  refused-then (Refused cause) further early late e = early e
+  abbrev order : List Check → List Cause
+  order checks = map (λ (check : Check). check .cause) checks
 
-  no-more : Passed ≡ Refused given → Holds given
-  no-more e = let z : _≡_ {A = ℕ} 0 1 = cc in absurd (omega arith)
+  -- a check that is kept has no cause that holds
+  kept-none : {t : Bool} {first : Cause} → (t ≡ false) ↔ Holds first → t ≡ true → Holds first → ⊥
+  kept-none judged i holds =
+      let no : true ≡ false = sym i ∙ judged .1 holds in
+      let z : _≡_ {A = ℕ} 0 1 = cc in
+      absurd (omega arith)
 
--- ---- a record and its prices: 3, 4 and 5
+  module _ (first : Cause) (rest : Checked) (later : List Cause) where
+    refused-step : {cause : Cause} (t : Bool) → (t ≡ false) ↔ Holds first → (t ≡ true → (rest ≡ Refused cause) ↔ FirstOf Holds later cause)
+        → (unless t first rest ≡ Refused cause) ↔ FirstOf Holds (first ∷ later) cause
+    refused-step true judged next =
+        let none = kept-none judged refl in
+        (λ e. inr (none, next refl .0 e), ⊎-elim (λ this. absurd (none (this .1))) (λ further. next refl .1 (further .1)))
+    refused-step {cause} false judged next =
+        let holds = judged .0 refl in
+        (λ e. let here : first ≡ cause = cc in inl (here, holds), ⊎-elim (λ this. ap Refused (this .0)) (λ further. absurd (further .0 holds)))
 
-module _ (u : UnitRecord) (prices : List ℤ) where
-  case-refused : (Holds : Cause → Type 0) {given : Cause} → ((rangesKept u && pricesKept prices) ≡ false → Holds Range)
-      → (shapeKept u ≡ false → Holds Shape) → (horizonKept (length prices) ≡ false → Holds Horizon)
-      → caseChecked u prices ≡ Refused given → Holds given
-  unfolding caseChecked
-  case-refused Holds range shape horizon =
-      refused-by Holds (rangesKept u && pricesKept prices) Range _ range
-      (refused-by Holds (shapeKept u) Shape _ shape
-      (refused-by Holds (horizonKept (length prices)) Horizon Passed horizon (no-more Holds)))
+    passed-step : (t : Bool) → (t ≡ false) ↔ Holds first → (t ≡ true → (rest ≡ Passed) ↔ NoneOf Holds later)
+        → (unless t first rest ≡ Passed) ↔ NoneOf Holds (first ∷ later)
+    passed-step true judged next = (λ e. (kept-none judged refl, next refl .0 e), λ none. next refl .1 (none .1))
+    passed-step false judged next =
+        (λ e. let z : _≡_ {A = ℕ} 0 1 = cc in absurd (omega arith), λ none. absurd (none .0 (judged .0 refl)))
+
+  refused-first : (checks : List Check) {cause : Cause} → Judged checks → (firstOf checks ≡ Refused cause) ↔ FirstOf Holds (order checks) cause
+  refused-first [] judged = (λ e. let z : _≡_ {A = ℕ} 0 1 = cc in absurd (omega arith), λ none. absurd none)
+  refused-first (check ∷ checks) judged =
+      refused-step (check .cause) (firstOf checks) (order checks) (check .kept) (judged .0) (λ i. refused-first checks (judged .1 i))
+
+  passed-none : (checks : List Check) → Judged checks → (firstOf checks ≡ Passed) ↔ NoneOf Holds (order checks)
+  passed-none [] judged = (λ e. tt, λ none. refl)
+  passed-none (check ∷ checks) judged =
+      passed-step (check .cause) (firstOf checks) (order checks) (check .kept) (judged .0) (λ i. passed-none checks (judged .1 i))
+
+-- the checks of the specification: a sum of ranges, at most, as many
+at-most : (a b : ℕ) → (leb a b ≡ false) ↔ (b < a)
+at-most a b = (leb-false a b, lt-leb a b)
+
+as-many : (a b : ℕ) → (eqb a b ≡ false) ↔ (a ≡ b → ⊥)
+as-many a b = (eqb-false a b, ne-eqb a b)
 
 -- ---- reading
 
 module _ (text : List ℕ) (room : ℕ) where
-  abbrev pub ReadCause : Cause → Type 0
-  ReadCause Form = formKept text ≡ false
-  ReadCause Name = namesKept text ≡ false
-  ReadCause Range = (rangesKept (unitIn text) && pricesKept (pricesIn text)) ≡ false
-  ReadCause Shape = shapeKept (unitIn text) ≡ false
-  ReadCause Horizon = horizonKept (length (pricesIn text)) ≡ false
-  ReadCause Segments = ⊥
-  ReadCause Length = room < length (pricesIn text)
-  ReadCause Scratch = ⊥
-  ReadCause NoSchedule = ⊥
-  ReadCause NotKept = ⊥
+  read-judged : Judged (ReadCause text room) (textChecks text room)
+  read-judged = (Iff·rfl, λ _. (Iff·rfl, λ _. (Iff·rfl, λ _. (Iff·rfl, λ _. (Iff·rfl, λ _. (at-most (length (pricesIn text)) room, λ _. tt))))))
 
-  read-cause : {given : Cause} → textChecked text room ≡ Refused given → ReadCause given
-  unfolding textChecked caseKept
-  read-cause =
-      refused-by ReadCause (formKept text) Form _ (λ e. e)
-      (refused-by ReadCause (namesKept text) Name _ (λ e. e)
-      (refused-then ReadCause (caseChecked (unitIn text) (pricesIn text)) _
-      (case-refused (unitIn text) (pricesIn text) ReadCause (λ e. e) (λ e. e) (λ e. e))
-      (λ _. refused-by ReadCause (leb (length (pricesIn text)) room) Length Passed (leb-false (length (pricesIn text)) room) (no-more ReadCause))))
-
-  pub reading-refused : {given : Cause} → readCase text room ≡ read.Refused given → ReadCause given
-  unfolding readCase
-  reading-refused {given} e = by (textChecked text room) refl e
+  pub reading-refused : {cause : Cause} → (readCase text room ≡ read.Refused cause) ↔ FirstOf (ReadCause text room) readingOrder cause
+  unfolding readCase textChecked
+  reading-refused {cause} = Iff·trans (by (textChecked text room)) (refused-first (ReadCause text room) (textChecks text room) read-judged)
     where
-      by : (k : Checked) → textChecked text room ≡ k → reading.answered k (unitIn text) (length (pricesIn text)) ≡ read.Refused given → ReadCause given
-      by Passed i e = let z : _≡_ {A = ℕ} 0 1 = cc in absurd (omega arith)
-      by (Refused cause) i e = let same : cause ≡ given = cc in read-cause (i ∙ ap Refused same)
+      by : (k : Checked) → (readBy k (unitIn text) (length (pricesIn text)) ≡ read.Refused cause) ↔ (k ≡ Refused cause)
+      by Passed = (λ e. let z : _≡_ {A = ℕ} 0 1 = cc in absurd (omega arith), λ e. let z : _≡_ {A = ℕ} 0 1 = cc in absurd (omega arith))
+      by (Refused given) = (λ e. let same : given ≡ cause = cc in ap Refused same, λ e. let same : given ≡ cause = cc in ap read.Refused same)
+
+  pub reading-answered : (readCase text room ≡ read.Case (unitIn text) (length (pricesIn text))) ↔ NoneOf (ReadCause text room) readingOrder
+  unfolding readCase textChecked
+  reading-answered = Iff·trans (by (textChecked text room)) (passed-none (ReadCause text room) (textChecks text room) read-judged)
+    where
+      by : (k : Checked) → (readBy k (unitIn text) (length (pricesIn text)) ≡ read.Case (unitIn text) (length (pricesIn text))) ↔ (k ≡ Passed)
+      by Passed = (λ e. refl, λ e. refl)
+      by (Refused given) = (λ e. let z : _≡_ {A = ℕ} 0 1 = cc in absurd (omega arith), λ e. let z : _≡_ {A = ℕ} 0 1 = cc in absurd (omega arith))
 
 -- ---- cost figures
 
 module _ (k : CostInputs) (mws heats : List ℕ) where
-  abbrev pub CostCause : Cause → Type 0
-  CostCause Form = ⊥
-  CostCause Name = ⊥
-  CostCause Range = (inputsKept k && segmentsKept mws heats) ≡ false
-  CostCause Shape = costs.shapeKept k ≡ false
-  CostCause Horizon = ⊥
-  CostCause Segments = totalMw mws ≡ rangeMw k → ⊥
-  CostCause Length = length mws ≡ length heats → ⊥
-  CostCause Scratch = ⊥
-  CostCause NoSchedule = ⊥
-  CostCause NotKept = ⊥
+  cost-judged : Judged (CostCause k mws heats) (inputsChecks k mws heats)
+  cost-judged =
+      (Iff·rfl, λ _. (Iff·rfl, λ _. (as-many (totalMw mws) (rangeMw k), λ _. (as-many (length mws) (length heats), λ _. tt))))
 
-  cost-cause : {given : Cause} → inputsChecked k mws heats ≡ Refused given → CostCause given
-  unfolding inputsChecked
-  cost-cause =
-      refused-by CostCause (inputsKept k && segmentsKept mws heats) Range _ (λ e. e)
-      (refused-by CostCause (costs.shapeKept k) Shape _ (λ e. e)
-      (refused-by CostCause (eqb (totalMw mws) (rangeMw k)) Segments _ (eqb-false (totalMw mws) (rangeMw k))
-      (refused-by CostCause (eqb (length mws) (length heats)) Length Passed (eqb-false (length mws) (length heats)) (no-more CostCause))))
-
-  pub figures-refused : {given : Cause} → costed k mws heats ≡ cost.Refused given → CostCause given
-  unfolding costed
-  figures-refused {given} e = by (inputsChecked k mws heats) refl e
+  pub figures-refused : {cause : Cause} → (costed k mws heats ≡ cost.Refused cause) ↔ FirstOf (CostCause k mws heats) costOrder cause
+  unfolding costed inputsChecked
+  figures-refused {cause} = Iff·trans (by (inputsChecked k mws heats)) (refused-first (CostCause k mws heats) (inputsChecks k mws heats) cost-judged)
     where
-      by : (c : Checked) → inputsChecked k mws heats ≡ c → costing.answered c (threeFigures k mws heats) ≡ cost.Refused given → CostCause given
-      by Passed i e = let z : _≡_ {A = ℕ} 0 1 = cc in absurd (omega arith)
-      by (Refused cause) i e = let same : cause ≡ given = cc in cost-cause (i ∙ ap Refused same)
+      by : (c : Checked) → (costedBy c (threeFigures k mws heats) ≡ cost.Refused cause) ↔ (c ≡ Refused cause)
+      by Passed = (λ e. let z : _≡_ {A = ℕ} 0 1 = cc in absurd (omega arith), λ e. let z : _≡_ {A = ℕ} 0 1 = cc in absurd (omega arith))
+      by (Refused given) = (λ e. let same : given ≡ cause = cc in ap Refused same, λ e. let same : given ≡ cause = cc in ap cost.Refused same)
+
+  pub figures-answered : (costed k mws heats ≡ cost.Figures (threeFigures k mws heats)) ↔ NoneOf (CostCause k mws heats) costOrder
+  unfolding costed inputsChecked
+  figures-answered = Iff·trans (by (inputsChecked k mws heats)) (passed-none (CostCause k mws heats) (inputsChecks k mws heats) cost-judged)
+    where
+      by : (c : Checked) → (costedBy c (threeFigures k mws heats) ≡ cost.Figures (threeFigures k mws heats)) ↔ (c ≡ Passed)
+      by Passed = (λ e. refl, λ e. refl)
+      by (Refused given) = (λ e. let z : _≡_ {A = ℕ} 0 1 = cc in absurd (omega arith), λ e. let z : _≡_ {A = ℕ} 0 1 = cc in absurd (omega arith))
 
 -- ---- handing in
 
 module _ (u : UnitRecord) (prices : List ℤ) (s : List ℕ) where
-  abbrev pub HandCause : Cause → Type 0
-  HandCause Form = ⊥
-  HandCause Name = ⊥
-  HandCause Range = (rangesKept u && pricesKept prices) ≡ false
-  HandCause Shape = shapeKept u ≡ false
-  HandCause Horizon = horizonKept (length prices) ≡ false
-  HandCause Segments = ⊥
-  HandCause Length = length s ≡ length prices → ⊥
-  HandCause Scratch = ⊥
-  HandCause NoSchedule = ⊥
-  HandCause NotKept = (isSchedule u (length prices) s && keepsCase u s) ≡ false
+  hand-judged : Judged (HandCause u prices s) (handInChecks u prices s)
+  hand-judged = (Iff·rfl, λ _. (Iff·rfl, λ _. (Iff·rfl, λ _. (as-many (length s) (length prices), λ _. (Iff·rfl, λ _. tt)))))
 
-  hand-cause : {given : Cause} → handInChecked u prices s ≡ Refused given → HandCause given
-  hand-cause =
-      refused-then HandCause (caseChecked u prices) (handedIn u prices s)
-      (case-refused u prices HandCause (λ e. e) (λ e. e) (λ e. e))
-      (λ _. refused-by HandCause (eqb (length s) (length prices)) Length _ (eqb-false (length s) (length prices))
-      (refused-by HandCause (isSchedule u (length prices) s && keepsCase u s) NotKept Passed (λ e. e) (no-more HandCause)))
-
-  pub handing-in-refused : {given : Cause} → assessed u prices s ≡ hand.Refused given → HandCause given
-  handing-in-refused {given} e = by (handInChecked u prices s) refl e
+  pub handing-in-refused : {cause : Cause} → (assessed u prices s ≡ hand.Refused cause) ↔ FirstOf (HandCause u prices s) handInOrder cause
+  unfolding handInChecked
+  handing-in-refused {cause} = Iff·trans (by (handInChecked u prices s)) (refused-first (HandCause u prices s) (handInChecks u prices s) hand-judged)
     where
-      by : (k : Checked) → handInChecked u prices s ≡ k → assessing.answered k (profit u prices s) ≡ hand.Refused given → HandCause given
-      by Passed i e = let z : _≡_ {A = ℕ} 0 1 = cc in absurd (omega arith)
-      by (Refused cause) i e = let same : cause ≡ given = cc in hand-cause (i ∙ ap Refused same)
+      by : (k : Checked) → (assessedBy k (profit u prices s) ≡ hand.Refused cause) ↔ (k ≡ Refused cause)
+      by Passed = (λ e. let z : _≡_ {A = ℕ} 0 1 = cc in absurd (omega arith), λ e. let z : _≡_ {A = ℕ} 0 1 = cc in absurd (omega arith))
+      by (Refused given) = (λ e. let same : given ≡ cause = cc in ap Refused same, λ e. let same : given ≡ cause = cc in ap hand.Refused same)
 
--- ---- planning and valuing
+  -- it is passed, with formula (7)
+  pub handing-in-passed : (assessed u prices s ≡ hand.Profit (profit u prices s)) ↔ NoneOf (HandCause u prices s) handInOrder
+  unfolding handInChecked
+  handing-in-passed = Iff·trans (by (handInChecked u prices s)) (passed-none (HandCause u prices s) (handInChecks u prices s) hand-judged)
+    where
+      by : (k : Checked) → (assessedBy k (profit u prices s) ≡ hand.Profit (profit u prices s)) ↔ (k ≡ Passed)
+      by Passed = (λ e. refl, λ e. refl)
+      by (Refused given) = (λ e. let z : _≡_ {A = ℕ} 0 1 = cc in absurd (omega arith), λ e. let z : _≡_ {A = ℕ} 0 1 = cc in absurd (omega arith))
 
-no-best : (b : Plan) → hasSchedule b ≡ false → b ≡ nothing
-no-best nothing e = refl
-no-best (plan s p) e = let z : _≡_ {A = ℕ} 0 1 = cc in absurd (omega arith)
+-- ---- planning, reporting and valuing
 
 module _ (u : UnitRecord) (prices : List ℤ) where
-  abbrev pub NoRival : Type 0
-  NoRival = (r : List ℕ) → Rival u prices r → ⊥
+  no-plan : (b : Plan) → (hasSchedule b ≡ false) ↔ (b ≡ nothing)
+  no-plan nothing = (λ e. refl, λ e. refl)
+  no-plan (plan s p) = (λ e. let z : _≡_ {A = ℕ} 0 1 = cc in absurd (omega arith), λ e. let z : _≡_ {A = ℕ} 0 1 = cc in absurd (omega arith))
 
-  no-rival : caseChecked u prices ≡ Passed → hasSchedule (best u prices) ≡ false → NoRival
-  no-rival case e =
-      let h = passing u prices case in
-      no-schedule-exactly u (h .ranges) (h .shape) prices .0 (no-best (best u prices) e)
+  no-rival : (rangesKept u && pricesKept prices) ≡ true → shapeKept (u .generator) ≡ true → (hasSchedule (best u prices) ≡ false) ↔ NoRival u prices
+  no-rival ranges shape = Iff·trans (no-plan (best u prices)) (no-schedule-exactly u (both (rangesKept u) (pricesKept prices) ranges .0) shape prices)
 
-  abbrev pub PlanCause : ℕ → ℕ → Cause → Type 0
-  PlanCause cells entries Form = ⊥
-  PlanCause cells entries Name = ⊥
-  PlanCause cells entries Range = (rangesKept u && pricesKept prices) ≡ false
-  PlanCause cells entries Shape = shapeKept u ≡ false
-  PlanCause cells entries Horizon = horizonKept (length prices) ≡ false
-  PlanCause cells entries Segments = ⊥
-  PlanCause cells entries Length = entries < length prices
-  PlanCause cells entries Scratch = cells < cellsNeeded u (length prices)
-  PlanCause cells entries NoSchedule = NoRival
-  PlanCause cells entries NotKept = ⊥
+  module _ (cells entries : ℕ) where
+    plan-judged : Judged (PlanCause u prices cells entries) (planChecks u prices cells entries)
+    plan-judged = (
+      Iff·rfl,
+      λ ranges. (
+        Iff·rfl,
+        λ shape. (Iff·rfl, λ _. (at-most (length prices) entries, λ _. (at-most (cellsNeeded u (length prices)) cells, λ _. (no-rival ranges shape, λ _. tt)))),
+      ),
+    )
 
-  plan-cause : (cells entries : ℕ) {given : Cause} → planChecked u prices cells entries ≡ Refused given → PlanCause cells entries given
-  unfolding planLent
-  plan-cause cells entries =
-      refused-then (PlanCause cells entries) (planLent u prices cells entries) (scheduleChecked u prices)
-      (refused-then (PlanCause cells entries) (caseChecked u prices) (lentChecked u (length prices) cells entries)
-      (case-refused u prices (PlanCause cells entries) (λ e. e) (λ e. e) (λ e. e))
-      (λ _. refused-by (PlanCause cells entries) (leb (length prices) entries) Length _ (leb-false (length prices) entries)
-      (refused-by (PlanCause cells entries) (leb (cellsNeeded u (length prices)) cells) Scratch Passed (leb-false (cellsNeeded u (length prices)) cells) (no-more (PlanCause cells entries)))))
-      (λ lent. refused-by (PlanCause cells entries) (hasSchedule (best u prices)) NoSchedule Passed
-      (no-rival (then-passed (caseChecked u prices) (lentChecked u (length prices) cells entries) lent .0)) (no-more (PlanCause cells entries)))
+    -- a check that passes has found a plan
+    found : planChecked u prices cells entries ≡ Passed → best u prices ≡ nothing → ⊥
+    found passed none =
+        let lent = lentChecked u prices (leb (length prices) entries) cells in
+        let turn = then-passed lent (scheduleChecked u prices) (sym (plan-turn u prices cells entries) ∙ passed) in
+        let has = unless-passed (hasSchedule (best u prices)) NoSchedule Passed (turn .1) .0 in
+        let no : false ≡ true = ap hasSchedule (sym none) ∙ has in
+        let z : _≡_ {A = ℕ} 0 1 = cc in
+        absurd (omega arith)
 
-  pub planning-refused : (cells entries : ℕ) {given : Cause} → planned u prices cells entries ≡ plans.Refused given → PlanCause cells entries given
-  planning-refused cells entries {given} e = by (planChecked u prices cells entries) (best u prices) refl refl e
-    where
-      by : (k : Checked) (b : Plan) → planChecked u prices cells entries ≡ k → best u prices ≡ b → plannedBy k b ≡ plans.Refused given
-          → PlanCause cells entries given
-      by Passed nothing i none e =
-          let has = unless-passed (hasSchedule (best u prices)) NoSchedule Passed (then-passed (planLent u prices cells entries) (scheduleChecked u prices) i .1) .0 in
-          let no : false ≡ true = ap hasSchedule (sym none) ∙ has in
-          let z : _≡_ {A = ℕ} 0 1 = cc in
-          absurd (omega arith)
-      by Passed (plan s p) i is e = let z : _≡_ {A = ℕ} 0 1 = cc in absurd (omega arith)
-      by (Refused cause) b i is e = let same : cause ≡ given = cc in plan-cause cells entries (i ∙ ap Refused same)
+    pub planning-refused : {cause : Cause} → (planned u prices cells entries ≡ plans.Refused cause)
+        ↔ FirstOf (PlanCause u prices cells entries) planningOrder cause
+    unfolding planChecked
+    planning-refused {cause} =
+        Iff·trans (by (planChecked u prices cells entries) (best u prices) refl refl)
+        (refused-first (PlanCause u prices cells entries) (planChecks u prices cells entries) plan-judged)
+      where
+        by : (k : Checked) (b : Plan) → planChecked u prices cells entries ≡ k → best u prices ≡ b → (plannedBy k b ≡ plans.Refused cause) ↔ (k ≡ Refused cause)
+        by Passed nothing i none = absurd (found i none)
+        by Passed (plan s p) i is = (λ e. let z : _≡_ {A = ℕ} 0 1 = cc in absurd (omega arith), λ e. let z : _≡_ {A = ℕ} 0 1 = cc in absurd (omega arith))
+        by (Refused given) b i is = (λ e. let same : given ≡ cause = cc in ap Refused same, λ e. let same : given ≡ cause = cc in ap plans.Refused same)
 
-  -- valuing takes no schedule slice
-  value-cause : (cells : ℕ) {given : Cause} → valueChecked u prices cells ≡ Refused given → PlanCause cells (length prices) given
-  unfolding valueLent
-  value-cause cells =
-      refused-then (PlanCause cells (length prices)) (valueLent u prices cells) (scheduleChecked u prices)
-      (refused-then (PlanCause cells (length prices)) (caseChecked u prices) (scratchChecked u (length prices) cells)
-      (case-refused u prices (PlanCause cells (length prices)) (λ e. e) (λ e. e) (λ e. e))
-      (λ _. refused-by (PlanCause cells (length prices)) (leb (cellsNeeded u (length prices)) cells) Scratch Passed (leb-false (cellsNeeded u (length prices)) cells) (no-more (PlanCause cells (length prices)))))
-      (λ lent. refused-by (PlanCause cells (length prices)) (hasSchedule (best u prices)) NoSchedule Passed
-      (no-rival (then-passed (caseChecked u prices) (scratchChecked u (length prices) cells) lent .0)) (no-more (PlanCause cells (length prices))))
+    pub reporting-refused : {cause : Cause} → (reported u prices cells entries ≡ reports.Refused cause)
+        ↔ FirstOf (PlanCause u prices cells entries) planningOrder cause
+    unfolding planChecked
+    reporting-refused {cause} =
+        Iff·trans (by (planChecked u prices cells entries) (best u prices) refl refl)
+        (refused-first (PlanCause u prices cells entries) (planChecks u prices cells entries) plan-judged)
+      where
+        by : (k : Checked) (b : Plan) → planChecked u prices cells entries ≡ k → best u prices ≡ b
+            → (reportedBy k b (outcomesOf u prices) ≡ reports.Refused cause) ↔ (k ≡ Refused cause)
+        by Passed nothing i none = absurd (found i none)
+        by Passed (plan s p) i is = (λ e. let z : _≡_ {A = ℕ} 0 1 = cc in absurd (omega arith), λ e. let z : _≡_ {A = ℕ} 0 1 = cc in absurd (omega arith))
+        by (Refused given) b i is = (λ e. let same : given ≡ cause = cc in ap Refused same, λ e. let same : given ≡ cause = cc in ap reports.Refused same)
 
-  pub valuing-refused : (cells : ℕ) {given : Cause} → valued u prices cells ≡ values.Refused given → PlanCause cells (length prices) given
-  valuing-refused cells {given} e = by (valueChecked u prices cells) refl e
-    where
-      by : (k : Checked) → valueChecked u prices cells ≡ k → valuedBy k (outcomesOf u prices) ≡ values.Refused given → PlanCause cells (length prices) given
-      by Passed i e = let z : _≡_ {A = ℕ} 0 1 = cc in absurd (omega arith)
-      by (Refused cause) i e = let same : cause ≡ given = cc in value-cause cells (i ∙ ap Refused same)
+    pub planning-answered : ((n : ℕ) × (p : ℤ) × (planned u prices cells entries ≡ plans.Plan n p)) ↔ NoneOf (PlanCause u prices cells entries) planningOrder
+    unfolding planChecked
+    planning-answered =
+        Iff·trans (by (planChecked u prices cells entries) (best u prices) refl refl)
+        (passed-none (PlanCause u prices cells entries) (planChecks u prices cells entries) plan-judged)
+      where
+        by : (k : Checked) (b : Plan) → planChecked u prices cells entries ≡ k → best u prices ≡ b
+            → ((n : ℕ) × (p : ℤ) × (plannedBy k b ≡ plans.Plan n p)) ↔ (k ≡ Passed)
+        by Passed nothing i none = absurd (found i none)
+        by Passed (plan s p) i is = (λ e. refl, λ e. (length s, p, refl))
+        by (Refused given) b i is = (λ e. lie (e .2), λ e. let z : _≡_ {A = ℕ} 0 1 = cc in absurd (omega arith))
+          where
+            lie : {n : ℕ} {p : ℤ} → plans.Refused given ≡ plans.Plan n p → Refused given ≡ Passed
+            lie e = let z : _≡_ {A = ℕ} 0 1 = cc in absurd (omega arith)
+
+    pub reporting-answered : ((r : Report) × (reported u prices cells entries ≡ reports.Report r)) ↔ NoneOf (PlanCause u prices cells entries) planningOrder
+    unfolding planChecked
+    reporting-answered =
+        Iff·trans (by (planChecked u prices cells entries) (best u prices) refl refl)
+        (passed-none (PlanCause u prices cells entries) (planChecks u prices cells entries) plan-judged)
+      where
+        by : (k : Checked) (b : Plan) → planChecked u prices cells entries ≡ k → best u prices ≡ b
+            → ((r : Report) × (reportedBy k b (outcomesOf u prices) ≡ reports.Report r)) ↔ (k ≡ Passed)
+        by Passed nothing i none = absurd (found i none)
+        by Passed (plan s p) i is = (λ e. refl, λ e. (record { count = length s; profit = p; outcomes = outcomesOf u prices }, refl))
+        by (Refused given) b i is = (λ e. lie (e .1), λ e. let z : _≡_ {A = ℕ} 0 1 = cc in absurd (omega arith))
+          where
+            lie : {r : Report} → reports.Refused given ≡ reports.Report r → Refused given ≡ Passed
+            lie e = let z : _≡_ {A = ℕ} 0 1 = cc in absurd (omega arith)
+
+  module _ (cells : ℕ) where
+    value-judged : Judged (ValueCause u prices cells) (valueChecks u prices cells)
+    value-judged =
+        (Iff·rfl, λ ranges. (Iff·rfl, λ shape. (Iff·rfl, λ _. (at-most (cellsNeeded u (length prices)) cells, λ _. (no-rival ranges shape, λ _. tt)))))
+
+    pub valuing-refused : {cause : Cause} → (valued u prices cells ≡ values.Refused cause) ↔ FirstOf (ValueCause u prices cells) valuingOrder cause
+    unfolding valueChecked
+    valuing-refused {cause} = Iff·trans (by (valueChecked u prices cells)) (refused-first (ValueCause u prices cells) (valueChecks u prices cells) value-judged)
+      where
+        by : (k : Checked) → (valuedBy k (outcomesOf u prices) ≡ values.Refused cause) ↔ (k ≡ Refused cause)
+        by Passed = (λ e. let z : _≡_ {A = ℕ} 0 1 = cc in absurd (omega arith), λ e. let z : _≡_ {A = ℕ} 0 1 = cc in absurd (omega arith))
+        by (Refused given) = (λ e. let same : given ≡ cause = cc in ap Refused same, λ e. let same : given ≡ cause = cc in ap values.Refused same)
+
+    pub valuing-answered : (valued u prices cells ≡ values.Outcomes (outcomesOf u prices)) ↔ NoneOf (ValueCause u prices cells) valuingOrder
+    unfolding valueChecked
+    valuing-answered = Iff·trans (by (valueChecked u prices cells)) (passed-none (ValueCause u prices cells) (valueChecks u prices cells) value-judged)
+      where
+        by : (k : Checked) → (valuedBy k (outcomesOf u prices) ≡ values.Outcomes (outcomesOf u prices)) ↔ (k ≡ Passed)
+        by Passed = (λ e. refl, λ e. refl)
+        by (Refused given) = (λ e. let z : _≡_ {A = ℕ} 0 1 = cc in absurd (omega arith), λ e. let z : _≡_ {A = ℕ} 0 1 = cc in absurd (omega arith))

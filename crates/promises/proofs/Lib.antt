@@ -1,5 +1,10 @@
+-- Demands: the three demands, clause by clause. The proofs that it cites: Causes, Forms, Names, Untouched, NoStart (a schedule without a start), Planning,
+-- Printed. Worked: a case computed whole.
 pub mod Causes
+mod Forms
+mod Names
 pub mod Untouched
+mod NoStart
 pub mod Planning
 pub mod Printed
 pub mod Worked

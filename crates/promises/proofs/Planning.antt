@@ -1,108 +1,152 @@
--- Planning and valuing, of the answers given: a plan is the best, 9 is given exactly when there is no rival, each outcome is what it says; a plan
--- handed in is passed with its profit.
-use mathlib.Core.Path.{_≡_, refl, sym, ap, ap₂, _∙_}
-use mathlib.Core.List.{List}
-use mathlib.Core.Logic.{_↔_}
+-- Planning and valuing, of the answers given: a plan is the best, and handed in it is passed with its profit; each outcome is what it says.
+use mathlib.Core.Path.{_≡_, refl, sym, ap, ap₂, subst, _∙_}
+use mathlib.Core.Bool.{Bool, true}
+use mathlib.Core.List.{List, _++_}
 use Prim.Native.Nat.{ℕ}
 use native.Mathlib.Omega.{arith}
+use lib.Dec.{leb}
 use lib.IntN.{ℤ}
-use lib.ListN.{length}
-use Rattle.commitment.specs.declared.Cause.the-variants.{NoSchedule}
+use lib.ListN.{length, take, drop}
+use lib.Seq.{take-append-seam, drop-append-seam}
 use Rattle.commitment.specs.declared.Checked.{Checked}
 use Rattle.commitment.specs.declared.Checked.the-variants.{Passed, Refused}
-use Rattle.commitment.specs.declared.Limit.the-variants.{At}
+use Rattle.commitment.specs.declared.Limitation.{Limitation}
+use Rattle.commitment.specs.declared.Limitation.the-variants.{Starts, Hours, Mwh}
+use Rattle.commitment.specs.declared.Outcome.the-variants.{Never}
 use Rattle.commitment.specs.declared.Outcomes.{Outcomes}
 use Rattle.commitment.specs.declared.UnitRecord.{UnitRecord}
 use Rattle.commitment.specs.Best.{Plan, nothing, plan, best}
-use Rattle.commitment.specs.Causes.{unless, checkedThen}
-use Rattle.commitment.specs.Ranges.{caseChecked}
+use Rattle.commitment.specs.Causes.{firstOf}
+use Rattle.commitment.specs.Ranges.{pricesKept, caseChecked}
 use Rattle.commitment.specs.Rivals.{IsBest}
-use Rattle.commitment.specs.Valuing.{limited, outcomesOf}
-use Rattle.commitment.proofs.Passing.{passing, then-passed}
+use Rattle.commitment.specs.Valuing.{outcomeOf, outcomesOf}
+use Rattle.commitment.proofs.Causes.{then-passed}
+use Rattle.commitment.proofs.Passing.{passing}
 use Rattle.optimality.specs.Outcomes.{Says}
-use Rattle.optimality.proofs.Demands.{plan-exactly, no-schedule-exactly, starts-outcome-exactly, hours-outcome-exactly, mwh-outcome-exactly}
+use Rattle.optimality.proofs.Optimal.{plan-exactly, outcome-exactly}
 use Rattle.assessment.specs.declared.Assessed.the-variants.{Profit}
 use Rattle.assessment.specs.Assessed.{assessed}
 use Rattle.assessment.proofs.Passed.{passed-exactly}
 use Rattle.planner.specs.declared.Planned.the-variants as plans
+use Rattle.planner.specs.declared.Reported.the-variants as reports
+use Rattle.planner.specs.declared.Report.{Report}
 use Rattle.planner.specs.declared.Valued.the-variants as values
-use Rattle.planner.specs.Planning.{scratchChecked, lentChecked, planLent, hasSchedule, scheduleChecked, planChecked, plannedBy, planned, plannedPart, partGiven}
+use Rattle.planner.specs.Planning.{slicesChecks, lentChecked, scheduleChecked, planChecked, plannedBy, planned, scheduleAfter, scheduleLeft}
+use Rattle.planner.specs.Reporting.{reportedBy, reported}
 use Rattle.planner.specs.Valuing.{valueLent, valueChecked, valuedBy, valued}
-use Rattle.promises.proofs.Causes.{NoRival, planning-refused, valuing-refused}
+use Rattle.planner.proofs.Lent.{lent-turn, value-lent, plan-turn, value-turn}
+use Rattle.promises.specs.Causes.{NoRival}
+use Rattle.promises.specs.Outcomes.{outcomeFor}
+use Rattle.promises.proofs.Causes.{valuing-answered, reporting-answered}
+use Rattle.promises.proofs.NoStart.{none-lower-none}
 
-module _ (u : UnitRecord) (prices : List ℤ) (cells entries : ℕ) where
-  abbrev planOf : List ℕ
-  planOf = partGiven u prices cells entries
+module _ (u : UnitRecord) (prices : List ℤ) where
+  abbrev InCase : Type 0
+  InCase = caseChecked u (pricesKept prices) (length prices) ≡ Passed
 
-  lent-case : planLent u prices cells entries ≡ Passed → caseChecked u prices ≡ Passed
-  unfolding planLent
-  lent-case lent = then-passed (caseChecked u prices) (lentChecked u (length prices) cells entries) lent .0
+  lent-case : (long : Bool) (cells : ℕ) → lentChecked u prices long cells ≡ Passed → InCase
+  lent-case long cells lent =
+      let slices = firstOf (slicesChecks u (length prices) long cells) in
+      then-passed (caseChecked u (pricesKept prices) (length prices)) slices (sym (lent-turn u prices long cells) ∙ lent) .0
 
-  -- an answer that is a plan comes from a case in order and its best plan
-  planned-by : (n : ℕ) (p : ℤ) → planned u prices cells entries ≡ plans.Plan n p → (caseChecked u prices ≡ Passed) × (best u prices ≡ plan planOf p)
-  planned-by n p e = by (planChecked u prices cells entries) (best u prices) refl refl e
+  pub plan-case : (cells entries : ℕ) → planChecked u prices cells entries ≡ Passed → InCase
+  plan-case cells entries e =
+      let lent = lentChecked u prices (leb (length prices) entries) cells in
+      let turn = then-passed lent (scheduleChecked u prices) (sym (plan-turn u prices cells entries) ∙ e) in
+      lent-case (leb (length prices) entries) cells (turn .0)
+
+  -- ---- a plan, and the schedule slice after it
+
+  pub record Given (cells : ℕ) (was : List ℕ) (n : ℕ) (p : ℤ) : Type 0 where
+    pub case : InCase
+    pub best-is : best u prices ≡ plan (take n (scheduleLeft u prices cells was)) p
+    pub rest : drop n (scheduleLeft u prices cells was) ≡ drop n was
+
+  given-by : (cells : ℕ) (was : List ℕ) (s : List ℕ) (p : ℤ) → planChecked u prices cells (length was) ≡ Passed
+      → best u prices ≡ plan s p → Given cells was (length s) p
+  given-by cells was s p i is =
+      let left : scheduleLeft u prices cells was ≡ s ++ drop (length s) was = ap₂ (λ (k : Checked) (b : Plan). scheduleAfter k b was) i is in
+      record {
+        case = plan-case cells (length was) i;
+        best-is = is ∙ ap (λ (t : List ℕ). plan t p) (sym (ap (take (length s)) left ∙ take-append-seam s (drop (length s) was)));
+        rest = ap (drop (length s)) left ∙ drop-append-seam s (drop (length s) was);
+      }
+
+  pub plan-given : (cells : ℕ) (was : List ℕ) (n : ℕ) (p : ℤ) → planned u prices cells (length was) ≡ plans.Plan n p → Given cells was n p
+  plan-given cells was n p e = by (planChecked u prices cells (length was)) (best u prices) refl refl e
     where
-      by : (k : Checked) (b : Plan) → planChecked u prices cells entries ≡ k → best u prices ≡ b → plannedBy k b ≡ plans.Plan n p
-          → (caseChecked u prices ≡ Passed) × (best u prices ≡ plan planOf p)
+      by : (k : Checked) (b : Plan) → planChecked u prices cells (length was) ≡ k → best u prices ≡ b → plannedBy k b ≡ plans.Plan n p → Given cells was n p
       by Passed nothing i is e = let z : _≡_ {A = ℕ} 0 1 = cc in absurd (omega arith)
       by Passed (plan s q) i is e =
+          let count : length s ≡ n = cc in
           let same : q ≡ p = cc in
-          let part : planOf ≡ s = ap₂ plannedPart i is in
-          (lent-case (then-passed (planLent u prices cells entries) (scheduleChecked u prices) i .0), is ∙ ap₂ plan (sym part) same)
+          subst (λ (m : ℕ). Given cells was m p) count (given-by cells was s p i (is ∙ ap (plan s) same))
       by (Refused cause) b i is e = let z : _≡_ {A = ℕ} 0 1 = cc in absurd (omega arith)
 
-  pub planned-is-best : (n : ℕ) (p : ℤ) → planned u prices cells entries ≡ plans.Plan n p → IsBest u prices planOf p
-  planned-is-best n p e =
-      let f = planned-by n p e in
-      let h = passing u prices (f .0) in
-      plan-exactly u (h .ranges) (h .shape) prices planOf p .0 (f .1)
-
-  pub plan-is-passed : (n : ℕ) (p : ℤ) → planned u prices cells entries ≡ plans.Plan n p → assessed u prices planOf ≡ Profit p
-  plan-is-passed n p e =
-      let b = planned-is-best n p e in
-      passed-exactly u prices planOf p .1 (planned-by n p e .0, b .own, b .earns)
-
-  -- where no other cause holds
-  pub nine-exactly : planLent u prices cells entries ≡ Passed → (planned u prices cells entries ≡ plans.Refused NoSchedule) ↔ NoRival u prices
-  nine-exactly lent = (planning-refused u prices cells entries, given)
+  pub report-given : (cells : ℕ) (was : List ℕ) (r : Report) → reported u prices cells (length was) ≡ reports.Report r
+      → Given cells was (r .count) (r .profit) × (r .outcomes ≡ outcomesOf u prices)
+  report-given cells was r e = by (planChecked u prices cells (length was)) (best u prices) refl refl e
     where
-      given : NoRival u prices → planned u prices cells entries ≡ plans.Refused NoSchedule
-      given none =
-          let h = passing u prices (lent-case lent) in
-          ap₂ (λ (k : Checked) (b : Plan). plannedBy (checkedThen k (unless (hasSchedule b) NoSchedule Passed)) b) lent
-          (no-schedule-exactly u (h .ranges) (h .shape) prices .1 none)
+      by : (k : Checked) (b : Plan) → planChecked u prices cells (length was) ≡ k → best u prices ≡ b → reportedBy k b (outcomesOf u prices) ≡ reports.Report r
+          → Given cells was (r .count) (r .profit) × (r .outcomes ≡ outcomesOf u prices)
+      by Passed nothing i is e = let z : _≡_ {A = ℕ} 0 1 = cc in absurd (omega arith)
+      by Passed (plan s q) i is e =
+          let same : record { count = length s; profit = q; outcomes = outcomesOf u prices } ≡ r = cc in
+          (subst (λ (x : Report). Given cells was (x .count) (x .profit)) same (given-by cells was s q i is), sym (ap (λ (x : Report). x .outcomes) same))
+      by (Refused cause) b i is e = let z : _≡_ {A = ℕ} 0 1 = cc in absurd (omega arith)
 
-module _ (u : UnitRecord) (prices : List ℤ) (cells : ℕ) where
-  lent-value : valueLent u prices cells ≡ Passed → caseChecked u prices ≡ Passed
-  unfolding valueLent
-  lent-value lent = then-passed (caseChecked u prices) (scratchChecked u (length prices) cells) lent .0
+  pub given-is-best : (cells : ℕ) (was : List ℕ) (n : ℕ) (p : ℤ) → Given cells was n p → IsBest u prices (take n (scheduleLeft u prices cells was)) p
+  given-is-best cells was n p g =
+      let h = passing u (pricesKept prices) (length prices) (g .case) .order in
+      plan-exactly u (h .ranges) (h .shape) prices (take n (scheduleLeft u prices cells was)) p .0 (g .best-is)
 
-  pub value-nine-exactly : valueLent u prices cells ≡ Passed → (valued u prices cells ≡ values.Refused NoSchedule) ↔ NoRival u prices
-  value-nine-exactly lent = (valuing-refused u prices cells, given)
+  pub given-is-passed : (cells : ℕ) (was : List ℕ) (n : ℕ) (p : ℤ) → Given cells was n p
+      → assessed u prices (take n (scheduleLeft u prices cells was)) ≡ Profit p
+  given-is-passed cells was n p g =
+      let b = given-is-best cells was n p g in
+      passed-exactly u prices (take n (scheduleLeft u prices cells was)) p .1 (g .case, b .own, b .earns)
+
+  -- ---- the outcomes
+
+  pub value-case : (cells : ℕ) (o : Outcomes) → valued u prices cells ≡ values.Outcomes o → InCase × (o ≡ outcomesOf u prices)
+  value-case cells o e = by (valueChecked u prices cells) refl e
     where
-      given : NoRival u prices → valued u prices cells ≡ values.Refused NoSchedule
-      given none =
-          let h = passing u prices (lent-value lent) in
-          ap₂ (λ (k : Checked) (b : Plan). valuedBy (checkedThen k (unless (hasSchedule b) NoSchedule Passed)) (outcomesOf u prices)) lent
-          (no-schedule-exactly u (h .ranges) (h .shape) prices .1 none)
-
-  valued-by : (o : Outcomes) → valued u prices cells ≡ values.Outcomes o → (caseChecked u prices ≡ Passed) × (o ≡ outcomesOf u prices)
-  valued-by o e = by (valueChecked u prices cells) refl e
-    where
-      by : (k : Checked) → valueChecked u prices cells ≡ k → valuedBy k (outcomesOf u prices) ≡ values.Outcomes o
-          → (caseChecked u prices ≡ Passed) × (o ≡ outcomesOf u prices)
+      by : (k : Checked) → valueChecked u prices cells ≡ k → valuedBy k (outcomesOf u prices) ≡ values.Outcomes o → InCase × (o ≡ outcomesOf u prices)
       by Passed i e =
-          let same : outcomesOf u prices ≡ o = cc in (lent-value (then-passed (valueLent u prices cells) (scheduleChecked u prices) i .0), sym same)
+          let same : outcomesOf u prices ≡ o = cc in
+          let turn = then-passed (valueLent u prices cells) (scheduleChecked u prices) (sym (value-turn u prices cells) ∙ i) in
+          (lent-case true cells (value-lent u prices cells ∙ turn .0), sym same)
       by (Refused cause) i e = let z : _≡_ {A = ℕ} 0 1 = cc in absurd (omega arith)
 
-  pub outcomes-say : (o : Outcomes) → valued u prices cells ≡ values.Outcomes o
-      → Says (λ k. limited u (At k) (u .hours) (u .mwh)) prices (u .starts) (o .starts)
-      × Says (λ k. limited u (u .starts) (At k) (u .mwh)) prices (u .hours) (o .hours)
-      × Says (λ k. limited u (u .starts) (u .hours) (At k)) prices (u .mwh) (o .mwh)
-  outcomes-say o e =
-      let f = valued-by o e in
-      let h = passing u prices (f .0) in (
-        starts-outcome-exactly u (h .ranges) (h .shape) prices (o .starts) .0 (ap (λ (x : Outcomes). x .starts) (f .1)),
-        hours-outcome-exactly u (h .ranges) (h .shape) prices (o .hours) .0 (ap (λ (x : Outcomes). x .hours) (f .1)),
-        mwh-outcome-exactly u (h .ranges) (h .shape) prices (o .mwh) .0 (ap (λ (x : Outcomes). x .mwh) (f .1)),
-      )
+  outcomes-of : (o : Outcomes) → InCase → o ≡ outcomesOf u prices → (which : Limitation) → Says u prices which (outcomeFor o which)
+  outcomes-of o case is which =
+      let h = passing u (pricesKept prices) (length prices) case .order in
+      outcome-exactly u (h .ranges) (h .shape) prices which (outcomeFor o which) .0 (by which)
+    where
+      by : (which : Limitation) → outcomeFor o which ≡ outcomeOf u prices which
+      by Starts = ap (λ (x : Outcomes). x .starts) is
+      by Hours = ap (λ (x : Outcomes). x .hours) is
+      by Mwh = ap (λ (x : Outcomes). x .mwh) is
+
+  pub value-says : (cells : ℕ) (o : Outcomes) → valued u prices cells ≡ values.Outcomes o → (which : Limitation) → Says u prices which (outcomeFor o which)
+  value-says cells o e = let f = value-case cells o e in outcomes-of o (f .0) (f .1)
+
+  pub report-says : (cells : ℕ) (was : List ℕ) (r : Report) → reported u prices cells (length was) ≡ reports.Report r
+      → (which : Limitation) → Says u prices which (outcomeFor (r .outcomes) which)
+  report-says cells was r e = let f = report-given cells was r e in outcomes-of (r .outcomes) (f .0 .case) (f .1)
+
+  -- ---- `never` for starts
+
+  starts-not-never : (o : Outcomes) → ((which : Limitation) → Says u prices which (outcomeFor o which)) → (NoRival u prices → ⊥) → o .starts ≡ Never → ⊥
+  starts-not-never o says some e =
+      let never = subst (Says u prices Starts) e (says Starts) in
+      some (none-lower-none u prices (never .less) (never .none-lower))
+
+  pub value-starts : (cells : ℕ) (o : Outcomes) → valued u prices cells ≡ values.Outcomes o → o .starts ≡ Never → ⊥
+  value-starts cells o e =
+      let given = e ∙ ap values.Outcomes (value-case cells o e .1) in
+      starts-not-never o (value-says cells o e) (valuing-answered u prices cells .0 given .1 .1 .1 .1 .0)
+
+  pub report-starts : (cells : ℕ) (was : List ℕ) (r : Report) → reported u prices cells (length was) ≡ reports.Report r → r .outcomes .starts ≡ Never → ⊥
+  report-starts cells was r e =
+      starts-not-never (r .outcomes) (report-says cells was r e) (reporting-answered u prices cells (length was) .0 (r, e) .1 .1 .1 .1 .1 .0)

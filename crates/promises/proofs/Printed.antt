@@ -13,9 +13,10 @@ use Rattle.commitment.specs.declared.Outcomes.{Outcomes}
 use Rattle.commitment.specs.declared.UnitRecord.{UnitRecord}
 use Rattle.commitment.specs.Best.{Plan, nothing, plan, best}
 use Rattle.commitment.specs.Causes.{numberOf}
-use Rattle.commitment.specs.Ranges.{caseChecked}
-use Rattle.commitment.proofs.Passing.{passing, then-passed}
-use Rattle.optimality.proofs.Demands.{plan-length}
+use Rattle.commitment.specs.Bounds.{mostIntervals}
+use Rattle.commitment.specs.Ranges.{pricesKept}
+use Rattle.commitment.proofs.Passing.{passing}
+use Rattle.optimality.proofs.Optimal.{plan-length}
 use Rattle.casefile.specs.declared.CaseRead.{CaseRead}
 use Rattle.casefile.specs.declared.CaseRead.the-variants as read
 use Rattle.casefile.specs.Answers.{readCase}
@@ -23,14 +24,15 @@ use Rattle.casefile.specs.Reading.{pricesIn}
 use Rattle.listing.specs.declared.Fit.{Fit}
 use Rattle.listing.specs.declared.Fit.the-variants.{Bytes, TooLong}
 use Rattle.listing.specs.declared.Written.the-variants as written
-use Rattle.listing.specs.Listing.{intervalLine, intervalLines, listing, refusal, fitted, answered}
+use Rattle.listing.specs.Listing.{intervalLine, intervalLines, listing, refusal, fitted, writtenBy}
 use Rattle.listing.proofs.Numbers.{number-short}
 use Rattle.listing.proofs.Lengths.{signed-short, outcome-short, line-length, profit-length, outcomes-length, listing-length, refusal-length}
 use Rattle.planner.specs.declared.Reported.{Reported}
 use Rattle.planner.specs.declared.Reported.the-variants as answer
-use Rattle.planner.specs.Planning.{planLent, lentChecked, scheduleChecked, planChecked, plannedPart}
+use Rattle.planner.specs.Planning.{planChecked, plannedPart}
 use Rattle.planner.specs.Reporting.{reported}
 use Rattle.answers.specs.Printing.{reportPrinted, casePrinted, readPrinted, printed}
+use Rattle.promises.proofs.Planning.{plan-case}
 
 -- the program's buffer
 abbrev pub room : ℕ
@@ -44,7 +46,7 @@ lines-most i (mw ∷ s) =
     omega
     (arith, length-append (intervalLine i mw) (intervalLines (suc i) s), line-length i mw, number-short i, number-short mw, lines-most (suc i) s)
 
-listing-most : (s : List ℕ) (p : ℤ) (o : Outcomes) → length s ≤ 2976 → length (listing s p o) ≤ room
+listing-most : (s : List ℕ) (p : ℤ) (o : Outcomes) → length s ≤ mostIntervals → length (listing s p o) ≤ room
 listing-most s p o short =
     omega
     (arith, short, listing-length s p o, lines-most 1 s, profit-length p, signed-short p, outcomes-length o, outcome-short (o .starts), outcome-short (o .hours), outcome-short (o .mwh))
@@ -52,7 +54,7 @@ listing-most s p o short =
 refusal-most : (n : ℕ) → length (refusal n) ≤ room
 refusal-most n = omega (arith, refusal-length n, number-short n)
 
-report-most : (r : Reported) (outputs : List ℕ) → length outputs ≤ 2976 → length (reportPrinted r outputs) ≤ room
+report-most : (r : Reported) (outputs : List ℕ) → length outputs ≤ mostIntervals → length (reportPrinted r outputs) ≤ room
 report-most (answer.Report r) outputs short = listing-most outputs (r .profit) (r .outcomes) short
 report-most (answer.Refused cause) outputs short = refusal-most (numberOf cause)
 
@@ -60,13 +62,10 @@ report-most (answer.Refused cause) outputs short = refusal-most (numberOf cause)
 
 module _ (u : UnitRecord) (prices : List ℤ) (cells entries : ℕ) where
   -- a plan is no longer than the prices of a case in order
-  part-most : (k : Checked) (b : Plan) → planChecked u prices cells entries ≡ k → best u prices ≡ b → length (plannedPart k b) ≤ 2976
-  unfolding planLent
+  part-most : (k : Checked) (b : Plan) → planChecked u prices cells entries ≡ k → best u prices ≡ b → length (plannedPart k b) ≤ mostIntervals
   part-most Passed (plan s p) e is =
-      let lent = then-passed (planLent u prices cells entries) (scheduleChecked u prices) e .0 in
-      let case = then-passed (caseChecked u prices) (lentChecked u (length prices) cells entries) lent .0 in
-      let h = passing u prices case in
-      omega (arith, plan-length u (h .ranges) (h .shape) prices s p is, h .most-prices)
+      let h = passing u (pricesKept prices) (length prices) (plan-case u prices cells entries e) .order in
+      omega (arith, plan-length u (h .ranges) (h .shape) prices s p is, h .short)
   part-most Passed nothing e is = omega arith
   part-most (Refused cause) b e is = omega arith
 
@@ -84,7 +83,7 @@ printed-fits text prices cells entries = read-most (readCase text prices) (price
 
 -- so that every text gets all of its bytes
 pub every-text-is-answered : (text : List ℕ) (prices cells entries : ℕ)
-    → answered (fitted (length (printed text prices cells entries)) room) ≡ written.Bytes (length (printed text prices cells entries))
+    → writtenBy (fitted (length (printed text prices cells entries)) room) ≡ written.Bytes (length (printed text prices cells entries))
 every-text-is-answered text prices cells entries =
     let n = length (printed text prices cells entries) in
-    ap (λ (t : Bool). answered (cond {A = Fit} t (Bytes n) TooLong)) (le-leb n room (printed-fits text prices cells entries))
+    ap (λ (t : Bool). writtenBy (cond {A = Fit} t (Bytes n) TooLong)) (le-leb n room (printed-fits text prices cells entries))

@@ -1,6 +1,6 @@
--- On a refusal the price slice and the schedule slice are as they were.
+-- On a refusal the price slice and the schedule slice are as they were, and the part that comes back is empty.
 use mathlib.Core.Path.{_≡_, refl}
-use mathlib.Core.List.{List}
+use mathlib.Core.List.{List, []}
 use Prim.Native.Nat.{ℕ}
 use native.Mathlib.Omega.{arith}
 use lib.IntN.{ℤ}
@@ -10,25 +10,42 @@ use Rattle.commitment.specs.declared.Checked.{Checked}
 use Rattle.commitment.specs.declared.Checked.the-variants.{Passed, Refused}
 use Rattle.commitment.specs.declared.UnitRecord.{UnitRecord}
 use Rattle.commitment.specs.Best.{Plan, nothing, plan, best}
+use Rattle.commitment.specs.Valuing.{outcomesOf}
 use Rattle.casefile.specs.declared.CaseRead.the-variants as reading
-use Rattle.casefile.specs.Answers.{answered, filled, readCase, readPrices}
+use Rattle.casefile.specs.Answers.{readBy, pricesLeft, frontPart, readCase, readPrices, readPart}
 use Rattle.casefile.specs.Reading.{unitIn, pricesIn, textChecked}
 use Rattle.planner.specs.declared.Planned.the-variants as planning
-use Rattle.planner.specs.Planning.{planChecked, plannedBy, planned, scheduleAfter, scheduleLeft}
+use Rattle.planner.specs.declared.Reported.the-variants as reporting
+use Rattle.planner.specs.Planning.{planChecked, plannedBy, planned, plannedPart, partGiven, scheduleAfter, scheduleLeft}
+use Rattle.planner.specs.Reporting.{reportedBy, reported}
 
-pub prices-untouched : (text : List ℕ) (slice : List ℤ) {cause : Cause} → readCase text (length slice) ≡ reading.Refused cause → readPrices text slice ≡ slice
-unfolding readCase readPrices
+pub prices-untouched : (text : List ℕ) (slice : List ℤ) {cause : Cause} → readCase text (length slice) ≡ reading.Refused cause
+    → (readPrices text slice ≡ slice) × (readPart text (length slice) ≡ [])
+unfolding readCase readPrices readPart
 prices-untouched text slice {cause} e = by (textChecked text (length slice)) e
   where
-    by : (k : Checked) → answered k (unitIn text) (length (pricesIn text)) ≡ reading.Refused cause → filled k (pricesIn text) slice ≡ slice
+    by : (k : Checked) → readBy k (unitIn text) (length (pricesIn text)) ≡ reading.Refused cause
+        → (pricesLeft k (pricesIn text) slice ≡ slice) × (frontPart k (pricesIn text) ≡ [])
     by Passed e = let z : _≡_ {A = ℕ} 0 1 = cc in absurd (omega arith)
-    by (Refused c) e = refl
+    by (Refused c) e = (refl, refl)
 
-pub schedule-untouched : (u : UnitRecord) (prices : List ℤ) (cells : ℕ) (slice : List ℕ) {cause : Cause} → planned u prices cells (length slice) ≡ planning.Refused cause
-    → scheduleLeft u prices cells slice ≡ slice
-schedule-untouched u prices cells slice {cause} e = by (planChecked u prices cells (length slice)) (best u prices) e
-  where
-    by : (k : Checked) (b : Plan) → plannedBy k b ≡ planning.Refused cause → scheduleAfter k b slice ≡ slice
-    by Passed nothing e = refl
-    by Passed (plan s p) e = let z : _≡_ {A = ℕ} 0 1 = cc in absurd (omega arith)
-    by (Refused c) b e = refl
+module _ (u : UnitRecord) (prices : List ℤ) (cells : ℕ) (slice : List ℕ) where
+  abbrev Untouched : Type 0
+  Untouched = (scheduleLeft u prices cells slice ≡ slice) × (partGiven u prices cells (length slice) ≡ [])
+
+  pub plan-untouched : {cause : Cause} → planned u prices cells (length slice) ≡ planning.Refused cause → Untouched
+  plan-untouched {cause} e = by (planChecked u prices cells (length slice)) (best u prices) e
+    where
+      by : (k : Checked) (b : Plan) → plannedBy k b ≡ planning.Refused cause → (scheduleAfter k b slice ≡ slice) × (plannedPart k b ≡ [])
+      by Passed nothing e = (refl, refl)
+      by Passed (plan s p) e = let z : _≡_ {A = ℕ} 0 1 = cc in absurd (omega arith)
+      by (Refused c) b e = (refl, refl)
+
+  pub report-untouched : {cause : Cause} → reported u prices cells (length slice) ≡ reporting.Refused cause → Untouched
+  report-untouched {cause} e = by (planChecked u prices cells (length slice)) (best u prices) e
+    where
+      by : (k : Checked) (b : Plan) → reportedBy k b (outcomesOf u prices) ≡ reporting.Refused cause
+          → (scheduleAfter k b slice ≡ slice) × (plannedPart k b ≡ [])
+      by Passed nothing e = (refl, refl)
+      by Passed (plan s p) e = let z : _≡_ {A = ℕ} 0 1 = cc in absurd (omega arith)
+      by (Refused c) b e = (refl, refl)

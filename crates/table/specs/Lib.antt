@@ -1,3 +1,2 @@
--- What is read off the layers, one topic a file.
+-- What is read off the layers.
 pub mod Reading
-pub mod Answers

@@ -1,24 +1,47 @@
--- The output that is read off a cell, by the numbers that the cells of the next layer hold.
-use mathlib.Core.Bool.{cond, not, _&&_}
-use Prim.Native.Nat.{ℕ, zero, suc}
-use lib.IntN.{ℤ}
+-- The output that is read off a cell, by the numbers that the cells of the next layer hold, and the schedule of a plan.
+use mathlib.Core.Path.{_≡_}
+use mathlib.Core.Bool.{Bool, cond, not, _&&_}
+use mathlib.Core.List.{List, [], _++_}
+use Prim.Native.Nat.{ℕ, zero, suc, _+_, _-_, _*_, _≤_}
+use lib.Dec.{leb}
+use lib.IntN.{ℤ, pos, _+ℤ_}
+use lib.ListN.{length, getD, drop}
 use lib.Signed.{ltZ}
+use Rattle.commitment.specs.Best.{Plan, nothing, plan}
 use Rattle.optimality.specs.declared.Figures.{Figures}
 use Rattle.optimality.specs.declared.Cell.{Cell}
-use Rattle.optimality.specs.Cells.{offCell, onCell, rungs}
-use Rattle.layers.specs.Turns.{offHeld, roomFor, onHeld}
+use Rattle.optimality.specs.Machine.{anywhere}
+use Rattle.optimality.specs.Cells.{startTakes, offCell, onCell, rungs, planAt}
+use Rattle.layers.specs.Turns.{net, offStored, roomFor, onStored}
 
-module _ (f : Figures) (held : Cell → ℤ) (c : Cell) where
+module _ (f : Figures) (stored : Cell → ℤ) (c : Cell) where
   -- the first of so many outputs from k on that reaches the best
   unfoldable pub firstOn : ℤ → ℤ → ℕ → ℕ → ℕ
   firstOn price best k zero = k
-  firstOn price best k (suc count) = cond (roomFor f held c k && not (ltZ (onHeld f held c price k) best)) k (firstOn price best (suc k) count)
+  firstOn price best k (suc count) = cond (roomFor f stored c k && not (ltZ (onStored f stored c price k) best)) k (firstOn price best (suc k) count)
 
   -- so many blocks, 0 for off
   unfoldable pub chosen : ℤ → ℤ → ℕ
-  chosen price best = cond (ltZ (offHeld f held c) best) (firstOn price best (f .pmin) (rungs f)) 0
+  chosen price best = cond (ltZ (offStored f stored c) best) (firstOn price best (f .pmin) (rungs f)) 0
+
+-- whether the blocks left allow k, from a cell with z of them, and it reaches the best; its cells stand in the row at `row`
+abbrev pub reachesBest : Figures → List ℤ → ℕ → ℕ → ℤ → ℕ → ℤ → ℕ → Bool
+reachesBest f cells row z price pays best k =
+    leb (k * f .perblock) z && not (ltZ (getD cells (row + (z - k * f .perblock)) (pos 0) +ℤ net f price pays k) best)
+
+-- what an interval with so many blocks takes is left, none where it is off
+abbrev pub Allowed : Figures → Cell → ℕ → Type 0
+Allowed f c k = (k ≡ 0 → ⊥) → (startTakes f (c .state) ≤ c .starts) × (f .peron ≤ c .ons) × (k * f .perblock ≤ c .blocks)
 
 -- where so many blocks lead
 abbrev pub nextCell : Figures → Cell → ℕ → Cell
 nextCell f c zero = offCell f c
 nextCell f c (suc k) = onCell f c (suc k)
+
+abbrev pub scheduleOf : Plan → List ℕ
+scheduleOf nothing = []
+scheduleOf (plan s p) = s
+
+-- the best plan from a cell stands in the schedule's front, and the rest is as it was
+abbrev pub ReadOff : Figures → List ℤ → Cell → List ℕ → List ℕ → Type 0
+ReadOff f prices from was schedule = schedule ≡ scheduleOf (planAt f anywhere prices from) ++ drop (length prices) was

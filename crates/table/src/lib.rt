@@ -1,37 +1,29 @@
 // Reading a table that is filled: the best profit of any cell of the first layer, and the best plan from it, interval by interval the first
-// output that reaches the number of the cell where the plan stands.
+// output that reaches the number of the cell where the plan stands (mod reading; proofs/ Choosing and Plans).
 
 mod reading;
 
+use commitment::BestProfit;
 use optimality::Cell;
 use optimality::Figures;
 ghost use mathlib.Core.Path.{_≡_};
-ghost use mathlib.Core.List.{_++_};
 ghost use Prim.Native.Nat.{_≤_};
-ghost use lib.ListN.{length, drop};
-ghost use Rattle.optimality.specs.Machine.{noSchedule};
-ghost use Rattle.optimality.specs.Cells.{InTable, planAt, valueAt};
-ghost use Rattle.layers.specs.Layers.{width, Filled, Priced, Room};
-ghost use Rattle.table.specs.Answers.{bestOf, scheduleOf};
+ghost use lib.ListN.{length};
+ghost use Rattle.optimality.specs.Machine.{anywhere};
+ghost use Rattle.commitment.specs.declared.BestProfit.the-variants.{Nothing};
+ghost use Rattle.optimality.specs.Cells.{InTable, valueAt, Sound};
+ghost use Rattle.geometry.specs.Geometry.{width};
+ghost use Rattle.geometry.specs.Layers.{Filled, Room, told, inFront};
+ghost use Rattle.commitment.specs.Ranges.{Priced};
+ghost use Rattle.table.specs.Reading.{ReadOff};
 
-pub enum Best {
-    Profit(i64),
-    Nothing,
-}
-
-// The best profit from a cell of the first layer, where it has a schedule.
-pub fn best_at(scratch: &[i64], f: Figures, prices: &[i64], at: Cell) -> Best
-    requires { ⌜ Room f (length (now prices)) (length (now scratch)) ⌝ }
-    requires { ⌜ Filled f (now prices) (now scratch) ⌝ }
-    requires { ⌜ InTable f at ⌝ }
-    ensures { λ r. ⌜ r ≡ bestOf (valueAt f (now (prices .entry)) at) ⌝ }
+// The best profit that a cell of the first layer tells.
+pub fn best_at(scratch: &[i64], f: Figures, at: Cell) -> BestProfit
+    requires { ⌜ (Sound f) × (InTable f at) × (width f ≤ length (now scratch)) ⌝ }
+    ensures { λ r. ⌜ r ≡ told (inFront f (now (scratch .entry)) at) ⌝ }
 {
-    let i = reading::index(f, at);
-    let v = scratch[i];
-    if v < -2305843009213693952 {
-        return Best::Nothing;
-    }
-    Best::Profit(v)
+    let i = geometry::index(f, at);
+    geometry::told(scratch[i])
 }
 
 // The best plan from a cell of the first layer that has one, output by output.
@@ -44,18 +36,18 @@ pub fn read_off(
     schedule: &mut [u64],
 )
     requires { ⌜ (Room f (length (now prices)) (length (now scratch))) × (w ≡ width f) × (Priced (now prices)) ⌝ }
-    requires { ⌜ Filled f (now prices) (now scratch) ⌝ }
+    requires { ⌜ Filled f anywhere (now prices) (now scratch) ⌝ }
     requires { ⌜ InTable f from ⌝ }
     requires { ⌜ length (now prices) ≤ length (now schedule) ⌝ }
-    requires { ⌜ (valueAt f (now prices) from ≡ noSchedule → ⊥) ⌝ }
-    ensures { λ _. ⌜ now (schedule .exit) ≡ scheduleOf (planAt f (now (prices .entry)) from) ++ drop (length (now (prices .entry))) (now (schedule .entry)) ⌝ }
+    requires { ⌜ (valueAt f anywhere (now prices) from ≡ Nothing → ⊥) ⌝ }
+    ensures { λ _. ⌜ ReadOff f (now (prices .entry)) from (now (schedule .entry)) (now (schedule .exit)) ⌝ }
 {
     let n = prices.len();
     let mut at = 0;
     let mut c = from;
     let mut t = 0;
     while t < n {
-        let i = at + reading::index(f, c);
+        let i = at + geometry::index(f, c);
         let best = scratch[i];
         at += w;
         let k = reading::choose(scratch, at, f, prices[t], c, best);

@@ -1,16 +1,33 @@
 -- What the enumerator's answers say of a limitation and of a case.
 use mathlib.Core.Path.{_≡_}
 use mathlib.Core.Bool.{true, false}
-use Prim.Native.Nat.{ℕ, _*_, _/_}
+use Prim.Native.Nat.{ℕ, _+_, _*_, _/_, _^_, _≤_}
 use lib.IntN.{ℤ, pos, _-ℤ_}
 use Rattle.trials.specs.declared.comparison.Expected.{Expected}
 use Rattle.trials.specs.declared.enumerator.Cap.{Cap}
 use Rattle.trials.specs.declared.enumerator.Case.{Case}
 use Rattle.trials.specs.declared.enumerator.Found.{Found}
+use Rattle.trials.specs.declared.enumerator.Sums.{Sums}
 use Rattle.trials.specs.declared.enumerator.Which.{Which}
 use Rattle.trials.specs.declared.enumerator.Which.the-variants.{Starts, Hours, Mwh}
 use Rattle.trials.specs.declared.enumerator.Worth.{Worth}
 use Rattle.trials.specs.declared.enumerator.Worth.the-variants.{None, Empty, Never, Gap}
+
+-- after i intervals
+pub record Summed (i : ℕ) (sums : Sums) : Type 0 where
+  pub starts : sums .starts ≤ i
+  pub running : sums .running ≤ i
+  pub output : sums .output ≤ 2 ^ 32 * i
+  pub earned : sums .earned ≤ 2 ^ 48 * i
+  pub spent : sums .spent ≤ 2 ^ 51 * i
+
+-- after one interval more
+pub record OneMore (was sums : Sums) : Type 0 where
+  pub starts : sums .starts ≤ was .starts + 1
+  pub running : sums .running ≤ was .running + 1
+  pub output : sums .output ≤ was .output + 2 ^ 32
+  pub earned : sums .earned ≤ was .earned + 2 ^ 48
+  pub spent : sums .spent ≤ was .spent + 2 ^ 51
 
 abbrev pub capOf : Case → Which → Cap
 capOf case Starts = case .starts
@@ -18,8 +35,8 @@ capOf case Hours = case .hours
 capOf case Mwh = case .mwh
 
 -- what is earned less what is spent
-abbrev pub profitOf : Found → ℤ
-profitOf found = pos (found .earned) -ℤ pos (found .spent)
+abbrev pub earnings : Found → ℤ
+earnings found = pos (found .earned) -ℤ pos (found .spent)
 
 -- `none`: not limited; `empty`: nine tenths rounds to 0; else limited, and it does not
 abbrev pub WorthOf : Cap → Worth → Type 0

@@ -11,7 +11,11 @@ use crate::numbers::wide8;
 use crate::numbers::wide16;
 use crate::numbers::wide32;
 use assessment::Assessed;
+use commitment::Costs;
+use commitment::Generator;
 use commitment::Limit;
+use commitment::Limits;
+use commitment::Opening;
 use commitment::Outcome;
 use commitment::Outcomes;
 use commitment::UnitRecord;
@@ -84,32 +88,15 @@ fn schedule_of(case: Case, number: u64) -> [u64; 6] {
 pub fn agreed_on(case: Case, expected: Expected, scratch: &mut [i64]) -> Agreed {
     let n = enumerator::intervals_of(case);
     let prices = prices_of(case);
-    let schedule = schedule_in(expected);
-    each_agreed(
-        unit_of(case),
-        &prices[..n],
-        &schedule[..n],
-        expected,
-        scratch,
-    )
+    each_agreed(case, &prices[..n], expected, scratch)
 }
 
-fn schedule_in(expected: Expected) -> [u64; 6] {
-    let schedule = expected.schedule;
-    schedule
-}
-
-fn each_agreed(
-    unit: UnitRecord,
-    prices: &[i64],
-    schedule: &[u64],
-    expected: Expected,
-    scratch: &mut [i64],
-) -> Agreed {
+fn each_agreed(case: Case, prices: &[i64], expected: Expected, scratch: &mut [i64]) -> Agreed {
+    let unit = unit_of(case);
     let plan = same_plan(unit, prices, expected, &mut *scratch);
     let value = same_value(unit, prices, expected, &mut *scratch);
     let report = same_report(unit, prices, expected, scratch);
-    let assess = same_profit(unit, prices, schedule, expected);
+    let assess = same_profits(case, unit, prices);
     Agreed {
         plan,
         value,
@@ -125,19 +112,27 @@ fn unit_of(case: Case) -> UnitRecord {
     let hours = case.hours;
     let mwh = case.mwh;
     UnitRecord {
-        block: wide8(case.block),
-        pmin: wide8(case.pmin),
-        pmax: wide8(case.pmax),
-        mot: wide8(case.mot),
-        mdt: wide8(case.mdt),
-        was: one_if(case.was_on),
-        held: wide8(case.held),
-        vec: wide16(case.vec),
-        mlc: wide32(case.mlc),
-        suc: wide32(case.suc),
-        starts: limit_of(starts),
-        hours: limit_of(hours),
-        mwh: limit_of(mwh),
+        generator: Generator {
+            block: wide8(case.block),
+            pmin: wide8(case.pmin),
+            pmax: wide8(case.pmax),
+            mot: wide8(case.mot),
+            mdt: wide8(case.mdt),
+        },
+        costs: Costs {
+            vec: wide16(case.vec),
+            mlc: wide32(case.mlc),
+            suc: wide32(case.suc),
+        },
+        opening: Opening {
+            was: one_if(case.was_on),
+            held: wide8(case.held),
+        },
+        limits: Limits {
+            starts: limit_of(starts),
+            hours: limit_of(hours),
+            mwh: limit_of(mwh),
+        },
     }
 }
 
@@ -203,11 +198,26 @@ fn report_agrees(answer: Reported, intervals: usize, expected: Expected) -> bool
     }
 }
 
-// The plan handed in is passed with its profit; without a plan, entries that were left as they were are no schedule.
-fn same_profit(unit: UnitRecord, prices: &[i64], schedule: &[u64], expected: Expected) -> bool {
-    match assessment::assess(unit, prices, schedule) {
-        Assessed::Refused(_) => !expected.planned,
-        Assessed::Profit(profit) => expected.planned & (profit == expected.profit),
+// Every list handed in, kept or not: it is passed with its profit, or refused with 10.
+fn same_profits(case: Case, unit: UnitRecord, prices: &[i64]) -> bool {
+    let lists = enumerator::lists_of(case);
+    let mut number = 0;
+    while number < lists {
+        if !same_profit(case, unit, prices, number) {
+            return false;
+        }
+        number += 1;
+    }
+    true
+}
+
+fn same_profit(case: Case, unit: UnitRecord, prices: &[i64], number: u64) -> bool {
+    let n = enumerator::intervals_of(case);
+    let schedule = schedule_of(case, number);
+    let judged = enumerator::judged(case, number);
+    match assessment::assess(unit, prices, &schedule[..n]) {
+        Assessed::Refused(cause) => !judged.any & (commitment::number_of(cause) == 10),
+        Assessed::Profit(profit) => judged.any & (profit == enumerator::profit_of(judged)),
     }
 }
 

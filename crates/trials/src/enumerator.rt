@@ -1,4 +1,4 @@
-// Every list of outputs of a small case, tried in document 01's order and judged by its words. It shares nothing with the planner.
+// Every list of outputs of a small case, tried in the specification's order and judged by its words. It shares nothing with the planner.
 // Money is kept as what is earned and what is spent, two natural numbers, so that no sum is signed.
 
 use crate::numbers::difference;
@@ -9,7 +9,7 @@ use crate::numbers::wide16;
 use crate::numbers::wide32;
 ghost use mathlib.Core.Path.{_≡_};
 ghost use Prim.Native.Nat.{_+_, _*_, _/_, _<_, _≤_, _^_};
-ghost use Rattle.trials.specs.Expecting.{capOf, profitOf, WorthOf};
+ghost use Rattle.trials.specs.Expecting.{Summed, OneMore, capOf, earnings, WorthOf};
 
 // A limitation: at most so much, where it is limited.
 pub struct Cap {
@@ -46,13 +46,23 @@ pub struct Found {
     pub spent: u64,
 }
 
+// What the intervals of a list add up to, and whether the last of them is on.
+pub struct Sums {
+    pub on: bool,
+    pub starts: u64,
+    pub running: u64,
+    pub output: u64,
+    pub earned: u64,
+    pub spent: u64,
+}
+
 pub enum Which {
     Starts,
     Hours,
     Mwh,
 }
 
-// What a limitation is worth: document 01's four outcomes.
+// What a limitation is worth: the specification's four outcomes.
 pub enum Worth {
     None,
     Empty,
@@ -96,7 +106,7 @@ fn output_of(case: Case, choice: u64) -> u64
 }
 
 // How many lists there are.
-fn lists_of(case: Case) -> u64 {
+pub fn lists_of(case: Case) -> u64 {
     let n = intervals_of(case);
     let outputs = outputs_of(case);
     let mut lists = 1;
@@ -108,7 +118,7 @@ fn lists_of(case: Case) -> u64 {
     lists
 }
 
-// The number's digits, the first interval's the most significant: counting up goes by document 01's order.
+// The number's digits, the first interval's the most significant: counting up goes by the specification's order.
 pub fn list_of(case: Case, number: u64) -> [u32; 6] {
     let outputs = outputs_of(case);
     let mut list = [0u32; 6];
@@ -122,24 +132,7 @@ pub fn list_of(case: Case, number: u64) -> [u32; 6] {
     list
 }
 
-// ---- "It keeps the case when:", a function for each count and time
-
-// Intervals on after one that is off.
-fn starts_in(case: Case, list: [u32; 6]) -> u64
-    ensures { λ r. ⌜ r ≤ 6 ⌝ }
-{
-    let n = intervals_of(case);
-    let mut on = case.was_on;
-    let mut starts = 0;
-    let mut i = 0;
-    while i < n {
-        let next = 0 < list[i];
-        starts += one_if(!on & next);
-        on = next;
-        i += 1;
-    }
-    starts
-}
+// ---- "It keeps the case when:", by the times and by the limitations
 
 // Every spell on, or every spell off, that the other state ends lasts at least so many intervals, those before interval 1 included.
 fn spells_last(n: usize, list: [u32; 6], on: bool, before: u64, least: u64) -> bool
@@ -178,32 +171,6 @@ fn held_in(case: Case, on: bool) -> u64
     0
 }
 
-fn running_in(n: usize, list: [u32; 6]) -> u64
-    requires { ⌜ n ≤ 6 ⌝ }
-    ensures { λ r. ⌜ r ≤ 6 ⌝ }
-{
-    let mut running = 0;
-    let mut i = 0;
-    while i < n {
-        running += one_if(0 < list[i]);
-        i += 1;
-    }
-    running
-}
-
-fn output_in(n: usize, list: [u32; 6]) -> u64
-    requires { ⌜ n ≤ 6 ⌝ }
-    ensures { λ r. ⌜ r < 2 ^ 40 ⌝ }
-{
-    let mut output = 0;
-    let mut i = 0;
-    while i < n {
-        output += wide32(list[i]);
-        i += 1;
-    }
-    output
-}
-
 fn within(cap: Cap, unit: u64, count: u64) -> bool
     requires { ⌜ unit ≤ 4 ⌝ }
 {
@@ -218,43 +185,59 @@ fn times_kept(case: Case, list: [u32; 6]) -> bool {
         & spells_last(n, list, false, held_in(case, false), mdt)
 }
 
-fn limits_kept(case: Case, list: [u32; 6]) -> bool {
-    let n = intervals_of(case);
+fn limits_kept(case: Case, sums: Sums) -> bool
+    requires { ⌜ Summed 6 sums ⌝ }
+{
     let starts = case.starts;
     let hours = case.hours;
     let mwh = case.mwh;
-    within(starts, 1, starts_in(case, list))
-        & within(hours, 4, running_in(n, list))
-        & within(mwh, 4, output_in(n, list))
+    within(starts, 1, sums.starts) & within(hours, 4, sums.running) & within(mwh, 4, sums.output)
 }
 
-// ---- formula 7
+// ---- what a list adds up to: the counts of the limitations, and formula 7
 
-fn earned_by(case: Case, list: [u32; 6]) -> u64
-    ensures { λ r. ⌜ r < 2 ^ 51 ⌝ }
+fn sums_of(case: Case, list: [u32; 6]) -> Sums
+    ensures { λ r. ⌜ Summed 6 r ⌝ }
 {
     let n = intervals_of(case);
-    let up = case.up;
-    let mut earned = 0;
+    let mut sums = nothing_yet(case.was_on);
     let mut i = 0;
     while i < n {
-        earned += times(wide32(list[i]), wide16(up[i]));
+        let price = case.up[i];
+        sums = with_interval(case, sums, wide32(list[i]), wide16(price));
         i += 1;
     }
-    earned
+    sums
 }
 
-fn spent_by(case: Case, list: [u32; 6]) -> u64
-    ensures { λ r. ⌜ r < 2 ^ 60 ⌝ }
+fn nothing_yet(was_on: bool) -> Sums
+    ensures { λ r. ⌜ Summed 0 r ⌝ }
 {
-    let n = intervals_of(case);
-    let mut spent = times(wide32(case.suc), 4 * starts_in(case, list));
-    let mut i = 0;
-    while i < n {
-        spent += spent_on(case, wide32(list[i]));
-        i += 1;
+    Sums {
+        on: was_on,
+        starts: 0,
+        running: 0,
+        output: 0,
+        earned: 0,
+        spent: 0,
     }
-    spent
+}
+
+// An interval on after one that is off is a start.
+fn with_interval(case: Case, sums: Sums, output: u64, price: u64) -> Sums
+    requires { ⌜ Summed 6 sums × (output < 2 ^ 32) × (price < 2 ^ 16) ⌝ }
+    ensures { λ r. ⌜ OneMore sums r ⌝ }
+{
+    let on = 0 < output;
+    let start = one_if(!sums.on & on);
+    Sums {
+        on,
+        starts: sums.starts + start,
+        running: sums.running + one_if(on),
+        output: sums.output + output,
+        earned: sums.earned + times(output, price),
+        spent: sums.spent + times(wide32(case.suc), 4 * start) + spent_on(case, output),
+    }
 }
 
 // An interval's output: what lowers its price, vec above the lowest output, and mlc.
@@ -282,19 +265,20 @@ fn over(output: u64, least: u64) -> u64
 
 // ---- the first best
 
-fn judged(case: Case, number: u64) -> Found
+pub fn judged(case: Case, number: u64) -> Found
     ensures { λ r. ⌜ (r .earned < 2 ^ 60) × (r .spent < 2 ^ 60) ⌝ }
 {
     let list = list_of(case, number);
-    if !(times_kept(case, list) & limits_kept(case, list)) {
+    let sums = sums_of(case, list);
+    if !(times_kept(case, list) & limits_kept(case, sums)) {
         return nothing();
     }
     Found {
         any: true,
         tied: false,
         number,
-        earned: earned_by(case, list),
-        spent: spent_by(case, list),
+        earned: sums.earned,
+        spent: sums.spent,
     }
 }
 
@@ -350,7 +334,7 @@ pub fn best_of(case: Case) -> Found
 
 pub fn profit_of(found: Found) -> i64
     requires { ⌜ (found .earned < 2 ^ 60) × (found .spent < 2 ^ 60) ⌝ }
-    ensures { λ r. ⌜ r ≡ profitOf found ⌝ }
+    ensures { λ r. ⌜ r ≡ earnings found ⌝ }
 {
     difference(found.earned, found.spent)
 }

@@ -9,57 +9,34 @@ use lib.IntN.{ℤ, pos, negsuc, natAbs}
 use lib.ListN.{length, take, drop, getD, length-map}
 use lib.Seq.{take-append-seam}
 use borrow.Author.Tests.{leb-true, eqb-true}
+use Rattle.commitment.specs.Bounds.{mostStarts, mostHours, mostMwh}
 use Rattle.commitment.specs.declared.Checked.{Checked}
 use Rattle.commitment.specs.declared.Checked.the-variants.{Passed, Refused}
-use Rattle.commitment.specs.declared.Limit.{Limit}
-use Rattle.commitment.specs.declared.Limit.the-variants.{None, At}
 use Rattle.commitment.specs.declared.UnitRecord.{UnitRecord}
 use Rattle.commitment.specs.Limits.{limitKept}
-use Rattle.commitment.specs.Ranges.{every, caseChecked}
-use Rattle.commitment.proofs.Conjunctions.{both}
-use Rattle.commitment.proofs.Passing.{every-at, Passing, passing}
+use Rattle.commitment.specs.Ranges.{pricesKept, caseChecked}
+use Rattle.lists.specs.Every.{every}
+use Rattle.lists.proofs.Conjunctions.{both}
+use Rattle.commitment.proofs.Passing.{Passing, passing, prices-small}
+use Rattle.lists.proofs.Every.{every-at}
 use Rattle.commitment.proofs.Ranges.{InRange, in-range}
-use Rattle.lines.specs.declared.Class.the-variants.{Comma}
-use Rattle.lines.specs.declared.Value.{Value}
-use Rattle.lines.specs.declared.Value.the-variants.{Malformed, WordNone, Number}
-use Rattle.lines.specs.Bytes.{isOf, same}
-use Rattle.lines.specs.Pieces.{onto, linesOf, closed, fieldsOf}
-use Rattle.lines.specs.Tables.{nameLine, valueLine, occurs, under}
-use Rattle.lines.specs.Values.{valueOf, isValue}
-use Rattle.lines.proofs.Alike.{same-eq}
+use Rattle.tabletext.specs.declared.Class.the-variants.{Comma}
+use Rattle.tabletext.specs.declared.Value.{Value}
+use Rattle.tabletext.specs.declared.Value.the-variants.{Malformed, WordNone, Number}
+use Rattle.tabletext.specs.Bytes.{isOf, same}
+use Rattle.tabletext.specs.Pieces.{onto, linesOf, lastClosed, fieldsOf}
+use Rattle.tabletext.specs.Tables.{nameLine, valueLine, occurs, named, under}
+use Rattle.tabletext.specs.Values.{valueOf, isValue}
+use Rattle.tabletext.proofs.Alike.{same-eq}
 use Rattle.casefile.specs.declared.CaseRead.the-variants.{Case}
-use Rattle.casefile.specs.Answers.{answered, readCase, readPrices}
-use Rattle.casetext.specs.Names.{blockName, pminName, pmaxName, motName, mdtName, wasName, heldName, vecName, mlcName, sucName, startsName, hoursName, mwhName, priceName, unitNames, priceNames, once, onceEach}
-use Rattle.casetext.specs.Form.{mostBytes, unitHead, unitRow, gap, priceHead, priceRows, isEmpty, tableFormed, formKept, namesKept}
+use Rattle.casefile.specs.Answers.{readBy, readCase, readPrices}
+use Rattle.casetext.specs.Names.{priceName, unitNames, unitOptional, priceNames, priceOptional}
+use Rattle.casetext.specs.Form.{mostBytes, unitHead, unitRow, emptyLine, priceHead, priceRows, isEmpty, tableFormed, formKept, namesKept}
 use Rattle.casefile.specs.Reading.{beyond, wholeOf, limitOf, centsOf, unitIn, priceOf, pricesIn, textChecked}
 use Rattle.casefile.proofs.Checking.{text-passed, answer-read}
-use Rattle.writing.proofs.Places.{Written, stands}
-
--- ---- what the sentence says
-
--- the value of a limitation, as it is written
-abbrev pub limitValue : Limit → Value
-limitValue None = WordNone
-limitValue (At n) = Number (pos n)
-
-pub record AsWritten (text : List ℕ) (u : UnitRecord) (prices : List ℤ) : Type 0 where
-  pub lines : linesOf text ≡ unitHead text ∷ unitRow text ∷ [] ∷ priceHead text ∷ priceRows text
-  pub block : Written (fieldsOf (unitHead text)) (fieldsOf (unitRow text)) blockName (Number (pos (u .block)))
-  pub pmin : Written (fieldsOf (unitHead text)) (fieldsOf (unitRow text)) pminName (Number (pos (u .pmin)))
-  pub pmax : Written (fieldsOf (unitHead text)) (fieldsOf (unitRow text)) pmaxName (Number (pos (u .pmax)))
-  pub mot : Written (fieldsOf (unitHead text)) (fieldsOf (unitRow text)) motName (Number (pos (u .mot)))
-  pub mdt : Written (fieldsOf (unitHead text)) (fieldsOf (unitRow text)) mdtName (Number (pos (u .mdt)))
-  pub was : Written (fieldsOf (unitHead text)) (fieldsOf (unitRow text)) wasName (Number (pos (u .was)))
-  pub held : Written (fieldsOf (unitHead text)) (fieldsOf (unitRow text)) heldName (Number (pos (u .held)))
-  pub vec : Written (fieldsOf (unitHead text)) (fieldsOf (unitRow text)) vecName (Number (pos (u .vec)))
-  pub mlc : Written (fieldsOf (unitHead text)) (fieldsOf (unitRow text)) mlcName (Number (pos (u .mlc)))
-  pub suc-cost : Written (fieldsOf (unitHead text)) (fieldsOf (unitRow text)) sucName (Number (pos (u .suc)))
-  pub starts : Written (fieldsOf (unitHead text)) (fieldsOf (unitRow text)) startsName (limitValue (u .starts))
-  pub hours : Written (fieldsOf (unitHead text)) (fieldsOf (unitRow text)) hoursName (limitValue (u .hours))
-  pub mwh : Written (fieldsOf (unitHead text)) (fieldsOf (unitRow text)) mwhName (limitValue (u .mwh))
-  pub price-name : priceHead text ≡ priceName
-  pub one-a-line : length prices ≡ length (priceRows text)
-  pub price : (i : ℕ) → i < length prices → valueOf (getD (priceRows text) i []) ≡ Number (getD prices i (pos 0))
+use Rattle.writing.specs.AsWritten.{StandsUnder, limitValue, AsWritten}
+use Rattle.writing.proofs.Places.{stands}
+use Rattle.writing.proofs.Sequences.{names-are, all-this}
 
 -- ---- a number in its range is the number that is written
 
@@ -103,30 +80,40 @@ one-field (b ∷ bs) h = go (isOf Comma b) refl (fieldsOf bs) (some-field bs) (o
 
 -- ---- the form and the names of a text that is not refused
 
-record Formed (text : List ℕ) : Type 0 where
-  four : 4 ≤ length (linesOf text)
-  gap-empty : gap text ≡ []
-  unit-table : tableFormed (unitHead text) (unitRow text ∷ []) ≡ true
-  price-table : tableFormed (priceHead text) (priceRows text) ≡ true
+pub record Formed (text : List ℕ) : Type 0 where
+  pub short : length text ≤ mostBytes
+  pub closed : lastClosed text ≡ true
+  pub four : 4 ≤ length (linesOf text)
+  pub third-empty : emptyLine text ≡ []
+  pub unit-table : tableFormed (unitHead text) (unitRow text ∷ []) ≡ true
+  pub price-table : tableFormed (priceHead text) (priceRows text) ≡ true
 
 empty-is : (s : List ℕ) → isEmpty s ≡ true → s ≡ []
 empty-is [] e = refl
 empty-is (b ∷ bs) e = let z : _≡_ {A = Bool} false true = e in let n : _≡_ {A = ℕ} 0 1 = cc in absurd (omega arith)
 
-formed-is : (text : List ℕ) → formKept text ≡ true → Formed text
+pub formed-is : (text : List ℕ) → formKept text ≡ true → Formed text
 unfolding formKept
 formed-is text e =
-    let start = leb (length text) mostBytes && closed text in
+    let start = leb (length text) mostBytes && lastClosed text in
     let four = leb 4 (length (linesOf text)) in
-    let third = isEmpty (gap text) in
+    let third = isEmpty (emptyLine text) in
     let unit = tableFormed (unitHead text) (unitRow text ∷ []) in
     let p = both (start && four && third && unit) (tableFormed (priceHead text) (priceRows text)) e in
     let u = both (start && four && third) unit (p .0) in
     let g = both (start && four) third (u .0) in
     let f = both start four (g .0) in
-    record { four = leb-true 4 (length (linesOf text)) (f .1); gap-empty = empty-is (gap text) (g .1); unit-table = u .1; price-table = p .1 }
+    let s = both (leb (length text) mostBytes) (lastClosed text) (f .0) in
+    record {
+      short = leb-true (length text) mostBytes (s .0);
+      closed = s .1;
+      four = leb-true 4 (length (linesOf text)) (f .1);
+      third-empty = empty-is (emptyLine text) (g .1);
+      unit-table = u .1;
+      price-table = p .1;
+    }
 
-lines-are : (ls : List (List ℕ)) → 4 ≤ length ls → ls ≡ getD ls 0 [] ∷ getD ls 1 [] ∷ getD ls 2 [] ∷ getD ls 3 [] ∷ drop 4 ls
+pub lines-are : (ls : List (List ℕ)) → 4 ≤ length ls → ls ≡ getD ls 0 [] ∷ getD ls 1 [] ∷ getD ls 2 [] ∷ getD ls 3 [] ∷ drop 4 ls
 lines-are [] h = absurd (omega arith)
 lines-are (a ∷ []) h = absurd (omega arith)
 lines-are (a ∷ b ∷ []) h = absurd (omega arith)
@@ -137,18 +124,13 @@ lines-are (a ∷ b ∷ c ∷ d ∷ ls) h = refl
 row-length : (names : ℕ) (row : List ℕ) → valueLine names row ≡ true → length (fieldsOf row) ≡ names
 row-length names row e = eqb-true (length (fieldsOf row)) names (both (eqb (length (fieldsOf row)) names) (every isValue (fieldsOf row)) e .0)
 
--- each name of the table stands once
-name-once : (table fields : List (List ℕ)) → onceEach table fields ≡ true → (k : ℕ) → k < length table → occurs (getD table k []) fields ≡ 1
-name-once table fields e k h =
-    eqb-true (occurs (getD table k []) fields) 1 (every-at (once fields) [] table k (both (every (once fields) table) (eqb (length fields) (length table)) e .0) h)
-
 -- a line of one name, which is this one
-one-name : (name : List ℕ) (line : List ℕ) → onceEach (name ∷ []) (fieldsOf line) ≡ true → line ≡ name
+one-name : (name : List ℕ) (line : List ℕ) → named (name ∷ []) [] (fieldsOf line) ≡ true → line ≡ name
 one-name name line e =
-    let l : length (fieldsOf line) ≡ 1 = eqb-true (length (fieldsOf line)) 1 (both (every (once (fieldsOf line)) (name ∷ [])) (eqb (length (fieldsOf line)) 1) e .1) in
-    let f = one-field line l in
-    let o : occurs name (line ∷ []) ≡ 1 = ap (occurs name) (sym f) ∙ name-once (name ∷ []) (fieldsOf line) e 0 (omega arith) in
-    same-eq line name (sole (same line name) o)
+    let n = names-are (name ∷ []) [] (fieldsOf line) e in
+    let o = n .once 0 (omega arith) in
+    let f = one-field line (sym (all-this name (fieldsOf line) (n .no-other)) ∙ o) in
+    same-eq line name (sole (same line name) (ap (occurs name) (sym f) ∙ o))
   where
     sole : (t : Bool) → cond t 1 0 + 0 ≡ 1 → t ≡ true
     sole true h = refl
@@ -159,29 +141,30 @@ getD-map f [] i h = absurd (omega arith)
 getD-map f (row ∷ rows) zero h = refl
 getD-map f (row ∷ rows) (suc i) h = getD-map f rows i (omega arith)
 
-module _ (text : List ℕ) (form : formKept text ≡ true) (names-once : namesKept text ≡ true) (checks : caseChecked (unitIn text) (pricesIn text) ≡ Passed) where
+module _ (text : List ℕ) (form : formKept text ≡ true) (names-once : namesKept text ≡ true) (checks : caseChecked (unitIn text) (pricesKept (pricesIn text)) (length (pricesIn text)) ≡ Passed) where
   formed : Formed text
   formed = formed-is text form
 
-  both-named : (onceEach unitNames (fieldsOf (unitHead text)) ≡ true) × (onceEach priceNames (fieldsOf (priceHead text)) ≡ true)
+  both-named : (named unitNames unitOptional (fieldsOf (unitHead text)) ≡ true) × (named priceNames priceOptional (fieldsOf (priceHead text)) ≡ true)
   unfolding namesKept
-  both-named = both (onceEach unitNames (fieldsOf (unitHead text))) (onceEach priceNames (fieldsOf (priceHead text))) names-once
+  both-named = both (named unitNames unitOptional (fieldsOf (unitHead text))) (named priceNames priceOptional (fieldsOf (priceHead text))) names-once
 
   -- what stands under the name at place k of the table
-  under-name : (k : ℕ) → k < 13 → Written (fieldsOf (unitHead text)) (fieldsOf (unitRow text)) (getD unitNames k []) (under (getD unitNames k []) (fieldsOf (unitHead text)) (fieldsOf (unitRow text)))
+  under-name : (k : ℕ) → k < 13 → StandsUnder (fieldsOf (unitHead text)) (fieldsOf (unitRow text)) (getD unitNames k []) (under (getD unitNames k []) (fieldsOf (unitHead text)) (fieldsOf (unitRow text)))
   under-name k h =
       let row = both (valueLine (length (fieldsOf (unitHead text))) (unitRow text)) true (both (nameLine (unitHead text)) _ (formed .unit-table) .1) in
-      stands (getD unitNames k []) (fieldsOf (unitHead text)) (fieldsOf (unitRow text)) (name-once unitNames (fieldsOf (unitHead text)) (both-named .0) k h) (row-length _ (unitRow text) (row .0))
+      stands (getD unitNames k []) (fieldsOf (unitHead text)) (fieldsOf (unitRow text)) (names-are unitNames unitOptional (fieldsOf (unitHead text)) (both-named .0) .once k h)
+      (row-length _ (unitRow text) (row .0))
 
-  as-value : {name : List ℕ} {v w : Value} → v ≡ w → Written (fieldsOf (unitHead text)) (fieldsOf (unitRow text)) name v → Written (fieldsOf (unitHead text)) (fieldsOf (unitRow text)) name w
+  as-value : {name : List ℕ} {v w : Value} → v ≡ w → StandsUnder (fieldsOf (unitHead text)) (fieldsOf (unitRow text)) name v → StandsUnder (fieldsOf (unitHead text)) (fieldsOf (unitRow text)) name w
   as-value e s = record { place = s .place; within = s .within; named = s .named; holds = s .holds ∙ e; only = s .only }
 
   whole-at : (k : ℕ) → k < 13 → let v = under (getD unitNames k []) (fieldsOf (unitHead text)) (fieldsOf (unitRow text)) in
-      wholeOf v < beyond → Written (fieldsOf (unitHead text)) (fieldsOf (unitRow text)) (getD unitNames k []) (Number (pos (wholeOf v)))
+      wholeOf v < beyond → StandsUnder (fieldsOf (unitHead text)) (fieldsOf (unitRow text)) (getD unitNames k []) (Number (pos (wholeOf v)))
   whole-at k h b = as-value (whole-is _ b) (under-name k h)
 
   limit-at : (k : ℕ) → k < 13 → (most : ℕ) → most < beyond → let v = under (getD unitNames k []) (fieldsOf (unitHead text)) (fieldsOf (unitRow text)) in
-      limitKept most (limitOf v) ≡ true → Written (fieldsOf (unitHead text)) (fieldsOf (unitRow text)) (getD unitNames k []) (limitValue (limitOf v))
+      limitKept most (limitOf v) ≡ true → StandsUnder (fieldsOf (unitHead text)) (fieldsOf (unitRow text)) (getD unitNames k []) (limitValue (limitOf v))
   limit-at k h most m b = as-value (limit-is most _ m b) (under-name k h)
 
   head-is : priceHead text ≡ priceName
@@ -196,11 +179,11 @@ module _ (text : List ℕ) (form : formKept text ≡ true) (names-once : namesKe
       let n : length (fieldsOf (priceHead text)) ≡ 1 = ap (λ (l : List ℕ). length (fieldsOf l)) head-is in
       ap₂ (λ (fields values : List (List ℕ)). centsOf (under priceName fields values)) (ap fieldsOf head-is) (one-field row (row-length _ row v ∙ n))
 
-  case-kept : Passing (unitIn text) (pricesIn text)
-  case-kept = passing (unitIn text) (pricesIn text) checks
+  case-kept : Passing (unitIn text) (pricesKept (pricesIn text)) (length (pricesIn text))
+  case-kept = passing (unitIn text) (pricesKept (pricesIn text)) (length (pricesIn text)) checks
 
   in-ranges : InRange (unitIn text)
-  in-ranges = in-range (unitIn text) (case-kept .ranges)
+  in-ranges = in-range (unitIn text) (case-kept .order .ranges)
 
   prices-long : length (pricesIn text) ≡ length (priceRows text)
   unfolding pricesIn
@@ -211,27 +194,27 @@ module _ (text : List ℕ) (form : formKept text ≡ true) (names-once : namesKe
   price-written i h =
       let r : i < length (priceRows text) = omega (arith, prices-long) in
       let e : getD (pricesIn text) i (pos 0) ≡ centsOf (valueOf (getD (priceRows text) i [])) = getD-map (priceOf (priceHead text)) (priceRows text) i r ∙ price-at i r in
-      cents-is (valueOf (getD (priceRows text) i [])) (omega (arith, case-kept .price-at i h, ap natAbs e)) ∙ ap Number (sym e)
+      cents-is (valueOf (getD (priceRows text) i [])) (omega (arith, prices-small _ (case-kept .prices) i h, ap natAbs e)) ∙ ap Number (sym e)
 
   text-as-written : AsWritten text (unitIn text) (pricesIn text)
   unfolding unitIn
   text-as-written =
       let r = in-ranges in
       record {
-        lines = lines-are (linesOf text) (formed .four) ∙ ap (λ (third : List ℕ). unitHead text ∷ unitRow text ∷ third ∷ priceHead text ∷ priceRows text) (formed .gap-empty);
-        block = whole-at 0 (omega arith) (omega (arith, r .sizes .block-most));
-        pmin = whole-at 1 (omega arith) (omega (arith, r .sizes .pmin-most));
-        pmax = whole-at 2 (omega arith) (omega (arith, r .sizes .pmax-most));
-        mot = whole-at 3 (omega arith) (omega (arith, r .times .mot-most));
-        mdt = whole-at 4 (omega arith) (omega (arith, r .times .mdt-most));
-        was = whole-at 5 (omega arith) (omega (arith, r .times .was-most));
-        held = whole-at 6 (omega arith) (omega (arith, r .times .held-most));
+        lines = lines-are (linesOf text) (formed .four) ∙ ap (λ (third : List ℕ). unitHead text ∷ unitRow text ∷ third ∷ priceHead text ∷ priceRows text) (formed .third-empty);
+        block = whole-at 0 (omega arith) (omega (arith, r .generator .block-most));
+        pmin = whole-at 1 (omega arith) (omega (arith, r .generator .pmin-most));
+        pmax = whole-at 2 (omega arith) (omega (arith, r .generator .pmax-most));
+        mot = whole-at 3 (omega arith) (omega (arith, r .generator .mot-most));
+        mdt = whole-at 4 (omega arith) (omega (arith, r .generator .mdt-most));
+        was = whole-at 5 (omega arith) (omega (arith, r .opening .was-most));
+        held = whole-at 6 (omega arith) (omega (arith, r .opening .held-most));
         vec = whole-at 7 (omega arith) (omega (arith, r .costs .vec-most));
         mlc = whole-at 8 (omega arith) (omega (arith, r .costs .mlc-most));
         suc-cost = whole-at 9 (omega arith) (omega (arith, r .costs .suc-most));
-        starts = limit-at 10 (omega arith) 2976 (omega arith) (r .limits .starts-kept);
-        hours = limit-at 11 (omega arith) 744 (omega arith) (r .limits .hours-kept);
-        mwh = limit-at 12 (omega arith) 372000 (omega arith) (r .limits .mwh-kept);
+        starts = limit-at 10 (omega arith) mostStarts (omega arith) (r .limits .starts-kept);
+        hours = limit-at 11 (omega arith) mostHours (omega arith) (r .limits .hours-kept);
+        mwh = limit-at 12 (omega arith) mostMwh (omega arith) (r .limits .mwh-kept);
         price-name = head-is;
         one-a-line = prices-long;
         price = price-written;
@@ -239,14 +222,14 @@ module _ (text : List ℕ) (form : formKept text ≡ true) (names-once : namesKe
 
 -- ---- the sentence, of what reading answers and of what it leaves in the slice
 
-answered-case : (k : Checked) (u v : UnitRecord) (m n : ℕ) → answered k u m ≡ Case v n → (k ≡ Passed) × (u ≡ v) × (m ≡ n)
-answered-case Passed u v m n e = (refl, (cc), (cc))
-answered-case (Refused cause) u v m n e = let z : _≡_ {A = ℕ} 0 1 = cc in absurd (omega arith)
+read-case : (k : Checked) (u v : UnitRecord) (m n : ℕ) → readBy k u m ≡ Case v n → (k ≡ Passed) × (u ≡ v) × (m ≡ n)
+read-case Passed u v m n e = (refl, (cc), (cc))
+read-case (Refused cause) u v m n e = let z : _≡_ {A = ℕ} 0 1 = cc in absurd (omega arith)
 
 pub read-as-written : (text : List ℕ) (slice : List ℤ) (u : UnitRecord) (count : ℕ) → readCase text (length slice) ≡ Case u count → AsWritten text u (take count (readPrices text slice))
 unfolding readCase
 read-as-written text slice u count e =
-    let a = answered-case (textChecked text (length slice)) (unitIn text) u (length (pricesIn text)) count e in
+    let a = read-case (textChecked text (length slice)) (unitIn text) u (length (pricesIn text)) count e in
     let p = text-passed text (length slice) (a .0) in
     let w = text-as-written text (p .form) (p .names) (p .checks) in
     let front : take count (readPrices text slice) ≡ pricesIn text =

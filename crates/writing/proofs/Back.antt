@@ -1,42 +1,46 @@
 -- The way back: the text that a writer makes of any record and prices within range, its names in any sequence, is read as that record and those prices.
 use mathlib.Core.Path.{_≡_, refl, sym, ap, ap₂, _∙_}
-use mathlib.Core.Bool.{Bool, true, false, _&&_, cond}
+use mathlib.Core.Bool.{Bool, true, false, _&&_}
 use mathlib.Core.List.{List, [], _∷_, _++_, map}
 use Prim.Native.Nat.{ℕ, suc, _≤_, _<_, _^_}
 use native.Mathlib.Omega.{arith}
-use lib.Dec.{leb, eqb}
+use lib.Dec.{leb}
 use lib.IntN.{ℤ, pos, natAbs}
 use lib.ListN.{length, drop, getD, length-map}
-use borrow.Author.Tests.{leb-true, le-leb, eq-eqb, eqb-true}
+use borrow.Author.Tests.{leb-true, le-leb, eq-eqb}
+use Rattle.commitment.specs.declared.Opening.{Opening}
+use Rattle.commitment.specs.declared.Costs.{Costs}
+use Rattle.commitment.specs.declared.Generator.{Generator}
+use Rattle.commitment.specs.declared.Limits.{Limits}
+use Rattle.commitment.specs.Bounds.{mostStarts, mostHours, mostMwh}
 use Rattle.commitment.specs.declared.Checked.{Checked}
 use Rattle.commitment.specs.declared.Checked.the-variants.{Passed}
 use Rattle.commitment.specs.declared.Limit.{Limit}
 use Rattle.commitment.specs.declared.Limit.the-variants.{None, At}
 use Rattle.commitment.specs.declared.UnitRecord.{UnitRecord}
 use Rattle.commitment.specs.Limits.{limitKept}
-use Rattle.commitment.specs.Ranges.{every, caseChecked}
-use Rattle.commitment.proofs.Conjunctions.{both}
-use Rattle.commitment.proofs.Passing.{every-at, Passing, passing}
+use Rattle.commitment.specs.Ranges.{pricesKept, caseChecked}
+use Rattle.lists.specs.Every.{every}
+use Rattle.commitment.proofs.Passing.{Passing, passing, prices-small}
 use Rattle.commitment.proofs.Ranges.{InRange, in-range}
-use Rattle.lines.specs.declared.Class.the-variants.{Comma, LineEnd}
-use Rattle.lines.specs.declared.Value.{Value}
-use Rattle.lines.specs.declared.Value.the-variants.{Number}
-use Rattle.lines.specs.Bytes.{isOf, same}
-use Rattle.lines.specs.Pieces.{linesOf, fieldsOf}
-use Rattle.lines.specs.Tables.{valueLine, occurs, under}
-use Rattle.lines.specs.Values.{isName, valueOf, wellFormed, isValue}
-use Rattle.lines.proofs.Alike.{same-eq}
+use Rattle.tabletext.specs.declared.Class.the-variants.{Comma, LineEnd}
+use Rattle.tabletext.specs.declared.Value.{Value}
+use Rattle.tabletext.specs.declared.Value.the-variants.{Number}
+use Rattle.tabletext.specs.Bytes.{isOf, same}
+use Rattle.tabletext.specs.Pieces.{linesOf, fieldsOf}
+use Rattle.tabletext.specs.Tables.{valueLine, occurs, named, under}
+use Rattle.tabletext.specs.Values.{isName, valueOf, wellFormed, isValue}
+use Rattle.tabletext.proofs.Alike.{same-eq}
 use Rattle.casefile.specs.declared.CaseRead.the-variants.{Case}
-use Rattle.casefile.specs.Answers.{answered, readCase, readPrices}
-use Rattle.casetext.specs.Names.{priceName, unitNames, priceNames, once, onceEach}
+use Rattle.casefile.specs.Answers.{readBy, readCase, readPrices}
+use Rattle.casetext.specs.Names.{priceName, unitNames, unitOptional, priceNames, priceOptional}
 use Rattle.casetext.specs.Form.{mostBytes, isEmpty, unitHead, unitRow, priceHead, priceRows, tableFormed, formKept, namesKept}
-use Rattle.casefile.specs.Reading.{wholeOf, limitOf, centsOf, unitOf, unitIn, priceOf, pricesIn, caseKept, textChecked}
-use Rattle.casefile.proofs.Checking.{every-map, answer-read}
-use Rattle.casefile.proofs.Records.{fields-alike}
+use Rattle.casefile.specs.Reading.{wholeOf, limitOf, centsOf, unitOf, unitIn, priceOf, pricesIn, textChecked}
+use Rattle.casefile.proofs.Checking.{every-map, values-decide, values-turn, answer-read}
 use Rattle.writing.specs.Writing.{joined, shownWhole, shownPrice, shownLimit, shownField, written}
-use Rattle.writing.proofs.AsWritten.{limitValue}
+use Rattle.writing.specs.AsWritten.{limitValue}
 use Rattle.writing.proofs.Numbers.{whole-back, price-back, limit-back, whole-unparted, price-unparted, limit-unparted}
-use Rattle.writing.proofs.Sequences.{no-other}
+use Rattle.writing.proofs.Sequences.{Named, names-are, some-name, of-names}
 use Rattle.writing.proofs.Pieces.{free, field-alone, fields-back, lines-back, closing-closed, joined-line}
 
 -- ---- tests of every element
@@ -48,25 +52,7 @@ every-from : {A : Type 0} (test : A → Bool) (otherwise : A) (xs : List A) → 
 every-from test otherwise [] h = refl
 every-from test otherwise (x ∷ xs) h = conj (h 0 (omega arith)) (every-from test otherwise xs (λ i l. h (suc i) (omega arith)))
 
-abbrev weight : Bool → ℕ
-weight t = cond t 1 0
-
--- what holds of each name of a table holds of a name that is one of them
-of-table : (test : List ℕ → Bool) (table : List (List ℕ)) (name : List ℕ) → every test table ≡ true → occurs name table ≡ 1 → test name ≡ true
-of-table test [] name h o = absurd (omega (arith, o))
-of-table test (entry ∷ table) name h o = go (same entry name) refl (both (test entry) (every test table) h) (of-table test table name)
-  where
-    go : (t : Bool) → same entry name ≡ t → (test entry ≡ true) × (every test table ≡ true) → (every test table ≡ true → occurs name table ≡ 1 → test name ≡ true) → test name ≡ true
-    go true e p below = ap test (sym (same-eq entry name e)) ∙ p .0
-    go false e p below = below (p .1) (omega (arith, ap weight e, o))
-
-of-names : (test : List ℕ → Bool) (table names : List (List ℕ)) → every test table ≡ true → every (once table) names ≡ true → every test names ≡ true
-of-names test table [] h k = refl
-of-names test table (name ∷ names) h k =
-    let p = both (once table name) (every (once table) names) k in
-    conj (of-table test table name h (eqb-true (occurs name table) 1 (p .0))) (of-names test table names h (p .1))
-
-some-fields : (fields : List (List ℕ)) → 0 < length fields → every (free Comma) fields ≡ true → fieldsOf (joined fields) ≡ fields
+pub some-fields : (fields : List (List ℕ)) → 0 < length fields → every (free Comma) fields ≡ true → fieldsOf (joined fields) ≡ fields
 some-fields [] some h = absurd (omega arith)
 some-fields (field ∷ fields) some h = fields-back field fields h
 
@@ -90,15 +76,41 @@ limit-of-value : (l : Limit) → limitOf (limitValue l) ≡ l
 limit-of-value None = refl
 limit-of-value (At n) = refl
 
+-- ---- groups, and records, are alike where each field is
+
+generator-alike : {a a′ b b′ c c′ d d′ e e′ : ℕ} → a ≡ a′ → b ≡ b′ → c ≡ c′ → d ≡ d′ → e ≡ e′
+    → _≡_ {A = Generator} (record { block = a; pmin = b; pmax = c; mot = d; mdt = e }) (record { block = a′; pmin = b′; pmax = c′; mot = d′; mdt = e′ })
+generator-alike p q r s t = cc
+
+costs-alike : {a a′ b b′ c c′ : ℕ} → a ≡ a′ → b ≡ b′ → c ≡ c′ → _≡_ {A = Costs} (record { vec = a; mlc = b; suc = c }) (record { vec = a′; mlc = b′; suc = c′ })
+costs-alike p q r = cc
+
+opening-alike : {a a′ b b′ : ℕ} → a ≡ a′ → b ≡ b′ → _≡_ {A = Opening} (record { was = a; held = b }) (record { was = a′; held = b′ })
+opening-alike p q = cc
+
+limits-alike : {a a′ b b′ c c′ : Limit} → a ≡ a′ → b ≡ b′ → c ≡ c′
+    → _≡_ {A = Limits} (record { starts = a; hours = b; mwh = c }) (record { starts = a′; hours = b′; mwh = c′ })
+limits-alike p q r = cc
+
+unit-alike : {g g′ : Generator} {k k′ : Costs} {o o′ : Opening} {l l′ : Limits} → g ≡ g′ → k ≡ k′ → o ≡ o′ → l ≡ l′
+    → _≡_ {A = UnitRecord} (record { generator = g; costs = k; opening = o; limits = l }) (record { generator = g′; costs = k′; opening = o′; limits = l′ })
+unit-alike p q r s = cc
+
 -- ---- a record and prices within range, and the names in some sequence
 
 module _ (u : UnitRecord) (prices : List ℤ) (names : List (List ℕ))
-    (kept : caseChecked u prices ≡ Passed) (known : every (once unitNames) names ≡ true) (each : onceEach unitNames names ≡ true) where
-  case-kept : Passing u prices
-  case-kept = passing u prices kept
+    (kept : caseChecked u (pricesKept prices) (length prices) ≡ Passed) (each : named unitNames unitOptional names ≡ true) where
+  names-kept : Named unitNames unitOptional names
+  names-kept = names-are unitNames unitOptional names each
+
+  some : 0 < length names
+  some = some-name unitNames unitOptional names names-kept (omega arith)
+
+  case-kept : Passing u (pricesKept prices) (length prices)
+  case-kept = passing u (pricesKept prices) (length prices) kept
 
   ranges : InRange u
-  ranges = in-range u (case-kept .ranges)
+  ranges = in-range u (case-kept .order .ranges)
 
   abbrev values : List (List ℕ)
   values = map (shownField u) names
@@ -112,43 +124,37 @@ module _ (u : UnitRecord) (prices : List ℤ) (names : List (List ℕ))
       → every (λ name. test (shownField u name)) unitNames ≡ true
   fields-pass test whole limit =
       let r = ranges in
-      conj (whole (u .block) (omega (arith, r .sizes .block-most)))
-      (conj (whole (u .pmin) (omega (arith, r .sizes .pmin-most)))
-      (conj (whole (u .pmax) (omega (arith, r .sizes .pmax-most)))
-      (conj (whole (u .mot) (omega (arith, r .times .mot-most)))
-      (conj (whole (u .mdt) (omega (arith, r .times .mdt-most)))
-      (conj (whole (u .was) (omega (arith, r .times .was-most)))
-      (conj (whole (u .held) (omega (arith, r .times .held-most)))
-      (conj (whole (u .vec) (omega (arith, r .costs .vec-most)))
-      (conj (whole (u .mlc) (omega (arith, r .costs .mlc-most)))
-      (conj (whole (u .suc) (omega (arith, r .costs .suc-most)))
-      (conj (limit (u .starts) (limit-small 2976 (u .starts) (omega arith) (r .limits .starts-kept)))
-      (conj (limit (u .hours) (limit-small 744 (u .hours) (omega arith) (r .limits .hours-kept)))
-      (conj (limit (u .mwh) (limit-small 372000 (u .mwh) (omega arith) (r .limits .mwh-kept))) refl))))))))))))
+      conj (whole (u .generator .block) (omega (arith, r .generator .block-most)))
+      (conj (whole (u .generator .pmin) (omega (arith, r .generator .pmin-most)))
+      (conj (whole (u .generator .pmax) (omega (arith, r .generator .pmax-most)))
+      (conj (whole (u .generator .mot) (omega (arith, r .generator .mot-most)))
+      (conj (whole (u .generator .mdt) (omega (arith, r .generator .mdt-most)))
+      (conj (whole (u .opening .was) (omega (arith, r .opening .was-most)))
+      (conj (whole (u .opening .held) (omega (arith, r .opening .held-most)))
+      (conj (whole (u .costs .vec) (omega (arith, r .costs .vec-most)))
+      (conj (whole (u .costs .mlc) (omega (arith, r .costs .mlc-most)))
+      (conj (whole (u .costs .suc) (omega (arith, r .costs .suc-most)))
+      (conj (limit (u .limits .starts) (limit-small mostStarts (u .limits .starts) (omega arith) (r .limits .starts-kept)))
+      (conj (limit (u .limits .hours) (limit-small mostHours (u .limits .hours) (omega arith) (r .limits .hours-kept)))
+      (conj (limit (u .limits .mwh) (limit-small mostMwh (u .limits .mwh) (omega arith) (r .limits .mwh-kept))) refl))))))))))))
 
   values-pass : (test : List ℕ → Bool) → every (λ name. test (shownField u name)) unitNames ≡ true → every test values ≡ true
-  values-pass test h = sym (every-map test (shownField u) names) ∙ of-names (λ name. test (shownField u name)) unitNames names h known
+  values-pass test h = sym (every-map test (shownField u) names) ∙ of-names (λ name. test (shownField u name)) unitNames unitOptional h refl names (names-kept .no-other)
 
   rows-pass : (test : List ℕ → Bool) → ((z : ℤ) → natAbs z < 10 ^ 10 → test (shownPrice z) ≡ true) → every test rows ≡ true
   rows-pass test price =
       sym (every-map test shownPrice prices)
-      ∙ every-from (λ z. test (shownPrice z)) (pos 0) prices (λ i h. price (getD prices i (pos 0)) (omega (arith, case-kept .price-at i h)))
+      ∙ every-from (λ z. test (shownPrice z)) (pos 0) prices (λ i h. price (getD prices i (pos 0)) (omega (arith, prices-small _ (case-kept .prices) i h)))
 
   -- ---- the lines and their fields
 
-  names-once : (every (once names) unitNames ≡ true) × (eqb (length names) 13 ≡ true)
-  names-once = both (every (once names) unitNames) (eqb (length names) 13) each
-
-  thirteen : length names ≡ 13
-  thirteen = eqb-true (length names) 13 (names-once .1)
-
   names-back : fieldsOf (joined names) ≡ names
   unfolding isOf
-  names-back = some-fields names (omega (arith, thirteen)) (of-names (free Comma) unitNames names refl known)
+  names-back = some-fields names some (of-names (free Comma) unitNames unitOptional refl refl names (names-kept .no-other))
 
   values-back : fieldsOf (joined values) ≡ values
   values-back =
-      some-fields values (omega (arith, thirteen, length-map names (shownField u)))
+      some-fields values (omega (arith, some, length-map names (shownField u)))
       (values-pass (free Comma) (fields-pass (free Comma) (λ n h. whole-unparted n h .no-comma) (λ l h. limit-unparted l h .no-comma)))
 
   abbrev parts : List (List ℕ)
@@ -157,7 +163,7 @@ module _ (u : UnitRecord) (prices : List ℤ) (names : List (List ℕ))
   parts-free : every (free LineEnd) parts ≡ true
   unfolding isOf
   parts-free =
-      conj (joined-line names (of-names (free LineEnd) unitNames names refl known))
+      conj (joined-line names (of-names (free LineEnd) unitNames unitOptional refl refl names (names-kept .no-other)))
       (conj (joined-line values (values-pass (free LineEnd) (fields-pass (free LineEnd) (λ n h. whole-unparted n h .no-end) (λ l h. limit-unparted l h .no-end))))
       (rows-pass (free LineEnd) (λ z h. price-unparted z h .no-end)))
 
@@ -193,7 +199,7 @@ module _ (u : UnitRecord) (prices : List ℤ) (names : List (List ℕ))
   unit-table : tableFormed (joined names) (joined values ∷ []) ≡ true
   unfolding isName isOf
   unit-table =
-      conj (ap (every isName) names-back ∙ of-names isName unitNames names refl known)
+      conj (ap (every isName) names-back ∙ of-names isName unitNames unitOptional refl refl names (names-kept .no-other))
       (conj
       (conj (eq-eqb (length (fieldsOf (joined values))) (length (fieldsOf (joined names))) (ap (λ (l : List (List ℕ)). length l) values-back ∙ length-map names (shownField u) ∙ ap (λ (l : List (List ℕ)). length l) (sym names-back)))
       (ap (every isValue) values-back
@@ -220,18 +226,17 @@ module _ (u : UnitRecord) (prices : List ℤ) (names : List (List ℕ))
         (ap₂ (λ (head row : List ℕ). tableFormed head (row ∷ [])) head-is row-is ∙ unit-table))
         (ap₂ tableFormed price-head-is price-rows-are ∙ price-table)
 
-    named : namesKept text ≡ true
+    named-text : namesKept text ≡ true
     unfolding namesKept isOf
-    named =
-        conj (ap (λ (head : List ℕ). onceEach unitNames (fieldsOf head)) head-is ∙ ap (onceEach unitNames) names-back ∙ each)
-        (ap (λ (head : List ℕ). onceEach priceNames (fieldsOf head)) price-head-is)
+    named-text =
+        conj (ap (λ (head : List ℕ). named unitNames unitOptional (fieldsOf head)) head-is ∙ ap (named unitNames unitOptional) names-back ∙ each)
+        (ap (λ (head : List ℕ). named priceNames priceOptional (fieldsOf head)) price-head-is)
 
     -- ---- the record and the prices
 
     under-name : (k : ℕ) → k < 13 → under (getD unitNames k []) names values ≡ valueOf (shownField u (getD unitNames k []))
     under-name k h =
-        let o = eqb-true (occurs (getD unitNames k []) names) 1 (every-at (once names) [] unitNames k (names-once .0) h) in
-        under-back (shownField u) (getD unitNames k []) names (omega (arith, o))
+        under-back (shownField u) (getD unitNames k []) names (omega (arith, names-kept .once k h))
 
     whole-field : (k : ℕ) → k < 13 → (n : ℕ) → n < 10 ^ 10 → shownField u (getD unitNames k []) ≡ shownWhole n → wholeOf (under (getD unitNames k []) names values) ≡ n
     whole-field k h n b e = ap wholeOf (under-name k h ∙ ap valueOf e ∙ whole-back n b)
@@ -242,20 +247,24 @@ module _ (u : UnitRecord) (prices : List ℤ) (names : List (List ℕ))
     fields-are : unitOf names values ≡ u
     fields-are =
         let r = ranges in
-        fields-alike
-        (whole-field 0 (omega arith) (u .block) (omega (arith, r .sizes .block-most)) refl)
-        (whole-field 1 (omega arith) (u .pmin) (omega (arith, r .sizes .pmin-most)) refl)
-        (whole-field 2 (omega arith) (u .pmax) (omega (arith, r .sizes .pmax-most)) refl)
-        (whole-field 3 (omega arith) (u .mot) (omega (arith, r .times .mot-most)) refl)
-        (whole-field 4 (omega arith) (u .mdt) (omega (arith, r .times .mdt-most)) refl)
-        (whole-field 5 (omega arith) (u .was) (omega (arith, r .times .was-most)) refl)
-        (whole-field 6 (omega arith) (u .held) (omega (arith, r .times .held-most)) refl)
-        (whole-field 7 (omega arith) (u .vec) (omega (arith, r .costs .vec-most)) refl)
-        (whole-field 8 (omega arith) (u .mlc) (omega (arith, r .costs .mlc-most)) refl)
-        (whole-field 9 (omega arith) (u .suc) (omega (arith, r .costs .suc-most)) refl)
-        (limit-field 10 (omega arith) 2976 (omega arith) (u .starts) (r .limits .starts-kept) refl)
-        (limit-field 11 (omega arith) 744 (omega arith) (u .hours) (r .limits .hours-kept) refl)
-        (limit-field 12 (omega arith) 372000 (omega arith) (u .mwh) (r .limits .mwh-kept) refl)
+        unit-alike
+        (generator-alike
+        (whole-field 0 (omega arith) (u .generator .block) (omega (arith, r .generator .block-most)) refl)
+        (whole-field 1 (omega arith) (u .generator .pmin) (omega (arith, r .generator .pmin-most)) refl)
+        (whole-field 2 (omega arith) (u .generator .pmax) (omega (arith, r .generator .pmax-most)) refl)
+        (whole-field 3 (omega arith) (u .generator .mot) (omega (arith, r .generator .mot-most)) refl)
+        (whole-field 4 (omega arith) (u .generator .mdt) (omega (arith, r .generator .mdt-most)) refl))
+        (costs-alike
+        (whole-field 7 (omega arith) (u .costs .vec) (omega (arith, r .costs .vec-most)) refl)
+        (whole-field 8 (omega arith) (u .costs .mlc) (omega (arith, r .costs .mlc-most)) refl)
+        (whole-field 9 (omega arith) (u .costs .suc) (omega (arith, r .costs .suc-most)) refl))
+        (opening-alike
+        (whole-field 5 (omega arith) (u .opening .was) (omega (arith, r .opening .was-most)) refl)
+        (whole-field 6 (omega arith) (u .opening .held) (omega (arith, r .opening .held-most)) refl))
+        (limits-alike
+        (limit-field 10 (omega arith) mostStarts (omega arith) (u .limits .starts) (r .limits .starts-kept) refl)
+        (limit-field 11 (omega arith) mostHours (omega arith) (u .limits .hours) (r .limits .hours-kept) refl)
+        (limit-field 12 (omega arith) mostMwh (omega arith) (u .limits .mwh) (r .limits .mwh-kept) refl))
 
     unit-is : unitIn text ≡ u
     unfolding unitIn
@@ -271,26 +280,26 @@ module _ (u : UnitRecord) (prices : List ℤ) (names : List (List ℕ))
     unfolding pricesIn
     prices-are =
         ap₂ (λ (head : List ℕ) (ls : List (List ℕ)). map (priceOf head) ls) price-head-is price-rows-are
-        ∙ map-back (priceOf priceName) shownPrice prices (λ i h. price-is (getD prices i (pos 0)) (omega (arith, case-kept .price-at i h)))
+        ∙ map-back (priceOf priceName) shownPrice prices (λ i h. price-is (getD prices i (pos 0)) (omega (arith, prices-small _ (case-kept .prices) i h)))
 
     -- ---- what is read
 
     passed : textChecked text room ≡ Passed
-    unfolding textChecked caseKept
-    passed = rw (form, named, unit-is, prices-are, kept, le-leb (length prices) room fits)
+    passed =
+        sym (values-decide text room form named-text) ∙ values-turn text room
+        ∙ rw (unit-is, prices-are, kept, le-leb (length prices) room fits)
 
     case-read : readCase text room ≡ Case u (length prices)
     unfolding readCase
-    case-read = ap₂ (λ (k : Checked) (v : UnitRecord). answered k v (length (pricesIn text))) passed unit-is ∙ ap (λ (l : List ℤ). Case u (length l)) prices-are
+    case-read = ap₂ (λ (k : Checked) (v : UnitRecord). readBy k v (length (pricesIn text))) passed unit-is ∙ ap (λ (l : List ℤ). Case u (length l)) prices-are
 
 -- what is written is read: the answer is the record, and the slice has the prices in front and behind them what was there
-pub written-read : (u : UnitRecord) (prices : List ℤ) (names : List (List ℕ)) (slice : List ℤ) → caseChecked u prices ≡ Passed
-    → onceEach unitNames names ≡ true → length (written names u prices) ≤ mostBytes → length prices ≤ length slice
+pub written-read : (u : UnitRecord) (prices : List ℤ) (names : List (List ℕ)) (slice : List ℤ) → caseChecked u (pricesKept prices) (length prices) ≡ Passed
+    → named unitNames unitOptional names ≡ true → length (written names u prices) ≤ mostBytes → length prices ≤ length slice
     → (readCase (written names u prices) (length slice) ≡ Case u (length prices)) × (readPrices (written names u prices) slice ≡ prices ++ drop (length prices) slice)
 written-read u prices names slice kept each short fits =
-    let room = length slice in
-    let known = no-other unitNames names refl each in (
-      case-read u prices names kept known each room short fits,
-      sym (answer-read (written names u prices) slice (passed u prices names kept known each room short fits) .1)
-          ∙ ap (λ (l : List ℤ). l ++ drop (length l) slice) (prices-are u prices names kept known each room short fits),
+    let room = length slice in (
+      case-read u prices names kept each room short fits,
+      sym (answer-read (written names u prices) slice (passed u prices names kept each room short fits) .1)
+          ∙ ap (λ (l : List ℤ). l ++ drop (length l) slice) (prices-are u prices names kept each room short fits),
     )

@@ -11,16 +11,16 @@ use lib.ListN.{length}
 use borrow.Author.Tests.{ltb-true, ltb-false, le-leb, ne-eqb, eqb-true}
 use Rattle.commitment.specs.declared.Limit.{Limit}
 use Rattle.commitment.specs.declared.Limit.the-variants.{None, At}
-use Rattle.commitment.specs.Ranges.{every}
-use Rattle.commitment.proofs.Conjunctions.{both}
-use Rattle.lines.specs.declared.Class.{Class}
-use Rattle.lines.specs.declared.Class.the-variants.{Digit, Comma, LineEnd}
-use Rattle.lines.specs.declared.Value.the-variants.{Number}
-use Rattle.lines.specs.Bytes.{rank, classOf, isOf, same}
-use Rattle.lines.specs.Values.{decimal, leadKept, numeral, lowered, noneWord, valueOf}
-use Rattle.lines.proofs.Digits.{digit-range}
+use Rattle.lists.specs.Every.{every}
+use Rattle.lists.proofs.Conjunctions.{both}
+use Rattle.tabletext.specs.declared.Class.{Class}
+use Rattle.tabletext.specs.declared.Class.the-variants.{Digit, Comma, LineEnd}
+use Rattle.tabletext.specs.declared.Value.the-variants.{Number}
+use Rattle.tabletext.specs.Bytes.{rank, classOf, isOf, same}
+use Rattle.tabletext.specs.Values.{fromDigits, leadKept, numeral, negated, noneWord, valueOf}
+use Rattle.tabletext.proofs.Digits.{digit-range}
 use Rattle.writing.specs.Writing.{digitsOf, shownWhole, shownPrice, shownLimit}
-use Rattle.writing.proofs.AsWritten.{limitValue}
+use Rattle.writing.specs.AsWritten.{limitValue}
 use Rattle.writing.proofs.Pieces.{free}
 
 -- ---- digits
@@ -41,7 +41,7 @@ leads-kept (b ∷ d ∷ bs) e = e
 
 -- digits in front of others
 record Digits (n : ℕ) (others s : List ℕ) : Type 0 where
-  number : decimal 0 s ≡ decimal n others
+  number : fromDigits 0 s ≡ fromDigits n others
   first : 0 < n → leads s ≡ true
   each : every (isOf Digit) others ≡ true → every (isOf Digit) s ≡ true
 
@@ -49,7 +49,7 @@ last-digit : (n : ℕ) (others : List ℕ) → n < 10 → Digits n others ((48 +
 last-digit n others h =
     let z : 0 * 10 + (48 + n - 48) ≡ n = omega arith in
     record {
-      number = ap (λ (m : ℕ). decimal m others) z;
+      number = ap (λ (m : ℕ). fromDigits m others) z;
       first = λ p. ap not (ne-eqb (48 + n) 48 (λ e. omega arith));
       each = λ e. rw (is-digit n h, e);
     }
@@ -58,7 +58,7 @@ more-digits : (n : ℕ) (others s : List ℕ) → 10 ≤ n → Digits (n / 10) (
 more-digits n others s h d =
     let z : n / 10 * 10 + (48 + n % 10 - 48) ≡ n = omega arith in
     record {
-      number = d .number ∙ ap (λ (m : ℕ). decimal m others) z;
+      number = d .number ∙ ap (λ (m : ℕ). fromDigits m others) z;
       first = λ p. d .first (omega arith);
       each = λ e. d .each (rw (is-digit (n % 10) (omega arith), e));
     }
@@ -89,7 +89,7 @@ few-digits (suc k) n others = go (ltb n 10) (few-digits k (n / 10) ((48 + n % 10
 record Shown (n : ℕ) (s : List ℕ) : Type 0 where
   numeral-is : numeral s ≡ true
   digits : every (isOf Digit) s ≡ true
-  number : decimal 0 s ≡ n
+  number : fromDigits 0 s ≡ n
 
 shown : (n : ℕ) → n < 10 ^ 10 → Shown n (shownWhole n)
 unfolding numeral isOf
@@ -110,7 +110,7 @@ not-none (b ∷ bs) e =
     let d = digit-range b (both (isOf Digit b) (every (isOf Digit) bs) e .0) in
     rw (ne-eqb b 110 (λ q. omega arith))
 
-numeral-value : (s : List ℕ) → numeral s ≡ true → every (isOf Digit) s ≡ true → valueOf s ≡ Number (pos (decimal 0 s))
+numeral-value : (s : List ℕ) → numeral s ≡ true → every (isOf Digit) s ≡ true → valueOf s ≡ Number (pos (fromDigits 0 s))
 unfolding valueOf
 numeral-value s e d = rw (not-none s d, e)
 
@@ -121,8 +121,8 @@ whole-back n h =
 
 -- ---- a number below 0
 
-lowered-back : (s : List ℕ) (n : ℕ) → numeral s ≡ true → decimal 0 s ≡ suc n → lowered s ≡ Number (negsuc n)
-lowered-back s n e d = rw (e, d, ne-eqb (suc n) 0 (λ q. omega arith))
+negated-back : (s : List ℕ) (n : ℕ) → numeral s ≡ true → fromDigits 0 s ≡ suc n → negated s ≡ Number (negsuc n)
+negated-back s n e d = rw (e, d, ne-eqb (suc n) 0 (λ q. omega arith))
 
 minus-numeral : (s : List ℕ) → numeral (45 ∷ s) ≡ false
 unfolding numeral isOf
@@ -132,7 +132,7 @@ minus-numeral s = go (leadKept (45 ∷ s))
     go true = refl
     go false = refl
 
-minus-value : (s : List ℕ) → valueOf (45 ∷ s) ≡ lowered s
+minus-value : (s : List ℕ) → valueOf (45 ∷ s) ≡ negated s
 unfolding valueOf isOf
 minus-value s = rw (minus-numeral s)
 
@@ -140,7 +140,7 @@ pub price-back : (z : ℤ) → natAbs z < 10 ^ 10 → valueOf (shownPrice z) ≡
 price-back (pos n) h = whole-back n h
 price-back (negsuc n) h =
     let k = shown (suc n) h in
-    minus-value (shownWhole (suc n)) ∙ lowered-back (shownWhole (suc n)) n (k .numeral-is) (k .number)
+    minus-value (shownWhole (suc n)) ∙ negated-back (shownWhole (suc n)) n (k .numeral-is) (k .number)
 
 pub limit-back : (l : Limit) → ((n : ℕ) → l ≡ At n → n < 10 ^ 10) → valueOf (shownLimit l) ≡ limitValue l
 unfolding valueOf

@@ -4,12 +4,12 @@ use mathlib.Core.Bool.{Bool, true, false, not}
 use mathlib.Core.List.{List, [], _∷_, _++_}
 use Prim.Native.Nat.{ℕ}
 use borrow.Author.Tests.{not-true}
-use Rattle.commitment.specs.Ranges.{every}
-use Rattle.commitment.proofs.Conjunctions.{both}
-use Rattle.lines.specs.declared.Class.{Class}
-use Rattle.lines.specs.declared.Class.the-variants.{Comma, LineEnd}
-use Rattle.lines.specs.Bytes.{isOf}
-use Rattle.lines.specs.Pieces.{linesOf, closed, fieldsOf}
+use Rattle.lists.specs.Every.{every}
+use Rattle.lists.proofs.Conjunctions.{both}
+use Rattle.tabletext.specs.declared.Class.{Class}
+use Rattle.tabletext.specs.declared.Class.the-variants.{Comma, LineEnd}
+use Rattle.tabletext.specs.Bytes.{isOf}
+use Rattle.tabletext.specs.Pieces.{linesOf, lastClosed, fieldsOf}
 use Rattle.writing.specs.Writing.{joined, closing}
 
 -- no byte is of the class
@@ -50,17 +50,17 @@ lines-back (line ∷ lines) h =
 
 -- ---- the last line is closed
 
-closed-behind : (s : List ℕ) (b : ℕ) (bs : List ℕ) → closed (s ++ b ∷ bs) ≡ closed (b ∷ bs)
+closed-behind : (s : List ℕ) (b : ℕ) (bs : List ℕ) → lastClosed (s ++ b ∷ bs) ≡ lastClosed (b ∷ bs)
 closed-behind [] b bs = refl
 closed-behind (a ∷ []) b bs = refl
 closed-behind (a ∷ c ∷ s) b bs = closed-behind (c ∷ s) b bs
 
-pub closing-closed : (line : List ℕ) (lines : List (List ℕ)) → closed (closing (line ∷ lines)) ≡ true
+pub closing-closed : (line : List ℕ) (lines : List (List ℕ)) → lastClosed (closing (line ∷ lines)) ≡ true
 unfolding isOf
 closing-closed line [] = closed-behind line 10 []
 closing-closed line (next ∷ lines) = closed-behind line 10 (closing (next ∷ lines)) ∙ below (next ++ 10 ∷ closing lines) (closing-closed next lines)
   where
-    below : (rest : List ℕ) → closed rest ≡ true → closed (10 ∷ rest) ≡ true
+    below : (rest : List ℕ) → lastClosed rest ≡ true → lastClosed (10 ∷ rest) ≡ true
     below [] h = refl
     below (b ∷ bs) h = h
 

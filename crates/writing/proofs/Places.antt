@@ -5,25 +5,15 @@ use mathlib.Core.List.{List, [], _∷_}
 use Prim.Native.Nat.{ℕ, zero, suc, _<_}
 use native.Mathlib.Omega.{arith}
 use lib.ListN.{length, getD}
-use Rattle.lines.specs.declared.Value.{Value}
-use Rattle.lines.specs.Bytes.{same}
-use Rattle.lines.specs.Tables.{occurs, under}
-use Rattle.lines.specs.Values.{valueOf}
-use Rattle.lines.proofs.Alike.{same-refl, same-eq}
-
--- "the value under its name": the name stands at one place of the line of names, and the value at that place of the line of values
-pub record Written (names values : List (List ℕ)) (name : List ℕ) (value : Value) : Type 0 where
-  pub place : ℕ
-  pub within : place < length names
-  pub named : getD names place [] ≡ name
-  pub holds : valueOf (getD values place []) ≡ value
-  pub only : (i : ℕ) → i < length names → getD names i [] ≡ name → i ≡ place
+use Rattle.tabletext.specs.Bytes.{same}
+use Rattle.tabletext.specs.Tables.{occurs, under}
+use Rattle.tabletext.specs.Values.{valueOf}
+use Rattle.tabletext.proofs.Alike.{same-refl, same-eq}
+use Rattle.tabletext.proofs.Walks.{weight}
+use Rattle.writing.specs.AsWritten.{StandsUnder}
 
 alike : (field name : List ℕ) → field ≡ name → same field name ≡ true
 alike field name e = ap (λ (s : List ℕ). same s name) e ∙ same-refl name
-
-abbrev weight : Bool → ℕ
-weight t = cond t 1 0
 
 -- a name that does not occur stands nowhere
 nowhere : (name : List ℕ) (fields : List (List ℕ)) (i : ℕ) → occurs name fields ≡ 0 → i < length fields → getD fields i [] ≡ name → ⊥
@@ -32,14 +22,14 @@ nowhere name (field ∷ fields) zero z h e = omega (arith, ap weight (alike fiel
 nowhere name (field ∷ fields) (suc i) z h e = nowhere name fields i (omega (arith, z)) (omega arith) e
 
 -- a name that occurs once has its value under it
-pub stands : (name : List ℕ) (names values : List (List ℕ)) → occurs name names ≡ 1 → length values ≡ length names → Written names values name (under name names values)
+pub stands : (name : List ℕ) (names values : List (List ℕ)) → occurs name names ≡ 1 → length values ≡ length names → StandsUnder names values name (under name names values)
 stands name [] values o l = absurd (omega (arith, o))
 stands name (field ∷ fields) [] o l = absurd (omega (arith, l))
 stands name (field ∷ fields) (value ∷ values) o l = go (same field name) refl (stands name fields values)
   where
     go : (t : Bool) → same field name ≡ t
-        → (occurs name fields ≡ 1 → length values ≡ length fields → Written fields values name (under name fields values))
-        → Written (field ∷ fields) (value ∷ values) name (cond (same field name) (valueOf value) (under name fields values))
+        → (occurs name fields ≡ 1 → length values ≡ length fields → StandsUnder fields values name (under name fields values))
+        → StandsUnder (field ∷ fields) (value ∷ values) name (cond (same field name) (valueOf value) (under name fields values))
     go true q below =
         record {
           place = 0;
@@ -62,6 +52,6 @@ stands name (field ∷ fields) (value ∷ values) o l = go (same field name) ref
           only = later w;
         }
       where
-        later : (w : Written fields values name (under name fields values)) (i : ℕ) → i < suc (length fields) → getD (field ∷ fields) i [] ≡ name → i ≡ suc (w .place)
+        later : (w : StandsUnder fields values name (under name fields values)) (i : ℕ) → i < suc (length fields) → getD (field ∷ fields) i [] ≡ name → i ≡ suc (w .place)
         later w zero h e = absurd (false≢true (sym q ∙ alike field name e))
         later w (suc i) h e = ap suc (w .only i (omega arith) e)

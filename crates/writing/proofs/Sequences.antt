@@ -1,97 +1,75 @@
--- A line that has each name of a table once, and no more fields than that, has no other field: by counting the pairs of a name and a field alike both ways.
-use mathlib.Core.Path.{_≡_, refl, sym, ap, _∙_}
-use mathlib.Core.Bool.{Bool, true, false, _&&_, cond}
+-- A line whose names are those of its tables, in any sequence: each required name stands once, and every field is a name of theirs.
+use mathlib.Core.Path.{_≡_, refl, sym, ap, ap₂, _∙_}
+use mathlib.Core.Bool.{Bool, true, false, _&&_, _||_, false≢true}
 use mathlib.Core.List.{List, [], _∷_}
-use Prim.Native.Nat.{ℕ, _+_, _≤_}
+use Prim.Native.Nat.{ℕ, suc, _+_, _≤_, _<_}
 use native.Mathlib.Omega.{arith}
-use lib.Dec.{eqb}
-use lib.ListN.{length}
-use borrow.Author.Tests.{eq-eqb, ne-eqb, eqb-true, eqb-false}
-use Rattle.commitment.specs.Ranges.{every}
-use Rattle.commitment.proofs.Conjunctions.{both}
-use Rattle.lines.specs.Bytes.{same}
-use Rattle.lines.specs.Tables.{occurs}
-use Rattle.lines.proofs.Alike.{same-eq}
-use Rattle.casetext.specs.Names.{once, onceEach}
+use lib.Dec.{leb}
+use lib.ListN.{length, getD}
+use borrow.Author.Tests.{leb-true}
+use Rattle.lists.specs.Every.{every}
+use Rattle.lists.proofs.Conjunctions.{both}
+use Rattle.lists.proofs.Every.{every-at}
+use Rattle.tabletext.specs.Bytes.{same}
+use Rattle.tabletext.specs.Tables.{occurs, standing, known, named}
+use Rattle.tabletext.proofs.Alike.{same-refl, same-eq}
+use Rattle.tabletext.proofs.Walks.{weight, tally-most}
 
-total : (List ℕ → ℕ) → List (List ℕ) → ℕ
-total count [] = 0
-total count (x ∷ xs) = count x + total count xs
+pub record Named (required optional fields : List (List ℕ)) : Type 0 where
+  pub once : (k : ℕ) → k < length required → occurs (getD required k []) fields ≡ 1
+  pub no-other : every (known required optional) fields ≡ true
 
-abbrev weight : Bool → ℕ
-weight t = cond t 1 0
+module _ (required optional fields : List (List ℕ)) where
+  pub names-are : named required optional fields ≡ true → Named required optional fields
+  names-are e =
+      let p = both (every (standing 1 fields) required && every (standing 0 fields) optional) (every (known required optional) fields) e in
+      record { once = at (both (every (standing 1 fields) required) (every (standing 0 fields) optional) (p .0) .0); no-other = p .1 }
+    where
+      at : every (standing 1 fields) required ≡ true → (k : ℕ) → k < length required → occurs (getD required k []) fields ≡ 1
+      at r k h =
+          let n = occurs (getD required k []) fields in
+          let q = both (leb 1 n) (leb n 1) (every-at (standing 1 fields) [] required k r h) in
+          omega (arith, leb-true 1 n (q .0), leb-true n 1 (q .1))
 
--- ---- both ways of counting agree
+  -- there is a field where there is a required name
+  pub some-name : Named required optional fields → 0 < length required → 0 < length fields
+  some-name n h = omega (arith, n .once 0 h, tally-most (λ field. same field (getD required 0 [])) fields)
 
-eqb-sym : (a b : ℕ) → eqb a b ≡ eqb b a
-eqb-sym a b = go (eqb b a) refl
+-- ---- what holds of each name of the tables holds of every field
+
+module _ (test : List ℕ → Bool) where
+  pub of-table : (table : List (List ℕ)) (name : List ℕ) → every test table ≡ true → 1 ≤ occurs name table → test name ≡ true
+  of-table [] name h o = absurd (omega (arith, o))
+  of-table (entry ∷ table) name h o = go (same entry name) refl (both (test entry) (every test table) h) (of-table table name)
+    where
+      go : (t : Bool) → same entry name ≡ t → (test entry ≡ true) × (every test table ≡ true)
+          → (every test table ≡ true → 1 ≤ occurs name table → test name ≡ true) → test name ≡ true
+      go true e p below = ap test (sym (same-eq entry name e)) ∙ p .0
+      go false e p below = below (p .1) (omega (arith, ap weight e, o))
+
+  module _ (required optional : List (List ℕ)) (of-required : every test required ≡ true) (of-optional : every test optional ≡ true) where
+    of-known : (name : List ℕ) → known required optional name ≡ true → test name ≡ true
+    of-known name k = go (leb 1 (occurs name required)) refl k
+      where
+        go : (t : Bool) → leb 1 (occurs name required) ≡ t → t || leb 1 (occurs name optional) ≡ true → test name ≡ true
+        go true e q = of-table required name of-required (leb-true 1 (occurs name required) e)
+        go false e q = of-table optional name of-optional (leb-true 1 (occurs name optional) q)
+
+    pub of-names : (names : List (List ℕ)) → every (known required optional) names ≡ true → every test names ≡ true
+    of-names [] k = refl
+    of-names (name ∷ names) k =
+        let p = both (known required optional name) (every (known required optional) names) k in
+        ap₂ _&&_ (of-known name (p .0)) (of-names names (p .1))
+
+-- ---- a table of one name
+
+pub all-this : (name : List ℕ) (fields : List (List ℕ)) → every (known (name ∷ []) []) fields ≡ true → occurs name fields ≡ length fields
+all-this name [] k = refl
+all-this name (field ∷ fields) k = go (same name field) refl (both (known (name ∷ []) [] field) _ k) (all-this name fields)
   where
-    go : (t : Bool) → eqb b a ≡ t → eqb a b ≡ t
-    go true e = eq-eqb a b (sym (eqb-true b a e))
-    go false e = ne-eqb a b (λ q. eqb-false b a e (sym q))
-
-same-sym : (a b : List ℕ) → same a b ≡ same b a
-same-sym [] [] = refl
-same-sym [] (b ∷ bs) = refl
-same-sym (a ∷ rest) [] = refl
-same-sym (a ∷ rest) (b ∷ bs) = rw (eqb-sym a b, same-sym rest bs)
-
-no-fields : (table : List (List ℕ)) → total (λ name. occurs name []) table ≡ 0
-unfolding total
-no-fields [] = refl
-no-fields (name ∷ table) = omega (arith, no-fields table)
-
-one-field-more : (table : List (List ℕ)) (field : List ℕ) (fields : List (List ℕ))
-    → total (λ name. occurs name (field ∷ fields)) table ≡ occurs field table + total (λ name. occurs name fields) table
-unfolding total
-one-field-more [] field fields = refl
-one-field-more (name ∷ table) field fields = omega (arith, one-field-more table field fields, ap weight (same-sym field name))
-
-both-ways : (table fields : List (List ℕ)) → total (λ name. occurs name fields) table ≡ total (λ field. occurs field table) fields
-unfolding total
-both-ways table [] = no-fields table
-both-ways table (field ∷ fields) = omega (arith, one-field-more table field fields, both-ways table fields)
-
--- ---- counts of at most one each
-
--- no name of the table stands in it twice
-abbrev pub distinct : List (List ℕ) → Bool
-distinct [] = true
-distinct (name ∷ table) = eqb (occurs name table) 0 && distinct table
-
-at-most-once : (table : List (List ℕ)) → distinct table ≡ true → (field : List ℕ) → occurs field table ≤ 1
-at-most-once [] d field = omega arith
-at-most-once (name ∷ table) d field = go (same name field) refl (at-most-once table (both (eqb (occurs name table) 0) (distinct table) d .1) field)
-  where
-    go : (t : Bool) → same name field ≡ t → occurs field table ≤ 1 → occurs field (name ∷ table) ≤ 1
-    go true e h =
-        let z = eqb-true (occurs name table) 0 (both (eqb (occurs name table) 0) (distinct table) d .0) in
-        omega (arith, ap weight e, ap (λ (n : List ℕ). occurs n table) (same-eq name field e), z)
-    go false e h = omega (arith, ap weight e)
-
-all-ones : (table fields : List (List ℕ)) → every (once fields) table ≡ true → total (λ name. occurs name fields) table ≡ length table
-unfolding total
-all-ones [] fields h = refl
-all-ones (name ∷ table) fields h =
-    let p = both (once fields name) (every (once fields) table) h in
-    omega (arith, eqb-true (occurs name fields) 1 (p .0), all-ones table fields (p .1))
-
-module _ (count : List ℕ → ℕ) (small : (x : List ℕ) → count x ≤ 1) where
-  total-most : (xs : List (List ℕ)) → total count xs ≤ length xs
-  unfolding total
-  total-most [] = omega arith
-  total-most (x ∷ xs) = omega (arith, small x, total-most xs)
-
-  -- where they add up to the length, each is one
-  each-one : (xs : List (List ℕ)) → total count xs ≡ length xs → every (λ x. eqb (count x) 1) xs ≡ true
-  unfolding total
-  each-one [] e = refl
-  each-one (x ∷ xs) e =
-      let o : count x ≡ 1 = omega (arith, small x, total-most xs, e) in
-      rw (eq-eqb (count x) 1 o) (each-one xs (omega (arith, o, e)))
-
-pub no-other : (table fields : List (List ℕ)) → distinct table ≡ true → onceEach table fields ≡ true → every (once table) fields ≡ true
-no-other table fields d h =
-    let p = both (every (once fields) table) (eqb (length fields) (length table)) h in
-    each-one (λ field. occurs field table) (at-most-once table d) fields
-    (sym (both-ways table fields) ∙ all-ones table fields (p .0) ∙ sym (eqb-true (length fields) (length table) (p .1)))
+    go : (t : Bool) → same name field ≡ t → (known (name ∷ []) [] field ≡ true) × (every (known (name ∷ []) []) fields ≡ true)
+        → (every (known (name ∷ []) []) fields ≡ true → occurs name fields ≡ length fields) → occurs name (field ∷ fields) ≡ suc (length fields)
+    go true e p below =
+        let s : same field name ≡ true = ap (λ (l : List ℕ). same field l) (same-eq name field e) ∙ same-refl field in
+        omega (arith, ap weight s, below (p .1))
+    go false e p below = absurd (false≢true (sym (ap (λ (t : Bool). leb 1 (weight t + 0) || false) e) ∙ p .0))

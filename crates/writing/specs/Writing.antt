@@ -7,9 +7,10 @@ use lib.IntN.{ℤ, pos, negsuc}
 use Rattle.commitment.specs.declared.Limit.{Limit}
 use Rattle.commitment.specs.declared.Limit.the-variants.{None, At}
 use Rattle.commitment.specs.declared.UnitRecord.{UnitRecord}
-use Rattle.lines.specs.Bytes.{same}
-use Rattle.lines.specs.Values.{noneWord}
-use Rattle.casetext.specs.Names.{blockName, pminName, pmaxName, motName, mdtName, wasName, heldName, vecName, mlcName, sucName, startsName, hoursName, mwhName, priceName}
+use Rattle.tabletext.specs.Bytes.{same}
+use Rattle.tabletext.specs.Values.{noneWord}
+use Rattle.casetext.specs.Names.{blockName, pminName, pmaxName, motName, mdtName, wasName, heldName, vecName, mlcName, sucName}
+use Rattle.casetext.specs.Names.{startsName, hoursName, mwhName, priceName}
 
 -- fields joined by commas
 abbrev pub joined : List (List ℕ) → List ℕ
@@ -42,19 +43,19 @@ shownLimit (At n) = shownWhole n
 -- a field of the record, by its name
 abbrev pub shownField : UnitRecord → List ℕ → List ℕ
 shownField u name =
-    cond (same name blockName) (shownWhole (u .block))
-    (cond (same name pminName) (shownWhole (u .pmin))
-    (cond (same name pmaxName) (shownWhole (u .pmax))
-    (cond (same name motName) (shownWhole (u .mot))
-    (cond (same name mdtName) (shownWhole (u .mdt))
-    (cond (same name wasName) (shownWhole (u .was))
-    (cond (same name heldName) (shownWhole (u .held))
-    (cond (same name vecName) (shownWhole (u .vec))
-    (cond (same name mlcName) (shownWhole (u .mlc))
-    (cond (same name sucName) (shownWhole (u .suc))
-    (cond (same name startsName) (shownLimit (u .starts))
-    (cond (same name hoursName) (shownLimit (u .hours))
-    (cond (same name mwhName) (shownLimit (u .mwh))
+    cond (same name blockName) (shownWhole (u .generator .block))
+    (cond (same name pminName) (shownWhole (u .generator .pmin))
+    (cond (same name pmaxName) (shownWhole (u .generator .pmax))
+    (cond (same name motName) (shownWhole (u .generator .mot))
+    (cond (same name mdtName) (shownWhole (u .generator .mdt))
+    (cond (same name wasName) (shownWhole (u .opening .was))
+    (cond (same name heldName) (shownWhole (u .opening .held))
+    (cond (same name vecName) (shownWhole (u .costs .vec))
+    (cond (same name mlcName) (shownWhole (u .costs .mlc))
+    (cond (same name sucName) (shownWhole (u .costs .suc))
+    (cond (same name startsName) (shownLimit (u .limits .starts))
+    (cond (same name hoursName) (shownLimit (u .limits .hours))
+    (cond (same name mwhName) (shownLimit (u .limits .mwh))
     []))))))))))))
 
 -- the text of a case, its names in a sequence of the writer's own

@@ -9,7 +9,7 @@ use lib.Seq.{length-take-le}
 use Rattle.casefile.specs.declared.CaseRead.{CaseRead}
 use Rattle.casefile.specs.Reading.{pricesIn}
 use Rattle.answers.specs.Printing.{readPrinted, printed}
-use Rattle.answers.specs.Slices.{scheduleLeft, scratchLeft}
+use Rattle.answers.specs.Slices.{scheduleAnswered, scratchAnswered}
 use borrow.Author.Needs.{needs}
 use Rattle.answers.proofs.Printing.{written-as, count-fits, prices-read}
 use Rattle.answers.proofs.answer_into.Statement.{statement}
@@ -20,10 +20,10 @@ abbrev lines : tie.Start → CaseRead → List ℕ
 lines c answer = readPrinted answer (pricesIn (c .args .text .now)) (length (c .args .scratch .now)) (length (c .args .schedule .now))
 
 abbrev schedule : tie.Start → CaseRead → List ℕ
-schedule c answer = scheduleLeft answer (pricesIn (c .args .text .now)) (length (c .args .scratch .now)) (c .args .schedule .now)
+schedule c answer = scheduleAnswered answer (pricesIn (c .args .text .now)) (length (c .args .scratch .now)) (c .args .schedule .now)
 
 abbrev cells : tie.Start → CaseRead → List ℤ
-cells c answer = scratchLeft answer (pricesIn (c .args .text .now)) (length (c .args .schedule .now)) (c .args .scratch .now)
+cells c answer = scratchAnswered answer (pricesIn (c .args .text .now)) (length (c .args .schedule .now)) (c .args .scratch .now)
 
 fits : (c : tie.After-known-told2) → c .before .unit .given .0 .1 .0 ≤ length (c .before .before .before .before .read-into .last .1 .0)
 fits c =

@@ -11,7 +11,7 @@ use Rattle.commitment.specs.Best.{best}
 use Rattle.commitment.specs.Valuing.{outcomesOf}
 use Rattle.listing.specs.Listing.{listing}
 use Rattle.planner.specs.Planning.{planChecked}
-use Rattle.planner.proofs.Answers.{report-fits}
+use Rattle.planner.proofs.Answering.{report-fits}
 use borrow.Author.Needs.{needs}
 use Rattle.answers.proofs.Printing.{written-as, case-refused, case-listed}
 use Rattle.answers.proofs.report.Statement.{statement}

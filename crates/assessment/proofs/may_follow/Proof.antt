@@ -1,12 +1,12 @@
 -- Both tests.
-
 use borrow.Author.Needs.{needs}
+use Rattle.commitment.proofs.Ranges.{generator-kept}
 use Rattle.assessment.specs.Walking.{mayFollow}
 use Rattle.assessment.proofs.may_follow.Statement.{statement}
 use Rattle.assessment.proofs.may_follow.Tie as tie
 
 is-output-requires : tie.Need-is-output-requires
-is-output-requires c κs = search needs
+is-output-requires c κs = let s = c .before in generator-kept (s .args .unit) (s .pre)
 
 spell-kept-requires : tie.Need-spell-kept-requires
 spell-kept-requires c κs = search needs

@@ -2,6 +2,7 @@
 use mathlib.Core.Path.{_≡_, ap, _∙_}
 use borrow.Author.Tests.{ne-eqb, eq-eqb}
 use lib.ListN.{length}
+use Rattle.commitment.specs.Ranges.{pricesKept}
 use Rattle.commitment.proofs.Passing.{passing}
 use Rattle.assessment.specs.Walking.{concluded}
 use Rattle.assessment.proofs.Walking.{walk-is}
@@ -18,7 +19,7 @@ walk-whole-requires : tie.Need-walk-whole-requires
 walk-whole-requires c κs = (c .before .before .pre, length-is c)
 
 conclude-requires : tie.Need-conclude-requires
-conclude-requires c κs = passing (c .before .before .before .args .unit) (c .before .before .before .args .prices .now) (c .before .before .before .pre) .ranges
+conclude-requires c κs = let s = c .before .before .before in passing (s .args .unit) (pricesKept (s .args .prices .now)) (length (s .args .prices .now)) (s .pre) .order .ranges
 
 returns-2 : tie.Need-returns-2
 returns-2 c =

@@ -4,29 +4,30 @@ use mathlib.Core.Bool.{_&&_}
 use native.Mathlib.Omega.{arith}
 use Rattle.integers.proofs.Ranges.{plain-fits}
 use Rattle.commitment.specs.Limits.{within}
-use Rattle.commitment.proofs.Ranges.{in-range, limit-wider}
+use Rattle.commitment.specs.declared.Limitation.the-variants.{Starts, Hours, Mwh}
+use Rattle.commitment.proofs.Ranges.{limit-small}
 use Rattle.assessment.proofs.settle.Statement.{statement}
 use Rattle.assessment.proofs.settle.Tie as tie
 
 -- what the tests found of the totals
 kept : (c : tie.After-within-limit3)
-    → (within 1 (c .before .before .before .args .at .starts) (c .before .before .before .args .unit .starts)
-    && within 4 (c .before .before .before .args .at .running) (c .before .before .before .args .unit .hours)
-    && within 4 (c .before .before .before .args .at .output) (c .before .before .before .args .unit .mwh))
+    → (within 1 (c .before .before .before .before .args .at .starts) (c .before .before .before .before .args .unit .limits .starts)
+    && within 4 (c .before .before .before .before .args .at .running) (c .before .before .before .before .args .unit .limits .hours)
+    && within 4 (c .before .before .before .before .args .at .output) (c .before .before .before .before .args .unit .limits .mwh))
     ≡ (c .before .before .within-limit .result && c .before .within-limit2 .result && c .within-limit3 .result)
 kept c = sym (ap₂ _&&_ (ap₂ _&&_ (c .before .before .within-limit .ensures) (c .before .within-limit2 .ensures)) (c .within-limit3 .ensures))
 
 within-limit-requires : tie.Need-within-limit-requires
-within-limit-requires c κs = (omega arith, limit-wider 2976 372000 (c .args .unit .starts) (omega arith) (in-range (c .args .unit) (c .pre) .limits .starts-kept))
+within-limit-requires c κs = (omega arith, limit-small (c .before .args .unit) (c .before .pre) Starts)
 
 within-limit-requires-2 : tie.Need-within-limit-requires-2
-within-limit-requires-2 c κs = (omega arith, limit-wider 744 372000 (c .before .args .unit .hours) (omega arith) (in-range (c .before .args .unit) (c .before .pre) .limits .hours-kept))
+within-limit-requires-2 c κs = (omega arith, limit-small (c .before .before .args .unit) (c .before .before .pre) Hours)
 
 within-limit-requires-3 : tie.Need-within-limit-requires-3
-within-limit-requires-3 c κs = (omega arith, in-range (c .before .before .args .unit) (c .before .before .pre) .limits .mwh-kept)
+within-limit-requires-3 c κs = (omega arith, limit-small (c .before .before .before .args .unit) (c .before .before .before .pre) Mwh)
 
 returns : tie.Need-returns
-returns c = simp (kept (c .before .before) ∙ c .before .if1 .taken, plain-fits {x = c .before .before .before .before .before .args .at .profit} (record { sfits = c .struct-told .given .1 .1 .1 .1 .1 .0 .1 }))
+returns c = simp (kept (c .before .before) ∙ c .before .if1 .taken, plain-fits {x = c .before .before .before .before .before .before .args .at .profit} (record { sfits = c .struct-told .given .1 .1 .1 .1 .1 .0 .1 }))
 
 returns-2 : tie.Need-returns-2
 returns-2 c = simp (kept (c .before) ∙ c .if1 .left)

@@ -9,11 +9,13 @@ use lib.IntN.{pos, natAbs}
 use lib.ListN.{length, drop, getD}
 use mir.Syntax.{w64}
 use mir.Val.{toZ, ofZ}
+use Rattle.commitment.specs.Bounds.{mostMw, mostPrice}
 use Rattle.integers.proofs.Ranges.{plain-fits}
 use Rattle.commitment.specs.Schedule.{isOutput}
-use Rattle.commitment.proofs.Conjunctions.{both}
-use Rattle.commitment.proofs.Passing.{Passing, passing}
-use Rattle.assessment.specs.Walking.{opening, spellKept, mayFollow, stepped, walkFrom}
+use Rattle.lists.proofs.Conjunctions.{both}
+use Rattle.commitment.proofs.Passing.{Passing, passing, prices-small}
+use Rattle.commitment.specs.Ranges.{pricesKept}
+use Rattle.assessment.specs.Walking.{openingWalk, spellKept, mayFollow, stepped, walkFrom}
 use Rattle.assessment.proofs.Bounds.{Bounded, bounded-small, output-most, opening-bounded, step-bounded}
 use Rattle.assessment.proofs.Walking.{walk-on, walk-broken, walk-done}
 use Rattle.assessment.proofs.walk_whole.Statement.{statement}
@@ -21,14 +23,14 @@ use Rattle.assessment.proofs.walk_whole.Tie as tie
 
 abbrev Inv-loop : tie.InvT-loop
 Inv-loop unit prices schedule at₀ i₀ at i =
-    (i ≤ length prices) × Bounded i at × (walkFrom unit at (drop i prices) (drop i schedule) ≡ walkFrom unit (opening unit) prices schedule)
+    (i ≤ length prices) × Bounded i at × (walkFrom unit at (drop i prices) (drop i schedule) ≡ walkFrom unit (openingWalk (unit .opening)) prices schedule)
 
 abbrev μ-loop : tie.MeasureT-loop
 μ-loop unit prices schedule at₀ i₀ at i = length prices - i
 
 -- the case is in order, and an interval of it has an output
-in-order : (c : tie.At-loop Inv-loop μ-loop) → Passing (c .before .before .before .args .unit) (c .before .before .before .args .prices .now)
-in-order c = passing (c .before .before .before .args .unit) (c .before .before .before .args .prices .now) (c .before .before .before .pre .0)
+in-order : (c : tie.At-loop Inv-loop μ-loop) → Passing (c .before .before .before .args .unit) (pricesKept (c .before .before .before .args .prices .now)) (length (c .before .before .before .args .prices .now))
+in-order c = passing (c .before .before .before .args .unit) (pricesKept (c .before .before .before .args .prices .now)) (length (c .before .before .before .args .prices .now)) (c .before .before .before .pre .0)
 
 output-there : (c : tie.In-loop Inv-loop μ-loop) → c .before .loop .i < length (c .before .before .before .before .args .schedule .now)
 output-there c = omega (arith, c .before .before .before .before .pre .1)
@@ -41,14 +43,14 @@ follows : (c : tie.Else1 Inv-loop μ-loop)
 follows c = sym (c .before .may-follow .ensures) ∙ not-false (c .before .may-follow .result) (c .if1 .left)
 
 small-output : (c : tie.Else1 Inv-loop μ-loop)
-    → getD (c .before .before .before .before .before .before .before .args .schedule .now) (c .before .before .before .before .loop .i) 0 ≤ 500
+    → getD (c .before .before .before .before .before .before .before .args .schedule .now) (c .before .before .before .before .loop .i) 0 ≤ mostMw
 unfolding mayFollow
 small-output c =
     let s = c .before .before .before .before .before .before .before in
     let at = c .before .before .before .before .loop .at in
     let m = getD (s .args .schedule .now) (c .before .before .before .before .loop .i) 0 in
     let h = in-order (c .before .before .before .before) in
-    output-most (s .args .unit) (h .ranges) (h .shape) m (both (isOutput (s .args .unit) m) (spellKept (s .args .unit) (at .on) (at .spent) m) (follows c) .0)
+    output-most (s .args .unit) (h .order .ranges) (h .order .shape) m (both (isOutput (s .args .unit .generator) m) (spellKept (s .args .unit .generator) (at .on) (at .spent) m) (follows c) .0)
 
 price-plain : (c : tie.After-step-arg Inv-loop μ-loop)
     → toZ w64 (ofZ w64 (getD (c .before .before .before .before .before .before .before .before .args .prices .now) (c .before .before .before .before .before .loop .i) (pos 0)))
@@ -56,8 +58,8 @@ price-plain : (c : tie.After-step-arg Inv-loop μ-loop)
 price-plain c = plain-fits (record { sfits = c .step-arg .given })
 
 small-price : (c : tie.After-step-arg Inv-loop μ-loop)
-    → natAbs (getD (c .before .before .before .before .before .before .before .before .args .prices .now) (c .before .before .before .before .before .loop .i) (pos 0)) ≤ 200000
-small-price c = in-order (c .before .before .before .before .before) .price-at (c .before .before .before .before .before .loop .i) (omega arith)
+    → natAbs (getD (c .before .before .before .before .before .before .before .before .args .prices .now) (c .before .before .before .before .before .loop .i) (pos 0)) ≤ mostPrice
+small-price c = prices-small (c .before .before .before .before .before .before .before .before .args .prices .now) (in-order (c .before .before .before .before .before) .prices) (c .before .before .before .before .before .loop .i) (omega arith)
 
 open-requires : tie.Need-open-requires Inv-loop μ-loop
 open-requires c κs = search needs
@@ -65,8 +67,8 @@ open-requires c κs = search needs
 loop-holds : tie.Need-loop-holds Inv-loop μ-loop
 loop-holds c =
     let s = c .before .before in
-    let h = passing (s .args .unit) (s .args .prices .now) (s .pre .0) in
-    rw (c .«open» .ensures) (omega arith, opening-bounded (s .args .unit) (h .ranges) (h .shape), refl)
+    let h = passing (s .args .unit) (pricesKept (s .args .prices .now)) (length (s .args .prices .now)) (s .pre .0) in
+    rw (c .«open» .ensures) (omega arith, opening-bounded (s .args .unit) (h .order .ranges) (h .order .shape), refl)
 
 mul-output : tie.Need-mul-output Inv-loop μ-loop
 mul-output c = search needs
@@ -75,7 +77,7 @@ shared-slice-read-output : tie.Need-shared-slice-read-output Inv-loop μ-loop
 shared-slice-read-output c = output-there (c .before)
 
 may-follow-requires : tie.Need-may-follow-requires Inv-loop μ-loop
-may-follow-requires c κs = let h = in-order (c .before .before) in (h .ranges, h .shape)
+may-follow-requires c κs = let h = in-order (c .before .before) in h .order .ranges
 
 returns : tie.Need-returns Inv-loop μ-loop
 returns c =
@@ -96,8 +98,8 @@ step-requires : tie.Need-step-requires Inv-loop μ-loop
 step-requires c κs =
     let h = in-order (c .before .before .before .before .before) in
     let l = c .before .before .before .before .before .loop in (
-      (h .ranges, h .shape),
-      ((rw (price-plain c) (small-price c), small-output (c .before)), bounded-small (l .i) (l .at) (omega (arith, l .inv .0, h .most-prices)) (l .inv .1)),
+      (h .order .ranges, h .order .shape),
+      ((rw (price-plain c) (small-price c), small-output (c .before)), bounded-small (l .i) (l .at) (omega (arith, l .inv .0, h .order .short)) (l .inv .1)),
     )
 
 add-i : tie.Need-add-i Inv-loop μ-loop
@@ -116,7 +118,7 @@ loop-again c =
     let e : c .step .result ≡ stepped (s .args .unit) (l .at) p m = rw (price-plain (c .before)) at (c .step .ensures) in
     rw e (
       omega arith,
-      step-bounded (s .args .unit) (h .ranges) (h .shape) (l .i) (l .at) p m (small-price (c .before)) (small-output (c .before .before)) (l .inv .1),
+      step-bounded (s .args .unit) (h .order .ranges) (h .order .shape) (l .i) (l .at) p m (small-price (c .before)) (small-output (c .before .before)) (l .inv .1),
       walk-on (s .args .unit) (l .at) (s .args .prices .now) (s .args .schedule .now) (l .i) (omega arith) (output-there (c .before .before .before .before .before)) (follows (c .before .before)) ∙ l .inv .2,
     )
 

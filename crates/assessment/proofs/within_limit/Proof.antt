@@ -5,6 +5,7 @@ use Prim.Native.Nat.{_≤_}
 use native.Mathlib.Nat.{mul-le-mul}
 use native.Mathlib.Omega.{arith}
 use borrow.Author.Tests.{leb-true}
+use Rattle.commitment.specs.Bounds.{mostMwh}
 use Rattle.commitment.specs.Limits.{within, limitKept}
 use Rattle.assessment.proofs.within_limit.Statement.{statement}
 use Rattle.assessment.proofs.within_limit.Tie as tie
@@ -23,7 +24,7 @@ mul-result : tie.Need-mul-result
 mul-result c =
     let s = c .before .before .before in
     let n = c .before .limit .given .0 .0 in
-    let small : n ≤ 372000 = leb-true n 372000 (sym (ap (limitKept 372000) (c .before .limit .given .1)) ∙ s .pre .1) in
+    let small : n ≤ mostMwh = leb-true n mostMwh (sym (ap (limitKept mostMwh) (c .before .limit .given .1)) ∙ s .pre .1) in
     omega (arith, mul-le-mul (s .pre .0) small)
 
 returns : tie.Need-returns

@@ -1,11 +1,22 @@
 -- Each figure by its own function.
-use native.Mathlib.Nat.{mul-le-mul}
-use native.Mathlib.Omega.{arith}
-use Rattle.commitment.proofs.Ranges.{in-range}
+use mathlib.Core.Path.{_≡_}
+use mathlib.Core.Bool.{true}
+use Prim.Native.Nat.{_≤_}
+use Rattle.commitment.specs.declared.Limitation.{Limitation}
+use Rattle.commitment.specs.declared.Limitation.the-variants.{Starts, Hours, Mwh}
+use Rattle.commitment.specs.Bounds.{mostMwh, mostIntervals}
+use Rattle.commitment.specs.Limits.{limitKept, limitFor}
+use Rattle.commitment.specs.Ranges.{generatorKept}
+use Rattle.commitment.proofs.Ranges.{generator-kept, limit-small}
 use Rattle.optimality.specs.Cells.{figuresOf}
 use borrow.Author.Needs.{needs}
 use Rattle.budgets.proofs.figures_of.Statement.{statement}
 use Rattle.budgets.proofs.figures_of.Tie as tie
+
+-- what is asked of each count
+asked : (c : tie.Start) (which : Limitation) →
+    (generatorKept (c .args .unit .generator) ≡ true) × (c .args .n ≤ mostIntervals) × (limitKept mostMwh (limitFor (c .args .unit .limits) which) ≡ true)
+asked c which = (generator-kept (c .args .unit) (c .pre .ranges), c .pre .short, limit-small (c .args .unit) (c .pre .ranges) which)
 
 taken-requires : tie.Need-taken-requires
 taken-requires c κs = search needs
@@ -16,17 +27,14 @@ taken-requires-2 c κs = search needs
 taken-requires-3 : tie.Need-taken-requires-3
 taken-requires-3 c κs = search needs
 
-starts-count-requires : tie.Need-starts-count-requires
-starts-count-requires c κs = search needs
+counted-requires : tie.Need-counted-requires
+counted-requires c κs = asked (c .before .before .before .before .before .before) Starts
 
-hours-count-requires : tie.Need-hours-count-requires
-hours-count-requires c κs = let s = c .before .before .before .before in in-range (s .args .unit) (s .pre .0) .limits .hours-kept
+counted-requires-2 : tie.Need-counted-requires-2
+counted-requires-2 c κs = asked (c .before .before .before .before .before .before .before) Hours
 
-mul-mwh-count : tie.Need-mul-mwh-count
-mul-mwh-count c = let s = c .before .before .before .before .before in omega (arith, mul-le-mul (s .pre .2) (in-range (s .args .unit) (s .pre .0) .sizes .pmax-most))
-
-mwh-count-requires : tie.Need-mwh-count-requires
-mwh-count-requires c κs = let s = c .before .before .before .before .before in let h = in-range (s .args .unit) (s .pre .0) in (h .limits .mwh-kept, h .sizes .block-least)
+counted-requires-3 : tie.Need-counted-requires-3
+counted-requires-3 c κs = asked (c .before .before .before .before .before .before .before .before) Mwh
 
 returns : tie.Need-returns
 unfolding figuresOf
@@ -39,8 +47,7 @@ figures-of-spec =
     taken-requires
     taken-requires-2
     taken-requires-3
-    starts-count-requires
-    hours-count-requires
-    mul-mwh-count
-    mwh-count-requires
+    counted-requires
+    counted-requires-2
+    counted-requires-3
     returns)

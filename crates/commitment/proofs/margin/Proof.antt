@@ -7,6 +7,7 @@ use mir.Facts.{toZ-ofZ}
 use mir.Syntax.{w64}
 use mir.Val.{SFits}
 use Rattle.integers.proofs.Ranges.{within-at, within-abs, within-weaken, within-diff, within-mul, within-fits}
+use Rattle.commitment.specs.Bounds.{mostMw, mostVec, mostMlc, mostPrice}
 use Rattle.commitment.specs.Profit.{margin}
 use Rattle.commitment.proofs.margin.Statement.{statement}
 use Rattle.commitment.proofs.margin.Tie as tie
@@ -23,7 +24,7 @@ record Steps (l : ℤ) (m v f k : ℕ) : Type 0 where
   net : SFits w64 (l *ℤ pos m -ℤ pos v *ℤ (pos m -ℤ pos f))
   whole : SFits w64 (margin l m v f k)
 
-fitting : (price : ℤ) (output vec least mlc : ℕ) → (natAbs price ≤ 200000) × (output ≤ 500) × (vec ≤ 2000000) × (least ≤ 500) × (mlc ≤ 1000000000)
+fitting : (price : ℤ) (output vec least mlc : ℕ) → (natAbs price ≤ mostPrice) × (output ≤ mostMw) × (vec ≤ mostVec) × (least ≤ mostMw) × (mlc ≤ mostMlc)
     → Steps price output vec least mlc
 fitting price output vec least mlc h =
     let p = within-weaken (h .0) (within-abs price) in

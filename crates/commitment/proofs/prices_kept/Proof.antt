@@ -10,8 +10,9 @@ use lib.ListN.{length, drop, getD}
 use mir.Syntax.{w64}
 use mir.Val.{toZ, ofZ}
 use Rattle.integers.proofs.Ranges.{plain-fits}
-use Rattle.commitment.specs.Ranges.{every, priceKept, pricesKept}
-use Rattle.commitment.proofs.Every.{every-pass, every-fail, every-end}
+use Rattle.commitment.specs.Ranges.{priceKept, pricesKept}
+use Rattle.lists.specs.Every.{every}
+use Rattle.lists.proofs.Every.{every-pass, every-fail, every-end}
 use Rattle.commitment.proofs.prices_kept.Statement.{statement}
 use Rattle.commitment.proofs.prices_kept.Tie as tie
 

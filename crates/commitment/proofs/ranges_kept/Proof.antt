@@ -4,11 +4,11 @@ use borrow.Author.Needs.{needs}
 use Rattle.commitment.proofs.ranges_kept.Statement.{statement}
 use Rattle.commitment.proofs.ranges_kept.Tie as tie
 
-sizes-kept-requires : tie.Need-sizes-kept-requires
-sizes-kept-requires c κs = search needs
+generator-kept-requires : tie.Need-generator-kept-requires
+generator-kept-requires c κs = search needs
 
-times-kept-requires : tie.Need-times-kept-requires
-times-kept-requires c κs = search needs
+opening-kept-requires : tie.Need-opening-kept-requires
+opening-kept-requires c κs = search needs
 
 costs-kept-requires : tie.Need-costs-kept-requires
 costs-kept-requires c κs = search needs
@@ -24,8 +24,8 @@ pub ranges-kept-spec : {M : Type 1} → statement M
 ranges-kept-spec =
     tie.close
     (tie.spec
-    sizes-kept-requires
-    times-kept-requires
+    generator-kept-requires
+    opening-kept-requires
     costs-kept-requires
     limits-kept-requires
     returns)

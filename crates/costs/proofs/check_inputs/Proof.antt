@@ -5,9 +5,10 @@ use native.Mathlib.Omega.{arith}
 use borrow.Author.Needs.{needs}
 use borrow.Author.Tests.{not-true, not-false, eq-eqb, ne-eqb}
 use lib.Dec.{eqb}
+use Rattle.commitment.specs.Bounds.{mostMw}
 use Rattle.commitment.specs.Figures.{totalMw}
-use Rattle.commitment.proofs.Conjunctions.{both}
-use Rattle.costs.specs.Ranges.{inputsKept, segmentsKept, shapeKept, rangeMw, inputsChecked}
+use Rattle.lists.proofs.Conjunctions.{both}
+use Rattle.costs.specs.Ranges.{inputsKept, segmentsKept, outputsKept, rangeMw, inputsChecked}
 use Rattle.costs.proofs.Ranges.{in-range, in-segments, in-shape, range-mw}
 use Rattle.costs.proofs.Segments.{total-most}
 use Rattle.costs.proofs.check_inputs.Statement.{statement}
@@ -36,8 +37,8 @@ after-1 c =
     let f = both (inputsKept (a .inputs)) (segmentsKept (a .mws .now) (a .heats .now)) e in
     record { kept = e; inputs = f .0; segments = f .1 }
 
-after-2 : (c : tie.Else2) → shapeKept (start (c .before .before .before) .args .inputs) ≡ true
-after-2 c = sym (c .before .shape-kept .ensures) ∙ not-false _ (c .if2 .left)
+after-2 : (c : tie.Else2) → outputsKept (start (c .before .before .before) .args .inputs) ≡ true
+after-2 c = sym (c .before .outputs-kept .ensures) ∙ not-false _ (c .if2 .left)
 
 abbrev start-3 : tie.Else3 → tie.Start
 start-3 c = start (c .before .before .before .before .before .before .before)
@@ -57,18 +58,18 @@ returns : tie.Need-returns
 unfolding inputsChecked
 returns c = simp (ranges (c .before) ∙ not-true _ (c .if1 .taken))
 
-shape-kept-requires : tie.Need-shape-kept-requires
-shape-kept-requires c κs = after-1 c .inputs
+outputs-kept-requires : tie.Need-outputs-kept-requires
+outputs-kept-requires c κs = after-1 c .inputs
 
 returns-2 : tie.Need-returns-2
 unfolding inputsChecked
-returns-2 c = simp (after-1 (c .before .before) .kept, sym (c .before .shape-kept .ensures) ∙ not-true _ (c .if2 .taken))
+returns-2 c = simp (after-1 (c .before .before) .kept, sym (c .before .outputs-kept .ensures) ∙ not-true _ (c .if2 .taken))
 
 total-mw-requires : tie.Need-total-mw-requires
 total-mw-requires c κs =
     let a = start (c .before .before .before) .args in
     let s = in-segments (a .mws .now) (a .heats .now) (after-1 (c .before .before) .segments) in
-    omega (arith, total-most 500 (a .mws .now) (s .mws-kept), s .mw-count)
+    omega (arith, total-most mostMw (a .mws .now) (s .mws-kept), s .mw-count)
 
 sub-range : tie.Need-sub-range
 sub-range c =
@@ -108,7 +109,7 @@ check-inputs-spec =
     inputs-kept-requires
     segments-kept-requires
     returns
-    shape-kept-requires
+    outputs-kept-requires
     returns-2
     total-mw-requires
     sub-range

@@ -6,9 +6,9 @@ use native.Mathlib.Omega.{arith}
 use borrow.Author.Needs.{needs}
 use borrow.Author.Tests.{not-true, not-false}
 use lib.ListN.{length, drop, getD}
-use Rattle.commitment.specs.Ranges.{every}
+use Rattle.lists.specs.Every.{every}
 use Rattle.costs.specs.Ranges.{oneTo}
-use Rattle.commitment.proofs.Every.{every-pass, every-fail, every-end}
+use Rattle.lists.proofs.Every.{every-pass, every-fail, every-end}
 use Rattle.costs.proofs.every_one_to.Statement.{statement}
 use Rattle.costs.proofs.every_one_to.Tie as tie
 

@@ -7,8 +7,8 @@ use Rattle.costs.proofs.inputs_kept.Tie as tie
 sizes-kept-requires : tie.Need-sizes-kept-requires
 sizes-kept-requires c κs = search needs
 
-prices-kept-requires : tie.Need-prices-kept-requires
-prices-kept-requires c κs = search needs
+tariffs-kept-requires : tie.Need-tariffs-kept-requires
+tariffs-kept-requires c κs = search needs
 
 rates-kept-requires : tie.Need-rates-kept-requires
 rates-kept-requires c κs = search needs
@@ -25,7 +25,7 @@ inputs-kept-spec =
     tie.close
     (tie.spec
     sizes-kept-requires
-    prices-kept-requires
+    tariffs-kept-requires
     rates-kept-requires
     start-kept-requires
     returns)

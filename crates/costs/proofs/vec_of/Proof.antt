@@ -3,6 +3,7 @@ use mathlib.Core.Path.{sym}
 use Prim.Native.Nat.{_<_, _≤_}
 use native.Mathlib.Omega.{arith}
 use lib.ListN.{length}
+use Rattle.commitment.specs.Bounds.{mostMw}
 use Rattle.commitment.specs.Figures.{totalMw}
 use Rattle.costs.proofs.Ranges.{accepted, heat-sizes, range-mw}
 use Rattle.costs.proofs.Segments.{total-some, weighted-fits}
@@ -29,7 +30,7 @@ weighted-units-requires c κs =
 record Mw (c : tie.Else1) : Type 0 where
   some : 0 < length (c .before .before .before .args .mws .now)
   positive : 0 < totalMw (c .before .before .before .args .mws .now)
-  most : totalMw (c .before .before .before .args .mws .now) ≤ 500
+  most : totalMw (c .before .before .before .args .mws .now) ≤ mostMw
 
 mw : (c : tie.Else1) → Mw c
 mw c =
@@ -38,7 +39,7 @@ mw c =
     let some : 0 < length (o .args .mws .now) = omega arith in
     record {
       some = some;
-      positive = total-some 500 (o .args .mws .now) (a .segments .mws-kept) some;
+      positive = total-some mostMw (o .args .mws .now) (a .segments .mws-kept) some;
       most = omega (arith, a .total, range-mw (o .args .inputs) (a .inputs) (a .shape));
     }
 

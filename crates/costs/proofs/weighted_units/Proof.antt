@@ -6,6 +6,7 @@ use Prim.Native.Nat.{ℕ, _+_, _-_, _≤_}
 use native.Mathlib.Omega.{arith}
 use borrow.Author.Needs.{needs}
 use lib.ListN.{length, drop, drop-of-length-le}
+use Rattle.commitment.specs.Bounds.{mostMw}
 use Rattle.costs.specs.Numerators.{weightedUnits}
 use Rattle.costs.proofs.Segments.{Next, weighted-next}
 use Rattle.costs.proofs.weighted_units.Statement.{statement}
@@ -38,7 +39,7 @@ next :
     Next (c .before .before .args .price) (c .before .before .args .om) (c .before .before .args .mws .now) (c .before .before .args .heats .now) (c .before .loop .i)
 next c =
     let a = c .before .before .args in
-    weighted-next (a .price) (a .om) 500 (a .mws .now) (a .heats .now) (c .before .loop .i) (c .before .before .pre .1 .0) (c .loop-test .taken) (omega arith)
+    weighted-next (a .price) (a .om) mostMw (a .mws .now) (a .heats .now) (c .before .loop .i) (c .before .before .pre .1 .0) (c .loop-test .taken) (omega arith)
 
 mul-sum-2 : tie.Need-mul-sum-2 Inv-loop μ-loop
 mul-sum-2 c = omega (arith, next (c .before .before))

@@ -6,18 +6,6 @@ use mathlib.Core.Path.{ap, _∙_}
 use Rattle.integers.proofs.Ranges.{plain-fits}
 use Rattle.exports.specs.Answers.{writtenNumbers}
 
-outcomes-from-requires : tie.Need-outcomes-from-requires
-outcomes-from-requires c κs = search needs
-
-write-listing-requires : tie.Need-write-listing-requires
-write-listing-requires c κs = search needs
-
-of-written-requires : tie.Need-of-written-requires
-of-written-requires c κs = search needs
-
-same-length : tie.Need-same-length
-same-length c = search needs
-
 returns : tie.Need-returns
 returns c =
     let w = c .before .before .before in
@@ -28,8 +16,8 @@ pub ralwinga-listing-spec : {M : Type 1} → statement M
 ralwinga-listing-spec =
     tie.close
     (tie.spec
-    outcomes-from-requires
-    write-listing-requires
-    of-written-requires
-    same-length
+    (λ c κs. search needs)
+    (λ c κs. search needs)
+    (λ c κs. search needs)
+    (λ c. search needs)
     returns)

@@ -9,16 +9,10 @@ use lib.ListN.{drop, replicate}
 use Rattle.layers.proofs.clear.Statement.{statement}
 use Rattle.layers.proofs.clear.Tie as tie
 
-put-requires : tie.Need-put-requires
-put-requires c κs = search needs
-
-same-length : tie.Need-same-length
-same-length c = search needs
-
 returns : tie.Need-returns
 returns c =
     let a = c .before .before .before .args in
     c .before .put .ensures ∙ ap (λ (m : ℕ). replicate (a .n) (pos 0) ++ drop m (a .scratch .now)) (zero-add (a .n))
 
 pub clear-spec : {M : Type 1} → statement M
-clear-spec = tie.close (tie.spec put-requires same-length returns)
+clear-spec = tie.close (tie.spec (λ c κs. search needs) (λ c. search needs) returns)

@@ -4,7 +4,7 @@ use Prim.Native.Nat.{_+_}
 use native.Mathlib.Omega.{arith}
 use lib.ListN.{length, length-append}
 use mathlib.Core.List.{_++_}
-use Rattle.listing.specs.Listing.{outcomeText, closed, startsName, hoursName, mwhName, outcomeLines}
+use Rattle.listing.specs.Listing.{outcomeText, closed, startsLead, hoursLead, mwhLead, outcomeLines}
 use borrow.Author.Needs.{needs}
 use Rattle.listing.proofs.Writing.{put-then}
 use Rattle.listing.proofs.put_outcomes.Statement.{statement}
@@ -12,11 +12,11 @@ use Rattle.listing.proofs.put_outcomes.Tie as tie
 
 parts : (c : tie.Start)
     → length (outcomeLines (c .args .outcomes))
-    ≡ length (closed (startsName ++ outcomeText (c .args .outcomes .starts)))
-    + (length (closed (hoursName ++ outcomeText (c .args .outcomes .hours))) + length (closed (mwhName ++ outcomeText (c .args .outcomes .mwh))))
+    ≡ length (closed (startsLead ++ outcomeText (c .args .outcomes .starts)))
+    + (length (closed (hoursLead ++ outcomeText (c .args .outcomes .hours))) + length (closed (mwhLead ++ outcomeText (c .args .outcomes .mwh))))
 parts c =
     omega
-    (arith, length-append (closed (startsName ++ outcomeText (c .args .outcomes .starts))) (closed (hoursName ++ outcomeText (c .args .outcomes .hours)) ++ closed (mwhName ++ outcomeText (c .args .outcomes .mwh))), length-append (closed (hoursName ++ outcomeText (c .args .outcomes .hours))) (closed (mwhName ++ outcomeText (c .args .outcomes .mwh))))
+    (arith, length-append (closed (startsLead ++ outcomeText (c .args .outcomes .starts))) (closed (hoursLead ++ outcomeText (c .args .outcomes .hours)) ++ closed (mwhLead ++ outcomeText (c .args .outcomes .mwh))), length-append (closed (hoursLead ++ outcomeText (c .args .outcomes .hours))) (closed (mwhLead ++ outcomeText (c .args .outcomes .mwh))))
 
 slice-aggregate-put-outcome-line : tie.Need-slice-aggregate-put-outcome-line
 slice-aggregate-put-outcome-line c = search needs
@@ -52,7 +52,7 @@ returns c =
     let first = c .before .before .before .before .before .before .before .before .before .before .before .before .put-outcome-line in
     let second = c .before .before .before .before .before .before .before .put-outcome-line2 in
     let lines = parts s in
-    let rest = length-append (closed (hoursName ++ outcomeText (s .args .outcomes .hours))) (closed (mwhName ++ outcomeText (s .args .outcomes .mwh))) in
+    let rest = length-append (closed (hoursLead ++ outcomeText (s .args .outcomes .hours))) (closed (mwhLead ++ outcomeText (s .args .outcomes .mwh))) in
     put-then (omega (arith, s .pre)) (first .ensures)
     (put-then (omega (arith, s .pre, first .ensures .place, first .kept .0)) (second .ensures) (c .before .before .put-outcome-line3 .ensures))
 

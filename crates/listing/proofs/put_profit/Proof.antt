@@ -7,7 +7,7 @@ use mir.Syntax.{w64}
 use mir.Val.{toZ, ofZ}
 use Rattle.integers.proofs.Ranges.{plain-fits}
 use Rattle.listing.specs.Numbers.{signedNumber}
-use Rattle.listing.specs.Listing.{profitName, profitLine}
+use Rattle.listing.specs.Listing.{profitLead, profitLine}
 use borrow.Author.Needs.{needs}
 use Rattle.listing.proofs.Writing.{put-then, put-as}
 use Rattle.listing.proofs.put_profit.Statement.{statement}
@@ -47,7 +47,7 @@ returns c =
     let s = c .before .before .before .before .before .before .before .before .before .before .before .before .before .before in
     let line = parts s in
     let room = s .pre in
-    put-then (omega (arith, length-append profitName (signedNumber (s .args .profit))))
+    put-then (omega (arith, length-append profitLead (signedNumber (s .args .profit))))
     (put-then (omega arith) (c .before .before .before .before .before .before .before .before .before .before .put-text .ensures) (put-as (ap signedNumber (profit-plain s)) (c .before .before .before .before .before .before .put-signed .ensures)))
     (c .before .before .put-byte .ensures)
 

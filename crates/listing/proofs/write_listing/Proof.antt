@@ -7,7 +7,7 @@ use mir.Syntax.{w64}
 use mir.Val.{toZ, ofZ}
 use Rattle.integers.proofs.Ranges.{plain-fits}
 use Rattle.listing.specs.declared.Fit.the-variants.{Bytes}
-use Rattle.listing.specs.Listing.{listing, fitted, answered}
+use Rattle.listing.specs.Listing.{listing, fitted, writtenBy}
 use borrow.Author.Needs.{needs}
 use Rattle.listing.proofs.Fitting.{fit-room, fit-long, after-written, after-refused}
 use Rattle.listing.proofs.write_listing.Statement.{statement}
@@ -46,7 +46,7 @@ returns : tie.Need-returns
 returns c =
     let s = c .before .before .before .before .before in
     let long = fit-long (length (listing (s .args .schedule .now) (s .args .profit) (s .args .outcomes))) (length (s .args .out .now)) (sym (fit-is (c .before .before)) ∙ c .enum-told .given .1) in (
-      ap answered (sym (c .enum-told .given .1) ∙ fit-is (c .before .before)),
+      ap writtenBy (sym (c .enum-told .given .1) ∙ fit-is (c .before .before)),
       after-refused (listing (s .args .schedule .now) (s .args .profit) (s .args .outcomes)) (s .args .out .now) long,
     )
 
@@ -58,7 +58,7 @@ returns-2 c =
     let s = c .before .before .before .before .before .before .before .before .before .before in
     let told = c .before .before .before .before .before .bytes .given in
     let h = fits (c .before .before .before .before .before .before .before) (told .0 .0) (told .1) in (
-      ap answered (sym (told .1) ∙ fit-is (c .before .before .before .before .before .before .before)),
+      ap writtenBy (sym (told .1) ∙ fit-is (c .before .before .before .before .before .before .before)),
       (rw (profit-plain s) at (c .before .before .put-listing .ensures)) ∙ after-written (listing (s .args .schedule .now) (s .args .profit) (s .args .outcomes)) (s .args .out .now) (omega (arith, h .0, h .1)),
     )
 

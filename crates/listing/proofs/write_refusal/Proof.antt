@@ -5,7 +5,7 @@ use mathlib.Core.Path.{_≡_, refl, _∙_}
 use borrow.Author.Tests.{le-leb, lt-leb}
 use lib.ListN.{length, length-append}
 use Rattle.listing.specs.Numbers.{number}
-use Rattle.listing.specs.Listing.{refusedName, refusal}
+use Rattle.listing.specs.Listing.{refusedLead, refusal}
 use borrow.Author.Needs.{needs}
 use Rattle.listing.proofs.Numbers.{number-short}
 use Rattle.listing.proofs.Lengths.{refusal-length}
@@ -49,7 +49,7 @@ returns-2 c =
     let all = refusal-length (s .args .number) in
     let short : length (refusal (s .args .number)) ≤ length (s .args .out .now) = omega (arith, all, digits, c .before .before .before .before .before .before .before .before .before .before .before .before .before .if1 .left) in
     let is : 9 + c .before .before .before .before .before .before .before .before .before .before .before .before .before .before .number-length .result ≡ length (refusal (s .args .number)) = omega (arith, all, digits) in
-    let text = put-then (omega (arith, length-append refusedName (number (s .args .number)))) (put-then (omega arith) (c .before .before .before .before .before .before .before .before .before .before .put-text .ensures) (c .before .before .before .before .before .before .put-number .ensures)) (c .before .before .put-byte .ensures) in
+    let text = put-then (omega (arith, length-append refusedLead (number (s .args .number)))) (put-then (omega arith) (c .before .before .before .before .before .before .before .before .before .before .put-text .ensures) (c .before .before .before .before .before .before .put-number .ensures)) (c .before .before .put-byte .ensures) in
     (rw (is, le-leb (length (refusal (s .args .number))) (length (s .args .out .now)) short) refl, text .bytes ∙ after-written (refusal (s .args .number)) (s .args .out .now) short)
 
 pub write-refusal-spec : {M : Type 1} → statement M

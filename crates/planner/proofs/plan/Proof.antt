@@ -8,7 +8,7 @@ use Rattle.integers.proofs.Ranges.{plain-fits}
 use Rattle.commitment.specs.Best.{best}
 use Rattle.planner.specs.Planning.{planChecked, plannedBy, plannedNumber, plannedProfit, plannedCount}
 use borrow.Author.Needs.{needs}
-use Rattle.planner.proofs.Answers.{part-is, count-fits}
+use Rattle.planner.proofs.Answering.{part-is, count-fits}
 use Rattle.planner.proofs.plan.Statement.{statement}
 use Rattle.planner.proofs.plan.Tie as tie
 

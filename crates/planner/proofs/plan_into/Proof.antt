@@ -6,7 +6,7 @@ use Rattle.commitment.specs.Valuing.{outcomesOf}
 use Rattle.planner.specs.Planning.{planChecked}
 use Rattle.planner.specs.Reporting.{planIn}
 use borrow.Author.Needs.{needs}
-use Rattle.planner.proofs.Answers.{plan-in}
+use Rattle.planner.proofs.Answering.{plan-in}
 use Rattle.planner.proofs.plan_into.Statement.{statement}
 use Rattle.planner.proofs.plan_into.Tie as tie
 

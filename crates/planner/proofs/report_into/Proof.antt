@@ -1,34 +1,61 @@
--- A case that its check refuses keeps that cause, and nothing is touched.
-use mathlib.Core.Path.{sym, ap, _∙_}
+-- A case that its checks refuse keeps that cause, and nothing is touched.
+use mathlib.Core.Path.{_≡_, sym, ap, _∙_}
+use mathlib.Core.Bool.{true}
+use mathlib.Core.List.{List}
+use Prim.Native.Nat.{ℕ, _≤_}
+use borrow.Author.Tests.{leb-true}
+use lib.Dec.{leb}
+use lib.IntN.{ℤ}
 use lib.ListN.{length}
 use Rattle.commitment.specs.declared.Checked.{Checked}
+use Rattle.commitment.specs.declared.Checked.the-variants.{Passed}
 use Rattle.commitment.specs.Best.{best}
-use Rattle.commitment.specs.Causes.{checkedThen}
 use Rattle.commitment.specs.Cells.{cellsNeeded}
 use Rattle.commitment.specs.Valuing.{outcomesOf}
-use Rattle.planner.specs.Planning.{scheduleChecked, scheduleAfter, scratchAfter}
-use mathlib.Core.List.{List}
-use Prim.Native.Nat.{ℕ}
-use lib.IntN.{ℤ}
+use Rattle.commitment.proofs.Causes.{checkedThen}
 use Rattle.planner.specs.declared.Reported.{Reported}
-use Rattle.planner.specs.Reporting.{reportedBy}
+use Rattle.planner.specs.Planning.{lentChecked, planChecked, scheduleChecked, scheduleAfter, scratchAfter, scheduleLeft}
+use Rattle.planner.specs.Reporting.{reportedBy, reported}
+use Rattle.planner.proofs.Lent.{lent, plan-turn}
 use borrow.Author.Needs.{needs}
 use Rattle.planner.proofs.report_into.Statement.{statement}
 use Rattle.planner.proofs.report_into.Tie as tie
 
--- answer, schedule and scratch by what is found before any work
+-- what is found before any work; answer, schedule and scratch by it
+abbrev lentOf : tie.Start → Checked
+lentOf c = lentChecked (c .args .unit) (c .args .prices .now) (leb (length (c .args .prices .now)) (length (c .args .schedule .now))) (length (c .args .scratch .now))
+
 abbrev answer : tie.Start → Checked → Reported
-answer c k =
-    reportedBy (checkedThen k (scheduleChecked (c .args .unit) (c .args .prices .now))) (best (c .args .unit) (c .args .prices .now)) (outcomesOf (c .args .unit) (c .args .prices .now))
+answer c k = reportedBy k (best (c .args .unit) (c .args .prices .now)) (outcomesOf (c .args .unit) (c .args .prices .now))
 
 abbrev schedule : tie.Start → Checked → List ℕ
-schedule c k = scheduleAfter (checkedThen k (scheduleChecked (c .args .unit) (c .args .prices .now))) (best (c .args .unit) (c .args .prices .now)) (c .args .schedule .now)
+schedule c k = scheduleAfter k (best (c .args .unit) (c .args .prices .now)) (c .args .schedule .now)
 
 abbrev cells : tie.Start → Checked → List ℤ
 cells c k = scratchAfter k (cellsNeeded (c .args .unit) (length (c .args .prices .now))) (c .args .scratch .now)
 
-check-plan-lent-requires : tie.Need-check-plan-lent-requires
-check-plan-lent-requires c κs = search needs
+module _ (c : tie.Start) {k : Checked} (found : lentOf c ≡ k) where
+  whole : checkedThen k (scheduleChecked (c .args .unit) (c .args .prices .now)) ≡ planChecked (c .args .unit) (c .args .prices .now) (length (c .args .scratch .now)) (length (c .args .schedule .now))
+  whole =
+      ap (λ (j : Checked). checkedThen j (scheduleChecked (c .args .unit) (c .args .prices .now))) (sym found)
+      ∙ sym (plan-turn (c .args .unit) (c .args .prices .now) (length (c .args .scratch .now)) (length (c .args .schedule .now)))
+
+  answer-is : answer c (checkedThen k (scheduleChecked (c .args .unit) (c .args .prices .now))) ≡ reported (c .args .unit) (c .args .prices .now) (length (c .args .scratch .now)) (length (c .args .schedule .now))
+  answer-is = ap (answer c) whole
+
+  schedule-is : schedule c (checkedThen k (scheduleChecked (c .args .unit) (c .args .prices .now))) ≡ scheduleLeft (c .args .unit) (c .args .prices .now) (length (c .args .scratch .now)) (c .args .schedule .now)
+  schedule-is = ap (schedule c) whole
+
+-- a case that passed has a schedule slice that is long enough
+long-passed : (c : tie.Start) → lentOf c ≡ Passed
+    → (lentChecked (c .args .unit) (c .args .prices .now) true (length (c .args .scratch .now)) ≡ Passed) × (length (c .args .prices .now) ≤ length (c .args .schedule .now))
+long-passed c e =
+    let a = c .args in
+    let long = lent (a .unit) (a .prices .now) (leb (length (a .prices .now)) (length (a .schedule .now))) (length (a .scratch .now)) e .entries in
+    (rw long at e, leb-true (length (a .prices .now)) (length (a .schedule .now)) long)
+
+check-lent-requires : tie.Need-check-lent-requires
+check-lent-requires c κs = search needs
 
 enum-known-cause : tie.Need-enum-known-cause
 enum-known-cause c = search needs
@@ -37,13 +64,18 @@ enum-told : tie.Need-enum-told
 enum-told c = search needs
 
 report-case-requires : tie.Need-report-case-requires
-report-case-requires c κs = sym (c .before .before .before .before .check-plan-lent .ensures) ∙ c .before .before .enum-told .given .1
+report-case-requires c κs =
+    let told = c .before .before in
+    let check = told .before .before in
+    let s = check .before .before in
+    long-passed s (sym (check .check-lent .ensures) ∙ told .enum-told .given .1)
 
 returns : tie.Need-returns
 returns c =
-    let s = c .before .before .before .before .before in
-    let refused = sym (sym (c .before .before .before .check-plan-lent .ensures) ∙ c .before .cause .given .1) in
-    (ap (answer s) refused, (ap (schedule s) refused, ap (cells s) refused))
+    let check = c .before .before .before in
+    let s = check .before .before in
+    let found = sym (check .check-lent .ensures) ∙ c .before .cause .given .1 in
+    (answer-is s found, (schedule-is s found, ap (cells s) (sym found)))
 
 same-length : tie.Need-same-length
 same-length c = search needs
@@ -53,16 +85,19 @@ same-length-2 c = search needs
 
 returns-2 : tie.Need-returns-2
 returns-2 c =
-    let s = c .before .before .before .before .before .before .before .before .before .before in
-    let passed = sym (sym (c .before .before .before .before .before .before .before .before .check-plan-lent .ensures) ∙ c .before .before .before .before .before .before .enum-told .given .1) in
-    let case = c .before .before .before .report-case .ensures in
-    (case .0 ∙ ap (answer s) passed, (case .1 .0 ∙ ap (schedule s) passed, case .1 .1 ∙ ap (cells s) passed))
+    let case = c .before .before .before in
+    let told = case .before .before .before in
+    let check = told .before .before in
+    let s = check .before .before in
+    let found = sym (check .check-lent .ensures) ∙ told .enum-told .given .1 in
+    let r = case .report-case .ensures in
+    (r .0 ∙ answer-is s found, (r .1 .0 ∙ schedule-is s found, r .1 .1 ∙ ap (cells s) (sym found)))
 
 pub report-into-spec : {M : Type 1} → statement M
 report-into-spec =
     tie.close
     (tie.spec
-    check-plan-lent-requires
+    check-lent-requires
     enum-known-cause
     enum-told
     report-case-requires

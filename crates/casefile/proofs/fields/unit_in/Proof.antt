@@ -2,7 +2,7 @@
 use mathlib.Core.Path.{ap₂, _∙_}
 use mathlib.Core.List.{List}
 use Prim.Native.Nat.{ℕ}
-use Rattle.lines.specs.Pieces.{fieldsOf}
+use Rattle.tabletext.specs.Pieces.{fieldsOf}
 use Rattle.casefile.specs.Reading.{unitOf, unitIn}
 use borrow.Author.Needs.{needs}
 use Rattle.casefile.proofs.fields.unit_in.Statement.{statement}

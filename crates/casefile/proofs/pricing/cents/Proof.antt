@@ -6,15 +6,6 @@ use borrow.Author.Needs.{needs}
 use Rattle.casefile.proofs.pricing.cents.Statement.{statement}
 use Rattle.casefile.proofs.pricing.cents.Tie as tie
 
-enum-told : tie.Need-enum-told
-enum-told c = search needs
-
-enum-told-2 : tie.Need-enum-told-2
-enum-told-2 c = search needs
-
-enum-known-value : tie.Need-enum-known-value
-enum-known-value c = search needs
-
 returns : tie.Need-returns
 returns c = ap centsOf (sym (c .enum-told .given .1))
 
@@ -26,4 +17,9 @@ returns-3 c = plain-fits (record { sfits = c .known-told .given .0 .1 }) ∙ ap 
 
 pub cents-spec : {M : Type 1} → statement M
 cents-spec =
-    tie.close (tie.spec enum-told enum-told-2 enum-known-value returns returns-2 returns-3)
+    tie.close
+    (tie.spec
+    (λ c. search needs) (λ c. search needs) (λ c. search needs)
+    returns
+    returns-2
+    returns-3)

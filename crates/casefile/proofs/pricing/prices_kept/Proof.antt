@@ -2,22 +2,14 @@
 use mathlib.Core.Path.{ap₂, _∙_}
 use mathlib.Core.List.{List}
 use Prim.Native.Nat.{ℕ}
-use Rattle.commitment.specs.Ranges.{every, priceKept, pricesKept}
+use Rattle.commitment.specs.Ranges.{priceKept, pricesKept}
+use Rattle.lists.specs.Every.{every}
 use Rattle.casefile.specs.Reading.{priceOf, pricesIn}
 use Rattle.casetext.specs.Form.{priceHead, priceRows}
 use Rattle.casefile.proofs.Checking.{every-map}
 use borrow.Author.Needs.{needs}
 use Rattle.casefile.proofs.pricing.prices_kept.Statement.{statement}
 use Rattle.casefile.proofs.pricing.prices_kept.Tie as tie
-
-line-requires : tie.Need-line-requires
-line-requires c κs = search needs
-
-lines-from-requires : tie.Need-lines-from-requires
-lines-from-requires c κs = search needs
-
-rows-kept-requires : tie.Need-rows-kept-requires
-rows-kept-requires c κs = search needs
 
 returns : tie.Need-returns
 unfolding pricesIn pricesKept
@@ -31,4 +23,7 @@ returns c =
 
 pub prices-kept-spec : {M : Type 1} → statement M
 prices-kept-spec =
-    tie.close (tie.spec line-requires lines-from-requires rows-kept-requires returns)
+    tie.close
+    (tie.spec
+    (λ c κs. search needs) (λ c κs. search needs) (λ c κs. search needs)
+    returns)

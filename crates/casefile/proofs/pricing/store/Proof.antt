@@ -14,12 +14,6 @@ use Rattle.casefile.proofs.pricing.store.Tie as tie
 counted : (f : List ℕ → ℤ) (rows ls : List (List ℕ)) → rows ≡ ls → length rows ≡ length (map f ls)
 counted f rows ls e = ap (λ (l : List (List ℕ)). length l) e ∙ sym (length-map ls f)
 
-line-requires : tie.Need-line-requires
-line-requires c κs = search needs
-
-lines-from-requires : tie.Need-lines-from-requires
-lines-from-requires c κs = search needs
-
 store-rows-requires : tie.Need-store-rows-requires
 unfolding pricesIn
 store-rows-requires c κs =
@@ -27,9 +21,6 @@ store-rows-requires c κs =
     let s = r .before .before .before in
     let text = s .args .text .now in
     omega (arith, counted (priceOf (priceHead text)) _ (priceRows text) (r .lines-from .ensures), s .pre)
-
-same-length : tie.Need-same-length
-same-length c = search needs
 
 returns : tie.Need-returns
 unfolding pricesIn
@@ -46,4 +37,9 @@ returns c =
 
 pub store-spec : {M : Type 1} → statement M
 store-spec =
-    tie.close (tie.spec line-requires lines-from-requires store-rows-requires same-length returns)
+    tie.close
+    (tie.spec
+    (λ c κs. search needs) (λ c κs. search needs)
+    store-rows-requires
+    (λ c. search needs)
+    returns)

@@ -3,8 +3,6 @@ use mathlib.Core.Path.{_∙_}
 use Prim.Native.Nat.{_+_, _-_, _<_}
 use lib.ListN.{length}
 use Rattle.integers.proofs.Ranges.{plain-fits}
-use Rattle.lines.specs.Places.{linesFrom}
-use Rattle.lines.proofs.Cuts.{Cut, line-cut}
 use Rattle.casefile.specs.Reading.{priceOf}
 use Rattle.casefile.proofs.Stored.{Stored, store-none, store-room, store-on, store-all}
 use borrow.Author.Needs.{needs}
@@ -18,46 +16,13 @@ Inv-loop head rows prices₀ at₀ count₀ prices at count = Stored (priceOf he
 abbrev μ-loop : tie.MeasureT-loop
 μ-loop head rows prices₀ at₀ count₀ prices at count = length rows + 1 - at
 
-loop-holds : tie.Need-loop-holds Inv-loop μ-loop
-loop-holds c = store-none _ _ _ (c .before .before .pre)
-
-end-from-requires : tie.Need-end-from-requires Inv-loop μ-loop
-end-from-requires c κs = search needs
-
-cut : (c : tie.After-end-from Inv-loop μ-loop) → Cut (linesFrom (c .before .before .before .before .before .args .rows .now)) (c .before .before .before .before .before .args .rows .now) (c .before .before .loop .at) (c .end-from .result)
-cut c = line-cut _ _ _ (omega arith) (c .end-from .ensures)
-
-price-at-requires : tie.Need-price-at-requires Inv-loop μ-loop
-price-at-requires c κs = (cut c .starts, cut c .stops)
-
-room : (c : tie.After-price-at Inv-loop μ-loop) → c .before .before .before .loop .count < length (c .before .before .before .loop .prices)
-room c = store-room (c .before .before .before .loop .inv) (cut (c .before))
-
-mul-t7 : tie.Need-mul-t7 Inv-loop μ-loop
-mul-t7 c = omega (arith, room c, c .before .before .before .before .before .before .good)
-
-slice-set-from-prices : tie.Need-slice-set-from-prices Inv-loop μ-loop
-slice-set-from-prices c = room c
-
-add-count : tie.Need-add-count Inv-loop μ-loop
-add-count c = omega (arith, room c)
-
-add-at : tie.Need-add-at Inv-loop μ-loop
-add-at c = omega (arith, cut (c .before))
-
-loop-less : tie.Need-loop-less Inv-loop μ-loop
-loop-less c = omega (arith, cut (c .before))
+room : (c : tie.After-price-of Inv-loop μ-loop) → let turn = c .before .before .before .before in turn .loop .count < length (turn .loop .prices)
+room c = let cut = c .before .before in store-room (cut .before .before .loop .inv) (cut .piece-end .ensures)
 
 loop-again : tie.Need-loop-again Inv-loop μ-loop
 loop-again c =
-    let v = plain-fits (record { sfits = c .price-at .ok }) ∙ c .price-at .ensures in
-    rw v (store-on (c .before .before .before .loop .inv) (cut (c .before)))
-
-same-length : tie.Need-same-length Inv-loop μ-loop
-same-length c = c .before .loop .inv .long
-
-returns : tie.Need-returns Inv-loop μ-loop
-returns c = store-all (c .before .loop .inv) (omega arith)
+    let cut = c .before .before in
+    rw (plain-fits (record { sfits = c .price-of .ok }) ∙ c .price-of .ensures) (store-on (cut .before .before .loop .inv) (cut .piece-end .ensures))
 
 pub store-rows-spec : {M : Type 1} → statement M
 store-rows-spec =
@@ -65,14 +30,12 @@ store-rows-spec =
     (tie.spec
     Inv-loop
     μ-loop
-    loop-holds
-    end-from-requires
-    price-at-requires
-    mul-t7
-    slice-set-from-prices
-    add-count
-    add-at
-    loop-less
+    (λ c. store-none _ _ _ (c .before .before .pre))
+    (λ c κs. omega arith) (λ c. search needs) (λ c. search needs) (λ c. search needs) (λ c κs. search needs)
+    (λ c. omega (arith, room c, c .before .before .before .before .before .before .before .good))
+    (λ c. room c)
+    (λ c. omega (arith, room c))
+    (λ c. omega arith) (λ c. omega arith)
     loop-again
-    same-length
-    returns)
+    (λ c. c .before .loop .inv .long)
+    (λ c. store-all (c .before .loop .inv) (omega arith)))

@@ -21,21 +21,6 @@ five p q r s t = cc
 returns : tie.Need-returns
 returns c = too-long (c .before .before .args .text .now) (c .if1 .taken)
 
-is-closed-requires : tie.Need-is-closed-requires
-is-closed-requires c κs = search needs
-
-lines-in-requires : tie.Need-lines-in-requires
-lines-in-requires c κs = search needs
-
-gap-kept-requires : tie.Need-gap-kept-requires
-gap-kept-requires c κs = search needs
-
-unit-formed-requires : tie.Need-unit-formed-requires
-unit-formed-requires c κs = search needs
-
-prices-formed-requires : tie.Need-prices-formed-requires
-prices-formed-requires c κs = search needs
-
 returns-2 : tie.Need-returns-2
 unfolding formKept
 returns-2 c =
@@ -44,7 +29,7 @@ returns-2 c =
     let l = g .before in
     let k = l .before in
     let text = k .before .before .before .args .text .now in
-    five (k .is-closed .ensures) (ap (leb 4) (l .lines-in .ensures)) (g .gap-kept .ensures) (u .unit-formed .ensures) (c .prices-formed .ensures)
+    five (k .is-closed .ensures) (ap (leb 4) (l .lines-in .ensures)) (g .third-empty .ensures) (u .unit-formed .ensures) (c .prices-formed .ensures)
     ∙ rw (le-leb (length text) mostBytes (k .before .if1 .left))
 
 pub form-kept-spec : {M : Type 1} → statement M
@@ -52,9 +37,5 @@ form-kept-spec =
     tie.close
     (tie.spec
     returns
-    is-closed-requires
-    lines-in-requires
-    gap-kept-requires
-    unit-formed-requires
-    prices-formed-requires
+    (λ c κs. search needs) (λ c κs. search needs) (λ c κs. search needs) (λ c κs. search needs) (λ c κs. search needs)
     returns-2)

@@ -4,27 +4,12 @@ use mathlib.Core.Bool.{_&&_}
 use mathlib.Core.List.{List}
 use Prim.Native.Nat.{ℕ}
 use lib.ListN.{length}
-use Rattle.commitment.specs.Ranges.{every}
-use Rattle.lines.specs.Pieces.{fieldsOf}
-use Rattle.lines.specs.Tables.{valueLine, nameLine}
+use Rattle.lists.specs.Every.{every}
+use Rattle.tabletext.specs.Pieces.{fieldsOf}
+use Rattle.tabletext.specs.Tables.{valueLine, nameLine}
 use borrow.Author.Needs.{needs}
 use Rattle.casetext.proofs.form.prices_formed.Statement.{statement}
 use Rattle.casetext.proofs.form.prices_formed.Tie as tie
-
-line-requires : tie.Need-line-requires
-line-requires c κs = search needs
-
-lines-from-requires : tie.Need-lines-from-requires
-lines-from-requires c κs = search needs
-
-name-line-requires : tie.Need-name-line-requires
-name-line-requires c κs = search needs
-
-fields-in-requires : tie.Need-fields-in-requires
-fields-in-requires c κs = search needs
-
-rows-formed-requires : tie.Need-rows-formed-requires
-rows-formed-requires c κs = search needs
 
 returns : tie.Need-returns
 returns c =
@@ -33,15 +18,13 @@ returns c =
     let r = n .before in
     let h = r .before in
     ap₂ _&&_ (n .name-line .ensures ∙ ap nameLine (h .line .ensures))
-    (c .rows-formed .ensures ∙ ap₂ (λ (k : ℕ) (ls : List (List ℕ)). every (valueLine k) ls) (f .fields-in .ensures ∙ ap (λ (l : List ℕ). length (fieldsOf l)) (h .line .ensures)) (r .lines-from .ensures))
+    (c .value-lines .ensures
+    ∙ ap₂ (λ (k : ℕ) (ls : List (List ℕ)). every (valueLine k) ls)
+    (f .fields-in .ensures ∙ ap (λ (l : List ℕ). length (fieldsOf l)) (h .line .ensures)) (r .lines-from .ensures))
 
 pub prices-formed-spec : {M : Type 1} → statement M
 prices-formed-spec =
     tie.close
     (tie.spec
-    line-requires
-    lines-from-requires
-    name-line-requires
-    fields-in-requires
-    rows-formed-requires
+    (λ c κs. search needs) (λ c κs. search needs) (λ c κs. search needs) (λ c κs. search needs) (λ c κs. search needs)
     returns)

@@ -4,8 +4,8 @@ use mathlib.Core.Bool.{Bool, true, false, _&&_}
 use mathlib.Core.List.{List, [], _∷_}
 use Prim.Native.Nat.{ℕ}
 use lib.ListN.{length}
-use Rattle.lines.specs.Pieces.{fieldsOf}
-use Rattle.lines.specs.Tables.{valueLine, nameLine}
+use Rattle.tabletext.specs.Pieces.{fieldsOf}
+use Rattle.tabletext.specs.Tables.{valueLine, nameLine}
 use Rattle.casetext.specs.Form.{unitHead, unitRow, tableFormed}
 use borrow.Author.Needs.{needs}
 use Rattle.casetext.proofs.form.unit_formed.Statement.{statement}
@@ -18,21 +18,6 @@ one-row head row a b p q = ap₂ _&&_ p (q ∙ sym (and-true (valueLine (length 
     and-true true = refl
     and-true false = refl
 
-line-requires : tie.Need-line-requires
-line-requires c κs = search needs
-
-line-requires-2 : tie.Need-line-requires-2
-line-requires-2 c κs = search needs
-
-name-line-requires : tie.Need-name-line-requires
-name-line-requires c κs = search needs
-
-fields-in-requires : tie.Need-fields-in-requires
-fields-in-requires c κs = search needs
-
-value-line-requires : tie.Need-value-line-requires
-value-line-requires c κs = search needs
-
 returns : tie.Need-returns
 returns c =
     let f = c .before in
@@ -41,15 +26,12 @@ returns c =
     let h = v .before in
     let text = h .before .before .args .text .now in
     one-row (unitHead text) (unitRow text) (n .name-line .result) (c .value-line .result) (n .name-line .ensures ∙ ap nameLine (h .line .ensures))
-    (c .value-line .ensures ∙ ap₂ (λ (k : ℕ) (l : List ℕ). valueLine k l) (f .fields-in .ensures ∙ ap (λ (l : List ℕ). length (fieldsOf l)) (h .line .ensures)) (v .line2 .ensures))
+    (c .value-line .ensures
+    ∙ ap₂ valueLine (f .fields-in .ensures ∙ ap (λ (l : List ℕ). length (fieldsOf l)) (h .line .ensures)) (v .line2 .ensures))
 
 pub unit-formed-spec : {M : Type 1} → statement M
 unit-formed-spec =
     tie.close
     (tie.spec
-    line-requires
-    line-requires-2
-    name-line-requires
-    fields-in-requires
-    value-line-requires
+    (λ c κs. search needs) (λ c κs. search needs) (λ c κs. search needs) (λ c κs. search needs) (λ c κs. search needs)
     returns)

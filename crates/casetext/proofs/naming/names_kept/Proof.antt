@@ -1,36 +1,30 @@
--- Both lines of names.
+-- The lines of the tables are the names.
 use mathlib.Core.Path.{ap, ap₂, _∙_}
 use mathlib.Core.Bool.{_&&_}
 use mathlib.Core.List.{List}
 use Prim.Native.Nat.{ℕ}
-use Rattle.lines.specs.Pieces.{fieldsOf}
-use Rattle.casetext.specs.Names.{onceEach, unitNames, priceNames}
+use Rattle.tabletext.specs.Bytes.{isOf}
+use Rattle.tabletext.specs.Pieces.{fieldsOf}
+use Rattle.tabletext.specs.Tables.{named}
+use Rattle.casetext.specs.Names.{unitNames, unitOptional, priceNames, priceOptional}
 use Rattle.casetext.specs.Form.{namesKept}
 use borrow.Author.Needs.{needs}
 use Rattle.casetext.proofs.naming.names_kept.Statement.{statement}
 use Rattle.casetext.proofs.naming.names_kept.Tie as tie
 
-line-requires : tie.Need-line-requires
-line-requires c κs = search needs
-
-line-requires-2 : tie.Need-line-requires-2
-line-requires-2 c κs = search needs
-
-unit-named-requires : tie.Need-unit-named-requires
-unit-named-requires c κs = search needs
-
-price-named-requires : tie.Need-price-named-requires
-price-named-requires c κs = search needs
-
 returns : tie.Need-returns
-unfolding namesKept
+unfolding namesKept isOf
 returns c =
-    let u = c .before in
-    let p = u .before in
-    let h = p .before in
-    ap₂ _&&_ (u .unit-named .ensures ∙ ap (λ (l : List ℕ). onceEach unitNames (fieldsOf l)) (h .line .ensures)) (c .price-named .ensures ∙ ap (λ (l : List ℕ). onceEach priceNames (fieldsOf l)) (p .line2 .ensures))
+    let unit = c .before .before .before in
+    let prices = unit .before .before .before in
+    let head = prices .before in
+    ap₂ _&&_ (unit .names-in .ensures ∙ ap (λ (l : List ℕ). named unitNames unitOptional (fieldsOf l)) (head .line .ensures))
+    (c .names-in2 .ensures ∙ ap (λ (l : List ℕ). named priceNames priceOptional (fieldsOf l)) (prices .line2 .ensures))
 
 pub names-kept-spec : {M : Type 1} → statement M
 names-kept-spec =
     tie.close
-    (tie.spec line-requires line-requires-2 unit-named-requires price-named-requires returns)
+    (tie.spec
+    (λ c κs. search needs) (λ c κs. search needs) (λ c. search needs) (λ c. search needs)
+    (λ c κs. search needs) (λ c. search needs) (λ c. search needs) (λ c κs. search needs)
+    returns)

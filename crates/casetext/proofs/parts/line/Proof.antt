@@ -4,26 +4,14 @@ use mathlib.Core.List.{List, []}
 use Prim.Native.Nat.{ℕ, _+_}
 use lib.ListN.{getD}
 use lib.Seq.{getD-drop}
-use Rattle.lines.specs.declared.Class.the-variants.{LineEnd}
-use Rattle.lines.specs.Pieces.{linesOf}
-use Rattle.lines.proofs.Cuts.{end-between}
+use Rattle.tabletext.specs.declared.Class.the-variants.{LineEnd}
+use Rattle.tabletext.specs.Pieces.{linesOf}
+use Rattle.tabletext.proofs.Cuts.{end-between}
 use Rattle.casetext.proofs.Starts.{line-here}
 use borrow.Author.Needs.{needs}
 use native.Mathlib.Omega.{arith}
 use Rattle.casetext.proofs.parts.line.Statement.{statement}
 use Rattle.casetext.proofs.parts.line.Tie as tie
-
-start-of-requires : tie.Need-start-of-requires
-start-of-requires c κs = search needs
-
-end-from-requires : tie.Need-end-from-requires
-end-from-requires c κs = search needs
-
-sub-result : tie.Need-sub-result
-sub-result c = search needs
-
-part-result-start : tie.Need-part-result-start
-part-result-start c = search needs
 
 part-result-end : tie.Need-part-result-end
 part-result-end c =
@@ -45,9 +33,6 @@ pub line-spec : {M : Type 1} → statement M
 line-spec =
     tie.close
     (tie.spec
-    start-of-requires
-    end-from-requires
-    sub-result
-    part-result-start
+    (λ c κs. search needs) (λ c κs. search needs) (λ c. search needs) (λ c. search needs)
     part-result-end
     returns)

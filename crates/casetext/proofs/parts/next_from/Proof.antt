@@ -1,8 +1,9 @@
 -- Behind the line end, or at the end of the text.
 use mathlib.Core.Path.{sym, _∙_}
 use Prim.Native.Nat.{_+_}
-use Rattle.lines.specs.declared.Class.the-variants.{LineEnd}
-use Rattle.lines.proofs.Cuts.{end-between, lines-end}
+use Rattle.tabletext.specs.declared.Pieces.the-variants.{Lines}
+use Rattle.tabletext.specs.declared.Class.the-variants.{LineEnd}
+use Rattle.tabletext.proofs.Cuts.{end-between, pieces-end}
 use Rattle.casetext.proofs.Starts.{next-start}
 use borrow.Author.Needs.{needs}
 use native.Mathlib.Omega.{arith}
@@ -28,7 +29,8 @@ returns-2 c =
     let text = s .args .text .now in
     let end = e .end-from .result in (
       end-between LineEnd text (s .args .at) end (s .pre) (e .end-from .ensures) .1,
-      lines-end text end (omega arith) ∙ sym (lines-end text (end + 1) (omega arith)) ∙ next-start text (s .args .at) end (s .pre) (e .end-from .ensures),
+      pieces-end Lines text end (omega arith) ∙ sym (pieces-end Lines text (end + 1) (omega arith))
+          ∙ next-start text (s .args .at) end (s .pre) (e .end-from .ensures),
     )
 
 pub next-from-spec : {M : Type 1} → statement M

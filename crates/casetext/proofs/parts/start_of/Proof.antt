@@ -3,30 +3,22 @@ use mathlib.Core.Path.{_≡_, refl, ap, _∙_}
 use Prim.Native.Nat.{ℕ, _-_, _≤_}
 use lib.ListN.{length, drop}
 use lib.Seq.{drop-drop}
-use Rattle.lines.specs.Pieces.{linesOf}
-use Rattle.lines.specs.Places.{linesFrom}
+use Rattle.tabletext.specs.Pieces.{linesOf}
+use Rattle.tabletext.specs.declared.Pieces.the-variants.{Lines}
+use Rattle.tabletext.specs.Places.{piecesFrom}
 use borrow.Author.Needs.{needs}
 use native.Mathlib.Omega.{arith}
 use Rattle.casetext.proofs.parts.start_of.Statement.{statement}
 use Rattle.casetext.proofs.parts.start_of.Tie as tie
 
 abbrev Inv-loop : tie.InvT-loop
-Inv-loop text number at₀ passed₀ at passed = (at ≤ length text) × (passed ≤ number) × (linesFrom text at ≡ drop passed (linesOf text))
+Inv-loop text number at₀ passed₀ at passed = (at ≤ length text) × (passed ≤ number) × (piecesFrom Lines text at ≡ drop passed (linesOf text))
 
 abbrev μ-loop : tie.MeasureT-loop
 μ-loop text number at₀ passed₀ at passed = number - passed
 
 loop-holds : tie.Need-loop-holds Inv-loop μ-loop
 loop-holds c = (omega arith, omega arith, refl)
-
-next-from-requires : tie.Need-next-from-requires Inv-loop μ-loop
-next-from-requires c κs = search needs
-
-add-passed : tie.Need-add-passed Inv-loop μ-loop
-add-passed c = omega arith
-
-loop-less : tie.Need-loop-less Inv-loop μ-loop
-loop-less c = omega arith
 
 loop-again : tie.Need-loop-again Inv-loop μ-loop
 loop-again c =
@@ -48,8 +40,6 @@ start-of-spec =
     Inv-loop
     μ-loop
     loop-holds
-    next-from-requires
-    add-passed
-    loop-less
+    (λ c κs. search needs) (λ c. omega arith) (λ c. omega arith)
     loop-again
     returns)

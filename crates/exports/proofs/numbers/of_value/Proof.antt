@@ -1,39 +1,12 @@
--- By cases on the answer.
+-- Number and outcomes of the answer.
+use mathlib.Core.Path.{refl}
 use borrow.Author.Needs.{needs}
 use Rattle.exports.proofs.numbers.of_value.Statement.{statement}
 use Rattle.exports.proofs.numbers.of_value.Tie as tie
-use mathlib.Core.Path.{sym, ap}
-use Rattle.exports.specs.Answers.{valueNumbers}
-
-enum-known-answer : tie.Need-enum-known-answer
-enum-known-answer c = search needs
-
-outcomes-numbers-requires : tie.Need-outcomes-numbers-requires
-outcomes-numbers-requires c κs = search needs
-
-enum-known-answer-2 : tie.Need-enum-known-answer-2
-enum-known-answer-2 c = search needs
-
-number-of-requires : tie.Need-number-of-requires
-number-of-requires c κs = search needs
-
-no-outcomes-requires : tie.Need-no-outcomes-requires
-no-outcomes-requires c κs = search needs
-
-returns : tie.Need-returns
-returns c = rw (c .outcomes-numbers .ensures) (ap valueNumbers (sym (c .before .before .answer .given .1)))
-
-returns-2 : tie.Need-returns-2
-returns-2 c = rw (c .before .number-of .ensures, c .no-outcomes .ensures) (ap valueNumbers (sym (c .before .before .before .answer2 .given .1)))
 
 pub of-value-spec : {M : Type 1} → statement M
 of-value-spec =
     tie.close
     (tie.spec
-    enum-known-answer
-    outcomes-numbers-requires
-    enum-known-answer-2
-    number-of-requires
-    no-outcomes-requires
-    returns
-    returns-2)
+    (λ c κs. search needs) (λ c κs. search needs) (λ c κs. search needs)
+    (λ c. rw (c .before .before .valued-number .ensures, c .outcomes-numbers .ensures, c .before .valued-outcomes .ensures) refl))

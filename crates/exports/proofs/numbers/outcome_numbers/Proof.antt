@@ -6,18 +6,6 @@ use mathlib.Core.Path.{sym, ap}
 use Rattle.integers.proofs.Ranges.{plain-fits}
 use Rattle.exports.specs.Records.{outcomeNumbers}
 
-enum-told : tie.Need-enum-told
-enum-told c = search needs
-
-enum-told-2 : tie.Need-enum-told-2
-enum-told-2 c = search needs
-
-enum-told-3 : tie.Need-enum-told-3
-enum-told-3 c = search needs
-
-enum-known-outcome : tie.Need-enum-known-outcome
-enum-known-outcome c = search needs
-
 returns : tie.Need-returns
 returns c = ap outcomeNumbers (sym (c .enum-told .given .1))
 
@@ -36,10 +24,10 @@ pub outcome-numbers-spec : {M : Type 1} → statement M
 outcome-numbers-spec =
     tie.close
     (tie.spec
-    enum-told
-    enum-told-2
-    enum-told-3
-    enum-known-outcome
+    (λ c. search needs)
+    (λ c. search needs)
+    (λ c. search needs)
+    (λ c. search needs)
     returns
     returns-2
     returns-3

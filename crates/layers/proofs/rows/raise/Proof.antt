@@ -1,6 +1,5 @@
 -- The invariant: the first i of the stretch are raised, and all else is as it was. The turns left fall.
-use mathlib.Core.Path.{_≡_, sym, ap, _∙_}
-use mathlib.Core.Logic.{inr}
+use mathlib.Core.Path.{_≡_, _∙_}
 use Prim.Native.Nat.{_+_, _-_, _^_, _≤_}
 use native.Mathlib.Omega.{arith}
 use lib.Dec.{lit<}
@@ -9,121 +8,73 @@ use lib.ListN.{getD}
 use mir.Syntax.{w64}
 use mir.Val.{toZ, ofZ}
 use Rattle.integers.specs.Maximum.{maxℤ}
-use Rattle.integers.proofs.Ranges.{Within, within-fits, plain, plain-fits}
-use Rattle.layers.specs.Layers.{swing}
-use Rattle.layers.proofs.Holding.{gained-within}
-use Rattle.layers.proofs.Stretches.{Made, made-none, made-next}
+use Rattle.integers.proofs.Ranges.{Within, within-abs, within-weaken, within-sum, within-fits, plain, plain-fits}
+use Rattle.layers.specs.Ladders.{mostBrought}
+use Rattle.layers.proofs.Stretches.{Made, made-none, made-next, made-apart}
 use Rattle.layers.proofs.rows.raise.Statement.{statement}
 use Rattle.layers.proofs.rows.raise.Tie as tie
 
 abbrev Inv-loop : tie.InvT-loop
 Inv-loop scratch₀ to from count gain i₀ scratch i =
-    (i ≤ count) × Made scratch₀ scratch to i (λ j. maxℤ (getD scratch₀ (to + j) (pos 0)) (getD scratch₀ (from + j) (pos 0) +ℤ toZ w64 gain))
+    (i ≤ count)
+    × Made (λ j. j) scratch₀ scratch to i (λ j. maxℤ (getD scratch₀ (to + j) (pos 0)) (getD scratch₀ (from + j) (pos 0) +ℤ toZ w64 gain))
 
 abbrev μ-loop : tie.MeasureT-loop
 μ-loop scratch₀ to from count gain i₀ scratch i = count - i
 
--- the number behind, with the gain
+-- the number behind, and that with the gain
+abbrev behind : tie.In-loop Inv-loop μ-loop → ℤ
+behind c = let a = c .before .before .args in getD (a .scratch .now) (a .from + c .before .loop .i) (pos 0)
+
 read : (c : tie.After-on Inv-loop μ-loop) →
-    let a = c .before .before .before .args in
-    let l = c .before .before .loop in
-    toZ w64 (ofZ w64 (getD (l .scratch) (a .from + l .i) (pos 0))) ≡ getD (a .scratch .now) (a .from + l .i) (pos 0)
+    let turn = c .before in
+    let l = turn .before .loop in
+    toZ w64 (ofZ w64 (getD (l .scratch) (turn .before .before .args .from + l .i) (pos 0))) ≡ behind turn
 read c =
-    let l = c .before .before .loop in
-    plain-fits (record { sfits = c .on .given }) ∙ l .inv .1 .apart (c .before .before .before .args .from + l .i) (inr (omega arith))
+    let turn = c .before in
+    let o = turn .before .before in
+    let l = turn .before .loop in
+    plain-fits (record { sfits = c .on .given }) ∙ l .inv .1 .apart (o .args .from + l .i) (λ m k e. omega (arith, o .pre .0 .before))
 
-gained : (c : tie.After-on Inv-loop μ-loop) →
-    let a = c .before .before .before .args in
-    Within (2 ^ 62 + swing) (getD (a .scratch .now) (a .from + c .before .before .loop .i) (pos 0) +ℤ a .gain)
+gained : (c : tie.In-loop Inv-loop μ-loop) → Within (2 ^ 62 + mostBrought) (behind c +ℤ toZ w64 (ofZ w64 (c .before .before .args .gain)))
 gained c =
-    let o = c .before .before .before in
-    let i = c .before .before .loop .i in
-    gained-within (getD (o .args .scratch .now) (o .args .from + i) (pos 0)) (o .args .gain) (o .pre .1 .0 i (c .before .loop-test .taken)) (o .pre .1 .1)
-
-loop-holds : tie.Need-loop-holds Inv-loop μ-loop
-loop-holds c = (omega arith, made-none (c .args .scratch .now) (c .args .to) _)
-
-add-on : tie.Need-add-on Inv-loop μ-loop
-add-on c = omega arith
-
-mul-on : tie.Need-mul-on Inv-loop μ-loop
-mul-on c = omega (arith, c .before .loop .inv .1 .same)
-
-slice-copy-out-on : tie.Need-slice-copy-out-on Inv-loop μ-loop
-slice-copy-out-on c = omega (arith, c .before .loop .inv .1 .same)
-
-add-on-2 : tie.Need-add-on-2 Inv-loop μ-loop
-add-on-2 c = rw (read c, plain-fits (c .before .before .before .fits .gain)) (within-fits (gained c) (lit< tt))
-
-add-larger : tie.Need-add-larger Inv-loop μ-loop
-add-larger c = omega arith
-
-mul-larger : tie.Need-mul-larger Inv-loop μ-loop
-mul-larger c = omega (arith, c .before .before .loop .inv .1 .same)
-
-slice-copy-out-larger : tie.Need-slice-copy-out-larger Inv-loop μ-loop
-slice-copy-out-larger c = omega (arith, c .before .before .loop .inv .1 .same)
-
-larger-requires : tie.Need-larger-requires Inv-loop μ-loop
-larger-requires c κs = tt
-
-add-t15 : tie.Need-add-t15 Inv-loop μ-loop
-add-t15 c = omega arith
-
-mul-t16 : tie.Need-mul-t16 Inv-loop μ-loop
-mul-t16 c = omega (arith, c .before .before .before .before .loop .inv .1 .same)
-
-slice-set-from-scratch : tie.Need-slice-set-from-scratch Inv-loop μ-loop
-slice-set-from-scratch c = omega (arith, c .before .before .before .before .loop .inv .1 .same)
-
-add-i : tie.Need-add-i Inv-loop μ-loop
-add-i c = omega arith
-
-loop-less : tie.Need-loop-less Inv-loop μ-loop
-loop-less c = omega arith
+    let o = c .before .before in
+    rw (plain-fits (o .fits .gain))
+    (within-sum (within-weaken (o .pre .0 .small (c .before .loop .i) (c .loop-test .taken)) (within-abs (behind c)))
+    (within-weaken (o .pre .1) (within-abs (o .args .gain))))
 
 loop-again : tie.Need-loop-again Inv-loop μ-loop
 loop-again c =
-    let o = c .before .before .before .before .before in
+    let turn = c .before .before .before in
+    let o = turn .before .before in
     let a = o .args in
-    let l = c .before .before .before .before .loop in
-    let off = plain-fits (record { sfits = c .before .larger-arg .given }) ∙ l .inv .1 .apart (a .to + l .i) (inr (omega arith)) in
-    let read-on = rw (off, read (c .before .before), plain-fits (o .fits .gain), plain (gained (c .before .before)) (lit< tt)) at (c .larger .ensures) in (
+    let l = turn .before .loop in
+    let off = plain-fits (record { sfits = c .before .larger-arg .given }) ∙ l .inv .1 .apart (a .to + l .i) (λ m k e. omega arith) in
+    let new = rw (off, read (c .before .before), plain (gained turn) (lit< tt)) at (c .larger .ensures) in (
       omega arith,
-      made-next (a .scratch .now) (a .to) _ (l .scratch) (l .i) _ (omega arith) (l .inv .1)
-          (plain-fits (record { sfits = c .larger .ok }) ∙ read-on
-          ∙ ap (λ (g : ℤ). maxℤ (getD (a .scratch .now) (a .to + l .i) (pos 0)) (getD (a .scratch .now) (a .from + l .i) (pos 0) +ℤ g)) (sym (plain-fits (o .fits .gain)))),
+      made-next (λ j. j) (a .scratch .now) (a .to) _ (l .scratch) (l .i) _ (omega (arith, o .pre .0)) (λ m k e. omega arith) (l .inv .1)
+          (plain-fits (record { sfits = c .larger .ok }) ∙ new),
     )
-
-same-length : tie.Need-same-length Inv-loop μ-loop
-same-length c = c .before .loop .inv .1 .same
 
 returns : tie.Need-returns Inv-loop μ-loop
 returns c =
+    let o = c .before .before in
+    let a = o .args in
     let l = c .before .loop in
-    let e : l .i ≡ c .before .before .args .count = omega arith in
-    record { inside = rw (e, plain-fits (c .before .before .fits .gain)) at (l .inv .1 .inside); apart = rw e at (l .inv .1 .apart) }
+    let e : l .i ≡ a .count = omega arith in
+    let all = rw (e, plain-fits (o .fits .gain)) at (l .inv .1) in
+    record { inside = all .inside; apart = made-apart (λ j. j) (a .scratch .now) (a .to) _ (l .scratch) (a .count) (λ m h. h) all }
 
 pub raise-spec : {M : Type 1} → statement M
 raise-spec =
     tie.close
-    (tie.spec
-    Inv-loop
-    μ-loop
-    loop-holds
-    add-on
-    mul-on
-    slice-copy-out-on
-    add-on-2
-    add-larger
-    mul-larger
-    slice-copy-out-larger
-    larger-requires
-    add-t15
-    mul-t16
-    slice-set-from-scratch
-    add-i
-    loop-less
-    loop-again
-    same-length
-    returns)
+    (tie.spec Inv-loop μ-loop (λ c. (omega arith, made-none (λ j. j) (c .args .scratch .now) (c .args .to) _))
+    (λ c. omega (arith, c .before .before .pre .0)) (λ c. omega (arith, c .before .before .pre .0, c .before .loop .inv .1 .same))
+    (λ c. omega (arith, c .before .before .pre .0, c .before .loop .inv .1 .same))
+    (λ c. rw (read c) (within-fits (gained (c .before)) (lit< tt))) (λ c. omega (arith, c .before .before .before .pre .0))
+    (λ c. omega (arith, c .before .before .before .pre .0, c .before .before .loop .inv .1 .same))
+    (λ c. omega (arith, c .before .before .before .pre .0, c .before .before .loop .inv .1 .same)) (λ c κs. tt)
+    (λ c. let o = c .before .before .before .before .before in omega (arith, o .pre .0))
+    (λ c. let l = c .before .before .before .before in omega (arith, l .before .pre .0, l .loop .inv .1 .same))
+    (λ c. let l = c .before .before .before .before in omega (arith, l .before .pre .0, l .loop .inv .1 .same)) (λ c. omega arith)
+    (λ c. omega arith) loop-again (λ c. c .before .loop .inv .1 .same) returns)

@@ -1,165 +1,90 @@
 -- Going up and then down the chunk, by the law of a chunk.
-use mathlib.Core.Path.{_≡_, _∙_}
+use mathlib.Core.Path.{_≡_, refl}
 use mathlib.Core.Logic.{inr}
 use Prim.Native.Nat.{_+_, _-_, _≤_}
-use native.Mathlib.Nat.{add-assoc}
 use native.Mathlib.Omega.{arith}
 use borrow.Author.Needs.{needs}
+use lib.Dec.{lit<}
+use lib.IntN.{pos, _-ℤ_}
 use mir.Syntax.{w64}
 use mir.Val.{toZ, ofZ}
-use Rattle.integers.proofs.Ranges.{plain-fits}
-use Rattle.layers.specs.Layers.{row}
-use Rattle.layers.specs.Turns.{net, slope}
-use Rattle.layers.proofs.Numbers.{row-is}
-use Rattle.layers.proofs.Turning.{pmax-most, net-small, slope-small}
+use Rattle.integers.proofs.Ranges.{within-fits, plain, plain-fits}
+use Rattle.layers.specs.Ladders.{brings}
+use Rattle.layers.proofs.Segments.{behind-within}
+use Rattle.layers.proofs.Ladders.{least-plain, rise-plain, fall-within, up-stepping, down-stepping}
 use Rattle.layers.proofs.Windows.{row-chunk}
 use Rattle.layers.proofs.rows.raise_chunk.Statement.{statement}
 use Rattle.layers.proofs.rows.raise_chunk.Tie as tie
 
--- what one block more and what the lowest and the highest output bring, as they are handed on
-rise : (c : tie.After-slope) → let a = c .before .before .before .args in toZ w64 (ofZ w64 (c .slope .result)) ≡ slope (a .f) (a .price)
-rise c = plain-fits (record { sfits = c .slope .ok }) ∙ (rw (plain-fits (c .before .before .before .fits .price)) at (c .slope .ensures))
+-- what the highest output brings and the rise downwards, as they are handed on
+highest : (c : tie.After-most) →
+    let l = c .before .before .before .before .before .before .before .before .args .l in toZ w64 (ofZ w64 (c .most .result)) ≡ brings l (l .high)
+highest c = rw (plain-fits {x = c .most .result} (record { sfits = c .most .ok })) (c .most .ensures)
 
-least : (c : tie.After-net) →
-    let a = c .before .before .before .before .args in toZ w64 (ofZ w64 (c .net .result)) ≡ net (a .f) (a .price) (a .pays) (a .f .pmin)
-least c = plain-fits (record { sfits = c .net .ok }) ∙ (rw (plain-fits (c .before .before .before .before .fits .price)) at (c .net .ensures))
+falling : (o : tie.Start) → toZ w64 (ofZ w64 (pos 0 -ℤ toZ w64 (ofZ w64 (o .args .l .rise)))) ≡ pos 0 -ℤ o .args .l .rise
+falling o = rw (rise-plain (o .args .l) (o .pre .0)) (plain (fall-within (o .args .l) (o .pre .0)) (lit< tt))
 
-most : (c : tie.After-net2) →
-    let a = c .before .before .before .before .before .args in toZ w64 (ofZ w64 (c .net2 .result)) ≡ net (a .f) (a .price) (a .pays) (a .f .pmax)
-most c = plain-fits (record { sfits = c .net2 .ok }) ∙ (rw (plain-fits (c .before .before .before .before .before .fits .price)) at (c .net2 .ensures))
-
-sub-size : tie.Need-sub-size
-sub-size c = search needs
-
-add-size : tie.Need-add-size
-add-size c = search needs
-
-add-smaller : tie.Need-add-smaller
-add-smaller c = search needs
-
-sub-smaller : tie.Need-sub-smaller
-sub-smaller c = search needs
-
-sub-smaller-2 : tie.Need-sub-smaller-2
-sub-smaller-2 c = search needs
-
-smaller-requires : tie.Need-smaller-requires
-smaller-requires c κs = search needs
-
-slope-requires : tie.Need-slope-requires
-slope-requires c κs = search needs
-
-net-requires : tie.Need-net-requires
-net-requires c κs = search needs
-
-net-requires-2 : tie.Need-net-requires-2
-net-requires-2 c κs = search needs
-
-add-climb : tie.Need-add-climb
-add-climb c = search needs
-
-add-climb-2 : tie.Need-add-climb-2
-add-climb-2 c = search needs
-
-add-climb-3 : tie.Need-add-climb-3
-add-climb-3 c = search needs
-
-climb-requires : tie.Need-climb-requires
-climb-requires c κs =
-    let o = c .before .before .before .before .before .before in
+sweep-requires : tie.Need-sweep-requires
+sweep-requires c κs =
+    let o = c .before .before .before .before in
     let a = o .args in
-    let e = row-is (a .f) in
-    let h = pmax-most (a .f) (o .pre .0 .0) in (
-      (
-        omega arith,
-        omega (arith, h, o .pre .0 .0 .pmin),
-        omega (arith, e, o .pre .0 .0 .pmax, o .pre .0 .4, o .pre .1 .0),
-        omega (arith, e, o .pre .0 .0 .pmax, o .pre .0 .4, o .pre .1 .1),
-      ),
-      (
-        λ i l. rw (add-assoc (a .from) (a .a) i) (o .pre .1 .2 (a .a + i) (omega (arith, e, o .pre .0 .0 .pmax, o .pre .0 .4))),
-        rw (least (c .before .before)) (net-small (a .f) (o .pre .0 .0) (a .price) (o .pre .0 .1) (a .pays) (a .f .pmin) (o .pre .0 .2) (o .pre .0 .0 .pmax)),
-        rw (rise (c .before .before .before)) (slope-small (a .f) (o .pre .0 .0) (a .price) (o .pre .0 .1)),
-      ),
+    let l = a .l in (
+      behind-within (a .scratch .now) (a .scratch .now) (a .to) (a .from) (a .cells) (a .to + (a .a + l .low)) (a .from + a .a) (l .high - l .low + 1)
+          (o .pre .2)
+          (omega (arith, o .pre .2 .before))
+          (omega arith)
+          (omega arith)
+          refl
+          (λ j h. refl),
+      rw (least-plain l (o .pre .0), rise-plain l (o .pre .0)) (up-stepping l (o .pre .0) (l .high - l .low + 1) (omega arith) (omega (arith, o .pre .0 .few))),
     )
 
-add-descend : tie.Need-add-descend
-add-descend c = search needs
+sub-sweep : tie.Need-sub-sweep
+sub-sweep c =
+    let o = c .before .before .before .before .before .before .before .before .before .before in
+    rw (rise-plain (o .args .l) (o .pre .0)) (within-fits (fall-within (o .args .l) (o .pre .0)) (lit< tt))
 
-add-descend-2 : tie.Need-add-descend-2
-add-descend-2 c = search needs
-
-add-descend-3 : tie.Need-add-descend-3
-add-descend-3 c = search needs
-
-descend-requires : tie.Need-descend-requires
-descend-requires c κs =
-    let o = c .before .before .before .before .before .before .before .before .before in
+sweep-requires-2 : tie.Need-sweep-requires-2
+sweep-requires-2 c κs =
+    let after = c .before .before in
+    let climbed = after .before .before .before in
+    let o = climbed .before .before .before .before .before in
     let a = o .args in
-    let d = c .before .before .before .before .before .before .before .smaller .result in
-    let m = c .before .before .before .before .before .before .before .smaller .ensures in
-    let e = row-is (a .f) in
-    let here : 1 ≤ d = omega (arith, m, o .pre .0 .4) in
-    let few : d ≤ a .f .pmax - a .f .pmin + 1 = omega (arith, m) in
-    let room : d + a .a + a .f .pmax ≤ a .f .blocks + 1 = omega (arith, m, o .pre .0 .4) in
-    let last : a .a + a .f .pmin + (a .f .pmax - a .f .pmin + 1) ≤ row (a .f) = omega (arith, e, o .pre .0 .0 .pmax, o .pre .0 .4) in (
-      (
-        here,
-        omega (arith, few, pmax-most (a .f) (o .pre .0 .0), o .pre .0 .0 .pmin),
-        omega (arith, room, e, o .pre .1 .0),
-        omega (arith, room, e, o .pre .1 .1, c .before .before .climb .kept .0),
-      ),
-      (
-        λ i l.
-            rw (c .before .before .climb .ensures .apart (a .from + a .a + i) (inr (omega (arith, last, o .pre .1 .0))), add-assoc (a .from) (a .a) i)
-            (o .pre .1 .2 (a .a + i) (omega (arith, e, room))),
-        rw (most (c .before .before .before .before)) (net-small (a .f) (o .pre .0 .0) (a .price) (o .pre .0 .1) (a .pays) (a .f .pmax) (o .pre .0 .2) (omega arith)),
-        rw (rise (c .before .before .before .before .before .before)) (slope-small (a .f) (o .pre .0 .0) (a .price) (o .pre .0 .1)),
-      ),
+    let l = a .l in
+    let down = climbed .before .before .before .before .smaller .result in
+    let m = climbed .before .before .before .before .smaller .ensures in
+    let some : 1 ≤ down = omega (arith, m, o .pre .1) in
+    let few : down ≤ l .high - l .low + 1 = omega (arith, m) in
+    let room : down + a .a + l .high ≤ a .cells = omega (arith, m, o .pre .1) in
+    let up : a .a + l .low + (l .high - l .low + 1) ≤ a .cells = omega (arith, o .pre .0 .some, o .pre .1) in
+    rw (highest after, falling o) (
+      behind-within (a .scratch .now) (climbed .sweep .last .0) (a .to) (a .from) (a .cells) (a .to + (a .a + l .high)) (a .from + a .a) down (o .pre .2)
+          (omega (arith, room, o .pre .2 .before))
+          (omega arith)
+          (omega (arith, room))
+          (climbed .sweep .kept .0)
+          (λ j h. climbed .sweep .ensures .apart j (inr (omega (arith, up, o .pre .2 .before)))),
+      down-stepping l (o .pre .0) down some (omega (arith, few, o .pre .0 .few)),
     )
-
-same-length : tie.Need-same-length
-same-length c = search needs
 
 returns : tie.Need-returns
 returns c =
-    let o = c .before .before .before .before .before .before .before .before .before .before .before in
+    let after = c .before .before .before .before in
+    let climbed = after .before .before .before in
+    let o = climbed .before .before .before .before .before in
     let a = o .args in
-    let n = c .before .before .before .before .before .before in
-    let up = rw (least (n .before), rise (n .before .before)) at (c .before .before .before .before .climb .ensures) in
-    let down = rw (most n, rise (n .before .before)) at (c .before .descend .ensures) in
-    row-chunk (a .f) (a .price) (a .pays) (o .pre .0 .3) (a .to) (a .from) (a .scratch .now)
-    (c .before .before .before .before .climb .last .0)
-    (c .before .descend .last .0)
-    (o .pre .1 .0)
-    (a .a)
-    (n .before .before .before .smaller .result)
-    (o .pre .0 .0 .pmax)
-    (o .pre .0 .4)
-    (n .before .before .before .smaller .ensures)
-    up
-    down
+    let l = a .l in
+    row-chunk l (a .cells) (a .to) (a .from) (a .scratch .now) (climbed .sweep .last .0) (c .before .sweep2 .last .0) (o .pre .2 .before) (a .a)
+    (climbed .before .before .before .before .smaller .result)
+    (o .pre .0 .some)
+    (o .pre .1)
+    (climbed .before .before .before .before .smaller .ensures)
+    (rw (least-plain l (o .pre .0), rise-plain l (o .pre .0)) at (climbed .sweep .ensures))
+    (rw (highest after, falling o) at (c .before .sweep2 .ensures))
 
 pub raise-chunk-spec : {M : Type 1} → statement M
 raise-chunk-spec =
     tie.close
-    (tie.spec
-    sub-size
-    add-size
-    add-smaller
-    sub-smaller
-    sub-smaller-2
-    smaller-requires
-    slope-requires
-    net-requires
-    net-requires-2
-    add-climb
-    add-climb-2
-    add-climb-3
-    climb-requires
-    add-descend
-    add-descend-2
-    add-descend-3
-    descend-requires
-    same-length
-    returns)
+    (tie.spec (λ c. search needs) (λ c. search needs) (λ c. search needs) (λ c. search needs) (λ c κs. search needs) (λ c. search needs)
+    (λ c. search needs) (λ c. search needs) sweep-requires (λ c. search needs) (λ c. search needs) (λ c. search needs)
+    (λ c κs. search needs) sub-sweep sweep-requires-2 (λ c. search needs) returns)

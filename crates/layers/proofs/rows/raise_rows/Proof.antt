@@ -1,133 +1,83 @@
 -- The invariant: the rows below y are done, and the next and its source stand where they are due. The rows left fall.
-use mathlib.Core.Path.{_≡_}
 use Prim.Native.Nat.{_+_, _-_, _*_, _≤_}
 use native.Mathlib.Omega.{arith}
-use lib.ListN.{length}
-use mir.Syntax.{w64}
-use mir.Val.{toZ, ofZ}
-use Rattle.integers.proofs.Ranges.{plain-fits}
-use Rattle.layers.specs.Layers.{row, span}
-use Rattle.layers.proofs.Numbers.{row-is, rows-fit, row-fits}
-use Rattle.layers.proofs.Segments.{Turn, turn, turn-first, small-within}
+use Rattle.geometry.specs.Geometry.{row, span}
+use Rattle.geometry.proofs.Places.{rows-fit, row-fits}
+use Rattle.layers.specs.Stretches.{Behind}
+use Rattle.layers.proofs.Segments.{Round, round-first, round-next, round-behind}
 use Rattle.layers.proofs.Passes.{RowsDone, rows-first, rows-next, rows-done}
 use Rattle.layers.proofs.rows.raise_rows.Statement.{statement}
 use Rattle.layers.proofs.rows.raise_rows.Tie as tie
 
 abbrev Inv-loop : tie.InvT-loop
-Inv-loop scratch₀ to from f price pays cells last y₀ at₀ behind₀ scratch y at behind =
-    (f .peron ≤ y) × (y ≤ f .ons + 1) × (at ≡ to + y * row f) × (behind ≡ from + (y - f .peron) * row f)
-    × RowsDone f (toZ w64 price) pays scratch₀ to from scratch y
+Inv-loop scratch₀ to from f l cells y₀ at₀ behind₀ scratch y at behind =
+    Round (row f) (f .peron) (f .ons) to from y at behind × RowsDone f l scratch₀ to from scratch y
 
 abbrev μ-loop : tie.MeasureT-loop
-μ-loop scratch₀ to from f price pays cells last y₀ at₀ behind₀ scratch y at behind = f .ons + 1 - y
+μ-loop scratch₀ to from f l cells y₀ at₀ behind₀ scratch y at behind = f .ons + 1 - y
 
--- a turn
-here : (c : tie.In-loop Inv-loop μ-loop) →
-    let a = c .before .before .before .args in
-    let l = c .before .loop in
-    Turn (row (a .f)) (a .f .peron) (span (a .f)) (a .to) (a .from) (length (a .scratch .now)) (l .y) (l .at) (l .behind)
+here : (c : tie.Then1 Inv-loop μ-loop) →
+    let at-loop = c .before .before in
+    let l = at-loop .loop in
+    Behind (l .scratch) (l .at) (l .behind) (row (at-loop .before .before .args .f))
 here c =
-    let o = c .before .before .before in
+    let at-loop = c .before .before in
+    let o = at-loop .before .before in
     let a = o .args in
-    let l = c .before .loop in
-    turn (row (a .f)) (a .f .peron) (span (a .f)) (a .to) (a .from) (length (a .scratch .now)) (l .y) (l .at) (l .behind) (l .inv .0)
-    (row-fits (a .f) (l .y) (c .loop-test .taken))
-    (o .pre .1 .0)
-    (o .pre .1 .1)
-    (l .inv .2)
-    (l .inv .3)
+    let l = at-loop .loop in
+    round-behind (row (a .f)) (a .f .peron) (a .f .ons) (a .to) (a .from) (l .y) (l .at) (l .behind) (c .if1 .taken) (l .inv .0) (a .scratch .now)
+    (l .scratch) (span (a .f))
+    (o .pre .3)
+    (row-fits (a .f) (l .y) (c .if1 .taken))
+    (l .inv .1 .same)
+    (l .inv .1 .after)
 
 -- the rows that are skipped
-skipped : (c : tie.Start Inv-loop μ-loop) → c .args .f .peron * (c .args .f .blocks + 1) ≤ span (c .args .f)
-skipped c = rows-fit (c .args .f) (c .args .f .peron) (omega (arith, c .pre .0 .0 .peron))
-
-add-cells : tie.Need-add-cells Inv-loop μ-loop
-add-cells c = omega (arith, c .before .pre .0 .0 .blocks)
-
-mul-at : tie.Need-mul-at Inv-loop μ-loop
-mul-at c = omega (arith, skipped (c .before), c .before .pre .1 .0, c .before .pre .1 .1)
-
-add-at : tie.Need-add-at Inv-loop μ-loop
-add-at c = omega (arith, skipped (c .before), c .before .pre .1 .0, c .before .pre .1 .1)
+skipped : (c : tie.After-row-cells Inv-loop μ-loop) → c .before .args .f .peron * c .row-cells .result ≤ span (c .before .args .f)
+skipped c = rw (c .row-cells .ensures) (rows-fit (c .before .args .f) (c .before .args .f .peron) (omega (arith, c .before .pre .0 .peron)))
 
 loop-holds : tie.Need-loop-holds Inv-loop μ-loop
 loop-holds c =
-    let a = c .before .args in
-    (omega arith, omega (arith, c .before .pre .0 .0 .peron), rw (row-is (a .f)), turn-first (a .from) (a .f .peron) (row (a .f)), rows-first (a .f) (toZ w64 (ofZ w64 (a .price))) (a .pays) (a .scratch .now) (a .to) (a .from))
-
-raise-row-requires : tie.Need-raise-row-requires Inv-loop μ-loop
-raise-row-requires c κs =
-    let o = c .before .before .before .before in
+    let o = c .before in
     let a = o .args in
-    let l = c .before .before .loop in
-    let t = here (c .before) in (
-      (o .pre .0 .0, rw (plain-fits (o .fits .price)) (o .pre .0 .1), o .pre .0 .2, o .pre .0 .3),
-      (
-        t .apart,
-        omega (arith, t .fits, l .inv .4 .same),
-        small-within (a .scratch .now) (l .scratch) (a .from) (span (a .f)) (l .behind) (row (a .f)) (o .pre .1 .2) (t .source) (t .ends)
-            (λ j h. l .inv .4 .after j (omega (arith, t .later))),
-      ),
+    rw (c .row-cells .ensures) (
+      round-first (row (a .f)) (a .f .peron) (a .f .ons) (a .to) (a .from) (omega (arith, o .pre .0 .peron)),
+      rows-first (a .f) (a .l) (a .scratch .now)
+          (a .to) (a .from),
     )
-
-add-at-2 : tie.Need-add-at-2 Inv-loop μ-loop
-add-at-2 c = let t = here (c .before .before .before) in omega (arith, t .apart, t .fits, row-is (c .before .before .before .before .before .before .args .f))
-
-add-behind : tie.Need-add-behind Inv-loop μ-loop
-add-behind c = let t = here (c .before .before .before) in omega (arith, t .fits, row-is (c .before .before .before .before .before .before .args .f))
-
-add-y : tie.Need-add-y Inv-loop μ-loop
-add-y c = omega (arith, c .before .before .before .loop-test .taken, c .before .before .before .before .before .before .pre .0 .0 .ons)
-
-loop-less : tie.Need-loop-less Inv-loop μ-loop
-loop-less c = omega (arith, c .before .before .before .loop-test .taken)
 
 loop-again : tie.Need-loop-again Inv-loop μ-loop
 loop-again c =
-    let o = c .before .before .before .before .before .before in
+    let turn = c .before .before .before in
+    let at-loop = turn .before .before in
+    let known = at-loop .before in
+    let o = known .before in
     let a = o .args in
-    let l = c .before .before .before .before .loop in
-    let t = here (c .before .before .before) in
-    let e = row-is (a .f) in
-    let new = rw (l .inv .2, l .inv .3) at (c .before .raise-row .ensures) in (
-      omega (arith, l .inv .0),
-      omega (arith, c .before .before .before .loop-test .taken),
-      omega (arith, t .at-next, e),
-      omega (arith, t .behind-next, e),
-      rows-next (a .f) (toZ w64 (ofZ w64 (a .price))) (a .pays) (a .scratch .now) (a .to) (a .from) (l .scratch) (c .before .raise-row .last .0) (l .y) (l .inv .0)
-          (c .before .before .before .loop-test .taken)
-          (o .pre .1 .0)
+    let l = at-loop .loop in (
+      rw (known .row-cells .ensures)
+          (round-next (row (a .f)) (a .f .peron) (a .f .ons) (a .to) (a .from) (l .y) (l .at) (l .behind) (turn .if1 .taken) (l .inv .0)),
+      rows-next (a .f) (a .l) (a .scratch .now) (a .to) (a .from) (l .scratch) (c .before .raise-row .last .0) (l .y) (l .inv .0 .low) (turn .if1 .taken)
+          (o .pre .1)
+          (o .pre .3 .before)
           (c .before .raise-row .kept .0)
-          (l .inv .4)
-          new,
+          (l .inv .1)
+          (rw (known .row-cells .ensures, l .inv .0 .at-is, l .inv .0 .behind-is) at (c .before .raise-row .ensures)),
     )
-
-same-length : tie.Need-same-length Inv-loop μ-loop
-same-length c = c .before .loop .inv .4 .same
 
 returns : tie.Need-returns Inv-loop μ-loop
 returns c =
-    let o = c .before .before .before in
-    let a = o .args in
-    let l = c .before .loop in
-    let e : l .y ≡ a .f .ons + 1 = omega (arith, l .inv .1, c .loop-test .left) in
-    rw (plain-fits (o .fits .price)) at (rows-done (a .f) (toZ w64 (ofZ w64 (a .price))) (a .pays) (a .scratch .now) (a .to) (a .from) (l .scratch) (l .y) e (l .inv .4))
+    let at-loop = c .before .before in
+    let a = at-loop .before .before .args in
+    let l = at-loop .loop in
+    rows-done (a .f) (a .l) (a .scratch .now) (a .to) (a .from) (l .scratch) (l .y) (omega (arith, l .inv .0 .high, c .if1 .left)) (l .inv .1)
 
 pub raise-rows-spec : {M : Type 1} → statement M
 raise-rows-spec =
     tie.close
-    (tie.spec
-    Inv-loop
-    μ-loop
-    add-cells
-    mul-at
-    add-at
-    loop-holds
-    raise-row-requires
-    add-at-2
-    add-behind
-    add-y
-    loop-less
-    loop-again
-    same-length
-    returns)
+    (tie.spec Inv-loop μ-loop (λ c κs. c .pre .0) (λ c. omega (arith, skipped c, c .before .pre .3))
+    (λ c. omega (arith, skipped c, c .before .pre .3)) loop-holds
+    (λ c κs. let known = c .before .before .before .before in rw (known .row-cells .ensures) (known .before .pre .2, here (c .before)))
+    (λ c. let turn = c .before .before .before in omega (arith, here turn, turn .before .before .before .row-cells .ensures))
+    (λ c. let turn = c .before .before .before in omega (arith, here turn, turn .before .before .before .row-cells .ensures))
+    (λ c. let turn = c .before .before .before in omega (arith, turn .if1 .taken, turn .before .before .before .before .pre .0 .ons))
+    (λ c. omega (arith, c .before .before .before .if1 .taken)) loop-again (λ c. c .before .before .loop .inv .1 .same) returns)

@@ -8,7 +8,7 @@ use Rattle.layers.proofs.steps.slope.Tie as tie
 
 margin-requires : tie.Need-margin-requires
 margin-requires c κs =
-    rw (plain-fits (c .fits .price)) (c .pre .1, block-most (c .args .f) (c .pre .0), c .pre .0 .vec, omega arith, omega arith)
+    rw (plain-fits (c .fits .price)) (c .pre .priced, block-most (c .args .f) (c .pre .sound), c .pre .sound .vec, omega arith, omega arith)
 
 returns : tie.Need-returns
 returns c = plain-fits (record { sfits = c .margin .ok }) ∙ (rw (plain-fits (c .before .fits .price)) at (c .margin .ensures))

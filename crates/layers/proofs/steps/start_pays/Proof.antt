@@ -4,9 +4,6 @@ use borrow.Author.Tests.{lt-ltb, le-ltb}
 use Rattle.layers.proofs.steps.start_pays.Statement.{statement}
 use Rattle.layers.proofs.steps.start_pays.Tie as tie
 
-mul-result : tie.Need-mul-result
-mul-result c = search needs
-
 returns : tie.Need-returns
 returns c = simp (lt-ltb _ _ (c .if1 .taken))
 
@@ -14,4 +11,4 @@ returns-2 : tie.Need-returns-2
 returns-2 c = simp (le-ltb _ _ (c .before .if1 .left))
 
 pub start-pays-spec : {M : Type 1} → statement M
-start-pays-spec = tie.close (tie.spec mul-result returns returns-2)
+start-pays-spec = tie.close (tie.spec (λ c. search needs) returns returns-2)

@@ -6,25 +6,23 @@ use lib.Signed.{ltZ}
 use mir.Syntax.{w64}
 use mir.Val.{toZ, ofZ}
 use Rattle.integers.proofs.Ranges.{plain-fits}
-use Rattle.layers.specs.Layers.{heldAt}
-use Rattle.layers.specs.Turns.{offHeld}
+use Rattle.geometry.specs.Layers.{storedAt}
+use Rattle.layers.specs.Turns.{offStored}
 use Rattle.table.specs.Reading.{chosen}
 use Rattle.table.proofs.reading.choose.Statement.{statement}
 use Rattle.table.proofs.reading.choose.Tie as tie
 
 -- the test, of the numbers themselves
-tested : (c : tie.After-off-held) (t : Bool) →
+tested : (c : tie.After-off-stored) (t : Bool) →
     let a = c .before .args in
-    ltZ (toZ w64 (ofZ w64 (c .off-held .result))) (toZ w64 (ofZ w64 (a .best))) ≡ t → ltZ (offHeld (a .f) (heldAt (a .f) (a .scratch .now) (a .at)) (a .c)) (a .best) ≡ t
-tested c t e = rw (plain-fits (record { sfits = c .off-held .ok }), c .off-held .ensures, plain-fits (c .before .fits .best)) at e
-
-off-held-requires : tie.Need-off-held-requires
-off-held-requires c κs = search needs
+    ltZ (toZ w64 (ofZ w64 (c .off-stored .result))) (toZ w64 (ofZ w64 (a .best))) ≡ t → ltZ
+    (offStored (a .f) (storedAt (a .f) (a .scratch .now) (a .at)) (a .c)) (a .best) ≡ t
+tested c t e = rw (plain-fits (record { sfits = c .off-stored .ok }), c .off-stored .ensures, plain-fits (c .before .fits .best)) at e
 
 first-on-requires : tie.Need-first-on-requires
 first-on-requires c κs =
     let o = c .before .before in
-    ((o .pre .0 .0, rw (plain-fits (o .fits .price)) (o .pre .0 .1), o .pre .0 .2), (o .pre .1 .0 .0, o .pre .1 .0 .1, o .pre .1 .1 (tested (c .before) _ (c .if1 .taken))))
+    (rw (plain-fits (o .fits .price)) (o .pre .0 .0), o .pre .0 .1, o .pre .1 (tested (c .before) _ (c .if1 .taken)), o .pre .0 .2)
 
 returns : tie.Need-returns
 unfolding chosen
@@ -37,4 +35,4 @@ unfolding chosen
 returns-2 c = simp (tested (c .before) _ (c .if1 .left))
 
 pub choose-spec : {M : Type 1} → statement M
-choose-spec = tie.close (tie.spec off-held-requires first-on-requires returns returns-2)
+choose-spec = tie.close (tie.spec (λ c κs. search needs) first-on-requires returns returns-2)

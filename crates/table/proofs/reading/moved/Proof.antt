@@ -17,19 +17,10 @@ moves-on : (f : Figures) (c : Cell) (k : ℕ) → (k ≡ 0 → ⊥) → onCell f
 moves-on f c zero h = absurd (h refl)
 moves-on f c (suc k) h = refl
 
-after-off-requires : tie.Need-after-off-requires
-after-off-requires c κs = search needs
-
 returns : tie.Need-returns
 returns c =
     let a = c .before .before .args in
     ap (λ (s : ℕ). cell s (a .c .starts) (a .c .ons) (a .c .blocks)) (c .after-off .ensures) ∙ moves-off (a .f) (a .c) (a .k) (c .before .if1 .taken)
-
-after-on-requires : tie.Need-after-on-requires
-after-on-requires c κs = search needs
-
-start-takes-requires : tie.Need-start-takes-requires
-start-takes-requires c κs = search needs
 
 sub-starts : tie.Need-sub-starts
 sub-starts c =
@@ -45,25 +36,19 @@ mul-t9 c =
     omega (arith, o .pre .1 (c .before .before .before .before .before .before .if1 .left) .2, c .struct-known4 .given)
 
 sub-t10 : tie.Need-sub-t10
-sub-t10 c = let o = c .before .before .before .before .before .before .before .before in omega (arith, o .pre .1 (c .before .before .before .before .before .before .before .if1 .left) .2)
+sub-t10 c =
+    let o = c .before .before .before .before .before .before .before .before in omega
+    (arith, o .pre .1 (c .before .before .before .before .before .before .before .if1 .left) .2)
 
 returns-2 : tie.Need-returns-2
 returns-2 c =
     let o = c .before .before .before .before .before .before .before .before in
     let a = o .args in
-    ap₂ (λ (s t : ℕ). cell s (a .c .starts - t) (a .c .ons - a .f .peron) (a .c .blocks - a .k * a .f .perblock)) (c .before .before .before .before .before .before .after-on .ensures) (c .before .before .before .before .before .start-takes .ensures)
+    ap₂ (λ (s t : ℕ). cell s (a .c .starts - t) (a .c .ons - a .f .peron) (a .c .blocks - a .k * a .f .perblock))
+    (c .before .before .before .before .before .before .after-on .ensures) (c .before .before .before .before .before .start-takes .ensures)
     ∙ moves-on (a .f) (a .c) (a .k) (c .before .before .before .before .before .before .before .if1 .left)
 
 pub moved-spec : {M : Type 1} → statement M
 moved-spec =
     tie.close
-    (tie.spec
-    after-off-requires
-    returns
-    after-on-requires
-    start-takes-requires
-    sub-starts
-    sub-t8
-    mul-t9
-    sub-t10
-    returns-2)
+    (tie.spec (λ c κs. search needs) returns (λ c κs. search needs) (λ c κs. search needs) sub-starts sub-t8 mul-t9 sub-t10 returns-2)

@@ -10,9 +10,9 @@ use lib.ListN.{getD}
 use mir.Syntax.{w64}
 use mir.Val.{toZ, ofZ}
 use Rattle.integers.proofs.Ranges.{Within, within-fits, plain, plain-fits}
-use Rattle.layers.specs.Layers.{swing}
+use Rattle.geometry.specs.Layers.{swing}
 use Rattle.layers.specs.Turns.{net}
-use Rattle.layers.proofs.Holding.{gained-within}
+use Rattle.geometry.proofs.Holding.{gained-within}
 use Rattle.layers.proofs.Turning.{blocks-most, net-small}
 use Rattle.table.proofs.reading.reaches.Statement.{statement}
 use Rattle.table.proofs.reading.reaches.Tie as tie
@@ -27,34 +27,15 @@ reached : (c : tie.After-net) →
 reached c =
     let o = c .before .before .before .before in
     let a = o .args in
-    gained-within (getD (a .scratch .now) (a .row + (a .z - a .k * a .f .perblock)) (pos 0)) (net (a .f) (a .price) (a .pays) (a .k)) (o .pre .1 .1 (a .z - a .k * a .f .perblock) (omega arith))
-    (net-small (a .f) (o .pre .0 .0) (a .price) (o .pre .0 .1) (a .pays) (a .k) (o .pre .0 .2) (o .pre .0 .3))
+    gained-within (getD (a .scratch .now) (a .row + (a .z - a .k * a .f .perblock)) (pos 0)) (net (a .f) (a .price) (a .pays) (a .k))
+    (o .pre .3 .small (a .z - a .k * a .f .perblock) (omega arith))
+    (net-small (a .f) (o .pre .0 .sound) (a .price) (o .pre .0 .priced) (a .pays) (a .k) (o .pre .1) (o .pre .2))
 
 read : (c : tie.After-v) →
     let a = c .before .before .before .args in
-    toZ w64 (ofZ w64 (getD (a .scratch .now) (a .row + (a .z - a .k * a .f .perblock)) (pos 0))) ≡ getD (a .scratch .now) (a .row + (a .z - a .k * a .f .perblock)) (pos 0)
+    toZ w64 (ofZ w64 (getD (a .scratch .now) (a .row + (a .z - a .k * a .f .perblock)) (pos 0))) ≡ getD (a .scratch .now)
+    (a .row + (a .z - a .k * a .f .perblock)) (pos 0)
 read c = plain-fits (record { sfits = c .v .given })
-
-mul-spent : tie.Need-mul-spent
-mul-spent c = let o = c .before in omega (arith, blocks-most (o .args .f) (o .pre .0 .0) (o .args .k) (o .pre .0 .3))
-
-returns : tie.Need-returns
-returns c = simp (lt-leb _ _ (c .if1 .taken))
-
-add-i : tie.Need-add-i
-add-i c = search needs
-
-mul-v : tie.Need-mul-v
-mul-v c = search needs
-
-shared-slice-copy-out-v : tie.Need-shared-slice-copy-out-v
-shared-slice-copy-out-v c = search needs
-
-net-requires : tie.Need-net-requires
-net-requires c κs = search needs
-
-add-v : tie.Need-add-v
-add-v c = rw (read (c .before), brings c) (within-fits (reached c) (lit< tt))
 
 -- the test, of the numbers themselves
 tested : (c : tie.After-net) →
@@ -76,4 +57,8 @@ returns-3 c =
     simp (le-leb _ _ (c .before .before .before .if1 .left), t)
 
 pub reaches-spec : {M : Type 1} → statement M
-reaches-spec = tie.close (tie.spec mul-spent returns add-i mul-v shared-slice-copy-out-v net-requires add-v returns-2 returns-3)
+reaches-spec =
+    tie.close
+    (tie.spec (λ c. let o = c .before in omega (arith, blocks-most (o .args .f) (o .pre .0 .sound) (o .args .k) (o .pre .2)))
+    (λ c. simp (lt-leb _ _ (c .if1 .taken))) (λ c. search needs) (λ c. search needs) (λ c. search needs) (λ c κs. search needs)
+    (λ c. rw (read (c .before), brings c) (within-fits (reached c) (lit< tt))) returns-2 returns-3)

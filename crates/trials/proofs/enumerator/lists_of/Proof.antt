@@ -23,29 +23,11 @@ grown c = one-more _ _ _ (c .before .loop .inv .0) (c .before .before .outputs-o
 small : (i : ℕ) → i < 6 → 512 ^ (i + 1) ≤ 512 ^ 6
 small i h = pow-le-pow-right {n = 512} (omega arith) {i = i + 1} {j = 6} (omega arith)
 
-intervals-of-requires : tie.Need-intervals-of-requires Inv-loop μ-loop
-intervals-of-requires c κs = search needs
-
-outputs-of-requires : tie.Need-outputs-of-requires Inv-loop μ-loop
-outputs-of-requires c κs = search needs
-
-loop-holds : tie.Need-loop-holds Inv-loop μ-loop
-loop-holds c = omega arith
-
 mul-lists : tie.Need-mul-lists Inv-loop μ-loop
 mul-lists c = omega (arith, grown c, small (c .before .loop .i) (omega arith))
 
-add-i : tie.Need-add-i Inv-loop μ-loop
-add-i c = omega arith
-
-loop-less : tie.Need-loop-less Inv-loop μ-loop
-loop-less c = omega arith
-
 loop-again : tie.Need-loop-again Inv-loop μ-loop
 loop-again c = omega (arith, grown c)
-
-returns : tie.Need-returns Inv-loop μ-loop
-returns c = search needs
 
 pub lists-of-spec : {M : Type 1} → statement M
 lists-of-spec =
@@ -53,11 +35,11 @@ lists-of-spec =
     (tie.spec
     Inv-loop
     μ-loop
-    intervals-of-requires
-    outputs-of-requires
-    loop-holds
+    (λ c κs. search needs)
+    (λ c κs. search needs)
+    (λ c. omega arith)
     mul-lists
-    add-i
-    loop-less
+    (λ c. omega arith)
+    (λ c. omega arith)
     loop-again
-    returns)
+    (λ c. search needs))

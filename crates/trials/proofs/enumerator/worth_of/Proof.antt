@@ -21,44 +21,14 @@ tenths c = c .nine-tenths .ensures ∙ ap (λ (x : Cap). x .most * 9 / 10) (c .b
 some : (c : tie.Else2) → let s = c .before .before .before .before .before in WorthOf (capOf (s .args .case) (s .args .which)) Never
 some c = (limited (c .before .before), λ e. c .if2 .left (tenths (c .before) ∙ e))
 
-cap-of-requires : tie.Need-cap-of-requires
-cap-of-requires c κs = search needs
-
 returns : tie.Need-returns
 returns c = sym (ap (λ (x : Cap). x .limited) (c .before .before .cap-of .ensures)) ∙ not-true _ (c .if1 .taken)
-
-nine-tenths-requires : tie.Need-nine-tenths-requires
-nine-tenths-requires c κs = search needs
 
 returns-2 : tie.Need-returns-2
 returns-2 c = (limited (c .before .before), sym (tenths (c .before)) ∙ c .if2 .taken)
 
-with-figure-requires : tie.Need-with-figure-requires
-with-figure-requires c κs = search needs
-
-best-of-requires : tie.Need-best-of-requires
-best-of-requires c κs = search needs
-
-sub-with-figure : tie.Need-sub-with-figure
-sub-with-figure c = search needs
-
-with-figure-requires-2 : tie.Need-with-figure-requires-2
-with-figure-requires-2 c κs = search needs
-
-best-of-requires-2 : tie.Need-best-of-requires-2
-best-of-requires-2 c κs = search needs
-
 returns-3 : tie.Need-returns-3
 returns-3 c = some (c .before .before .before .before .before .before)
-
-add-difference : tie.Need-add-difference
-add-difference c = search needs
-
-add-difference-2 : tie.Need-add-difference-2
-add-difference-2 c = search needs
-
-difference-requires : tie.Need-difference-requires
-difference-requires c κs = search needs
 
 returns-4 : tie.Need-returns-4
 returns-4 c = some (c .before .before .before .before .before .before .before .before .before .before .before)
@@ -67,17 +37,17 @@ pub worth-of-spec : {M : Type 1} → statement M
 worth-of-spec =
     tie.close
     (tie.spec
-    cap-of-requires
+    (λ c κs. search needs)
     returns
-    nine-tenths-requires
+    (λ c κs. search needs)
     returns-2
-    with-figure-requires
-    best-of-requires
-    sub-with-figure
-    with-figure-requires-2
-    best-of-requires-2
+    (λ c κs. search needs)
+    (λ c κs. search needs)
+    (λ c. search needs)
+    (λ c κs. search needs)
+    (λ c κs. search needs)
     returns-3
-    add-difference
-    add-difference-2
-    difference-requires
+    (λ c. search needs)
+    (λ c. search needs)
+    (λ c κs. search needs)
     returns-4)

@@ -1,0 +1,48 @@
+-- The ends of the ranges of the specification, each by its name.
+use Prim.Native.Nat.{ℕ}
+
+-- ---- the unit: MW in a block and at the highest output, outputs in blocks, mot and mdt
+
+abbrev pub mostMw : ℕ
+mostMw = 500
+
+abbrev pub mostBlocks : ℕ
+mostBlocks = 500
+
+abbrev pub mostTime : ℕ
+mostTime = 96
+
+-- ---- the opening state
+
+abbrev pub mostHeld : ℕ
+mostHeld = 9999
+
+-- ---- the costs
+
+abbrev pub mostVec : ℕ
+mostVec = 2000000
+
+abbrev pub mostMlc : ℕ
+mostMlc = 1000000000
+
+abbrev pub mostSuc : ℕ
+mostSuc = 4000000000
+
+-- ---- the limitations
+
+abbrev pub mostStarts : ℕ
+mostStarts = 2976
+
+abbrev pub mostHours : ℕ
+mostHours = 744
+
+abbrev pub mostMwh : ℕ
+mostMwh = 372000
+
+-- ---- the prices: above 0 and below it, and how many
+
+abbrev pub mostPrice : ℕ
+mostPrice = 200000
+
+abbrev pub mostIntervals : ℕ
+mostIntervals = 2976

@@ -1,0 +1,21 @@
+-- The places of the cells in a layer: by the state, then the starts left, then the on-intervals left, then the blocks left.
+use Prim.Native.Nat.{ℕ, _+_, _*_}
+use Rattle.optimality.specs.declared.Figures.{Figures}
+use Rattle.optimality.specs.declared.Cell.{Cell}
+use Rattle.optimality.specs.Cells.{states}
+
+-- the cells of one row (all blocks left), of one span (all on-intervals left), of one section (one state, all starts left), of one layer
+unfoldable pub row : Figures → ℕ
+row f = f .blocks + 1
+
+unfoldable pub span : Figures → ℕ
+span f = (f .ons + 1) * row f
+
+unfoldable pub section : Figures → ℕ
+section f = (f .starts + 1) * span f
+
+unfoldable pub width : Figures → ℕ
+width f = states f * section f
+
+unfoldable pub index : Figures → Cell → ℕ
+index f c = c .state * section f + (c .starts * span f + (c .ons * row f + c .blocks))

@@ -1,5 +1,0 @@
-pub mod Alike
-pub mod Ends
-pub mod Digits
-pub mod Cuts
-pub mod Walks

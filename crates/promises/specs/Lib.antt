@@ -1,0 +1,6 @@
+-- Causes: when each cause holds of a call's inputs, and the order in which a call gives them. Outcomes: that of a limitation. Tables: a text as a writer
+-- of two tables makes it. Sequences: names in some sequence.
+pub mod Causes
+pub mod Outcomes
+pub mod Tables
+pub mod Sequences
