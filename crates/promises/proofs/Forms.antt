@@ -195,7 +195,7 @@ tables-of text e =
           ∙ ap (λ (third : List ℕ). closing (unitHead text ∷ unitRow text ∷ third ∷ priceHead text ∷ priceRows text)) (f .third-empty)
           ∙ sym (ap₂ (λ (a b : List ℕ). closing (a ∷ b ∷ [] ∷ joined (fieldsOf (priceHead text)) ∷ map joined (map fieldsOf (priceRows text)))) (joined-back (unitHead text)) (joined-back (unitRow text))
           ∙ ap₂ (λ (a : List ℕ) (rest : List (List ℕ)). closing (unitHead text ∷ unitRow text ∷ [] ∷ a ∷ rest)) (joined-back (priceHead text)) (rows-back (priceRows text)));
-      short = f .short;
+      short = omega (arith, f .short);
     }
 
 -- ---- from the tables to the form
