@@ -10,6 +10,7 @@ use Rattle.commitment.specs.declared.UnitRecord.{UnitRecord}
 use Rattle.commitment.specs.Cells.{cellsNeeded}
 use Rattle.commitment.specs.Ranges.{InOrder, Priced}
 use Rattle.optimality.specs.declared.Cell.{Cell}
+use Rattle.optimality.specs.declared.Figures.{Figures}
 use Rattle.optimality.specs.Machine.{anywhere}
 use Rattle.optimality.specs.Cells.{figuresOf, InTable, valueAt}
 use Rattle.geometry.specs.Geometry.{width}
@@ -30,6 +31,10 @@ pub record Told (u : UnitRecord) (prices cells : List ℤ) : Type 0 where
   pub first : (c : Cell) → InTable (figuresOf u (length prices)) c
       → told (inFront (figuresOf u (length prices)) cells c) ≡ valueAt (figuresOf u (length prices)) anywhere prices c
   pub small : (c : Cell) → InTable (figuresOf u (length prices)) c → natAbs (amount (valueAt (figuresOf u (length prices)) anywhere prices c)) < mostAmount
+
+-- to one who has the figures of the case
+abbrev pub ToldBy : Figures → UnitRecord → List ℤ → List ℤ → Type 0
+ToldBy f u prices cells = Told u prices cells × (f ≡ figuresOf u (length prices))
 
 -- the same with the whole table filled
 pub record Worked (u : UnitRecord) (prices cells : List ℤ) : Type 0 where

@@ -11,17 +11,15 @@ use optimality::Figures;
 ghost use mathlib.Core.Path.{_≡_};
 ghost use Prim.Native.Nat.{_<_};
 ghost use lib.IntN.{natAbs};
-ghost use lib.ListN.{length};
 ghost use Rattle.commitment.specs.declared.Limit.the-variants.{At};
 ghost use Rattle.commitment.specs.Best.{best, profitOf};
 ghost use Rattle.commitment.specs.Limits.{limitFor, limited};
 ghost use Rattle.commitment.specs.Valuing.{runAt, gapBetween, gapAt, outcomeOf, outcomesOf};
-ghost use Rattle.optimality.specs.Cells.{figuresOf};
 ghost use Rattle.optimality.specs.Runs.{AtMost, Under};
-ghost use Rattle.planner.specs.Tables.{Told, amount, mostAmount};
+ghost use Rattle.planner.specs.Tables.{ToldBy, amount, mostAmount};
 
 pub fn outcomes_in(unit: UnitRecord, f: Figures, prices: &[i64], cells: &[i64]) -> Outcomes
-    requires { ⌜ (Told unit (now prices) (now cells)) × (f ≡ figuresOf unit (length (now prices))) ⌝ }
+    requires { ⌜ ToldBy f unit (now prices) (now cells) ⌝ }
     ensures { λ r. ⌜ r ≡ outcomesOf unit (now (prices .entry)) ⌝ }
 {
     let starts = outcome_in(unit, f, prices, cells, Limitation::Starts);
@@ -37,7 +35,7 @@ fn outcome_in(
     cells: &[i64],
     which: Limitation,
 ) -> Outcome
-    requires { ⌜ (Told unit (now prices) (now cells)) × (f ≡ figuresOf unit (length (now prices))) ⌝ }
+    requires { ⌜ ToldBy f unit (now prices) (now cells) ⌝ }
     ensures { λ r. ⌜ r ≡ outcomeOf unit (now (prices .entry)) which ⌝ }
 {
     let limits = unit.limits;
@@ -57,7 +55,7 @@ fn run_pair(
     which: Limitation,
     figure: u64,
 ) -> Outcome
-    requires { ⌜ (Told unit (now prices) (now cells)) × (f ≡ figuresOf unit (length (now prices))) ⌝ }
+    requires { ⌜ ToldBy f unit (now prices) (now cells) ⌝ }
     requires { ⌜ AtMost (At figure) (limitFor (unit .limits) which) ⌝ }
     ensures { λ r. ⌜ r ≡ gapAt (λ k. profitOf (best (runAt unit which k) (now (prices .entry)))) figure ⌝ }
 {
@@ -78,7 +76,7 @@ fn run_profit(
     which: Limitation,
     figure: u64,
 ) -> BestProfit
-    requires { ⌜ (Told unit (now prices) (now cells)) × (f ≡ figuresOf unit (length (now prices))) ⌝ }
+    requires { ⌜ ToldBy f unit (now prices) (now cells) ⌝ }
     requires { ⌜ AtMost (At figure) (limitFor (unit .limits) which) ⌝ }
     ensures { λ r. ⌜ r ≡ profitOf (best (runAt unit which figure) (now (prices .entry))) ⌝ }
 {
@@ -89,7 +87,7 @@ fn run_profit(
 
 // The best profit of the case itself.
 pub fn whole_profit(unit: UnitRecord, f: Figures, prices: &[i64], cells: &[i64]) -> BestProfit
-    requires { ⌜ (Told unit (now prices) (now cells)) × (f ≡ figuresOf unit (length (now prices))) ⌝ }
+    requires { ⌜ ToldBy f unit (now prices) (now cells) ⌝ }
     ensures { λ r. ⌜ r ≡ profitOf (best unit (now (prices .entry))) ⌝ }
 {
     let limits = unit.limits;
@@ -104,7 +102,7 @@ fn profit_under(
     prices: &[i64],
     cells: &[i64],
 ) -> BestProfit
-    requires { ⌜ (Told unit (now prices) (now cells)) × (f ≡ figuresOf unit (length (now prices))) ⌝ }
+    requires { ⌜ ToldBy f unit (now prices) (now cells) ⌝ }
     requires { ⌜ Under limits (unit .limits) ⌝ }
     ensures { λ r. ⌜ r ≡ profitOf (best (limited unit limits) (now (prices .entry))) ⌝ }
 {

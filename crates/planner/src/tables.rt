@@ -20,7 +20,7 @@ ghost use Rattle.optimality.specs.Cells.{figuresOf};
 ghost use Rattle.geometry.specs.Geometry.{width};
 ghost use Rattle.planner.specs.Planning.{lentChecked, scheduleChecked, scheduleAfter, scratchAfter};
 ghost use Rattle.planner.specs.Reporting.{reportedBy};
-ghost use Rattle.planner.specs.Tables.{Told, Worked};
+ghost use Rattle.planner.specs.Tables.{ToldBy, Worked};
 ghost use Rattle.planner.specs.Valuing.{valuedBy};
 
 pub fn report_case(
@@ -87,7 +87,7 @@ fn read_report(
 }
 
 fn read_outcomes(unit: UnitRecord, f: Figures, prices: &[i64], cells: &[i64]) -> Valued
-    requires { ⌜ (Told unit (now prices) (now cells)) × (f ≡ figuresOf unit (length (now prices))) ⌝ }
+    requires { ⌜ ToldBy f unit (now prices) (now cells) ⌝ }
     ensures { λ r. ⌜ r ≡ valuedBy (scheduleChecked unit (now (prices .entry))) (outcomesOf unit (now (prices .entry))) ⌝ }
 {
     match runs::whole_profit(unit, f, prices, cells) {
