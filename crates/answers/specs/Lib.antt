@@ -1,3 +1,3 @@
--- What is printed for the text of a case, and what becomes of the slices lent.
-pub mod Printing
-pub mod Slices
+-- What is answered and printed for the text of a case, what becomes of the slices lent, and what the program lends.
+pub mod Answering
+pub mod Sizes

@@ -1,52 +1,139 @@
 // From the text of a case to the bytes that are printed for it: read, planned and valued over lent slices, and listed into a lent buffer.
 
-use casefile::CaseRead;
 use commitment::Cause;
+use commitment::Checked;
 use commitment::UnitRecord;
-use listing::Written;
 use planner::Reported;
 ghost use mathlib.Core.Path.{_≡_};
+ghost use Prim.Native.Nat.{_≤_};
 ghost use lib.ListN.{length};
+ghost use Rattle.commitment.specs.Bounds.{mostIntervals};
+ghost use Rattle.commitment.specs.declared.Checked.the-variants.{Passed};
 ghost use Rattle.commitment.specs.Causes.{numberOf};
-ghost use Rattle.casefile.specs.Answers.{readCase, readPrices};
-ghost use Rattle.casefile.specs.Reading.{pricesIn};
-ghost use Rattle.listing.specs.Listing.{refusal, fitted, writtenBy, bufferAfter};
-ghost use Rattle.planner.specs.Planning as planning;
-ghost use Rattle.answers.specs.Printing.{casePrinted, printed};
-ghost use Rattle.answers.specs.Slices.{scheduleAnswered, scratchAnswered};
+ghost use Rattle.commitment.specs.Cells.{cellsNeeded};
+ghost use Rattle.casefile.specs.Answers.{pricesLeft};
+ghost use Rattle.casefile.specs.Reading.{unitIn, pricesIn};
+ghost use Rattle.listing.specs.Listing.{refusal, bufferAfter};
+ghost use Rattle.planner.specs.Planning.{planChecked, scheduleLeft, scratchLeft, scratchAfter};
+ghost use Rattle.answers.specs.Answering.{lengths, mostPrinted, lentFound, answeredIn, answeredFor, printedFor, answered, printed, pricesAfter, scheduleAnswered, scratchAnswered};
+ghost use Rattle.answers.specs.Sizes.{programLends};
 
-// What is printed for a text, into the front of `out`; or 7, and `out` is as it was. A text that is refused leaves every slice but `out`.
+// What the program lends. specs/Sizes.antt has the same.
+pub const TEXT_ROOM: usize = 12289;
+
+pub const OUT_ROOM: usize = 26920;
+
+const PRICE_ROOM: usize = 6144;
+
+const CELL_ROOM: usize = 4000;
+
+// 0 or the number of the cause, and how many bytes were written to the front of the buffer.
+pub struct Answered {
+    pub number: u64,
+    pub bytes: usize,
+}
+
+// The lengths of the slices lent.
+pub struct Lent {
+    pub prices: usize,
+    pub cells: usize,
+    pub entries: usize,
+    pub bytes: usize,
+}
+
+// What is printed for a text, from slices of the program's sizes.
+pub fn answer(text: &[u8], out: &mut [u8]) -> Answered
+    ensures { λ r. ⌜ r ≡ answered (now (text .entry)) (programLends (length (now (out .entry)))) ⌝ }
+    ensures { λ _. ⌜ now (out .exit) ≡ bufferAfter (printed (now (text .entry)) (programLends (length (now (out .entry))))) (now (out .entry)) ⌝ }
+{
+    let mut prices = [0i64; PRICE_ROOM];
+    let mut scratch = [0i64; CELL_ROOM];
+    let mut schedule = [0u64; PRICE_ROOM];
+    answer_into(text, &mut prices, &mut scratch, &mut schedule, out)
+}
+
+// What is printed for a text, into the front of `out`. What is too short is found before anything is written; then only the line of the
+// refusal is, where it fits.
 pub fn answer_into(
     text: &[u8],
     prices: &mut [i64],
     scratch: &mut [i64],
     schedule: &mut [u64],
     out: &mut [u8],
-) -> Written
-    ensures { λ r. ⌜ r ≡ writtenBy (fitted (length (printed (now (text .entry)) (length (now (prices .entry))) (length (now (scratch .entry))) (length (now (schedule .entry))))) (length (now (out .entry)))) ⌝ }
-    ensures { λ _. ⌜ now (out .exit) ≡ bufferAfter (printed (now (text .entry)) (length (now (prices .entry))) (length (now (scratch .entry))) (length (now (schedule .entry)))) (now (out .entry)) ⌝ }
-    ensures { λ _. ⌜ now (prices .exit) ≡ readPrices (now (text .entry)) (now (prices .entry)) ⌝ }
-    ensures { λ _. ⌜ now (schedule .exit) ≡ scheduleAnswered (readCase (now (text .entry)) (length (now (prices .entry)))) (pricesIn (now (text .entry))) (length (now (scratch .entry))) (now (schedule .entry)) ⌝ }
-    ensures { λ _. ⌜ now (scratch .exit) ≡ scratchAnswered (readCase (now (text .entry)) (length (now (prices .entry)))) (pricesIn (now (text .entry))) (length (now (schedule .entry))) (now (scratch .entry)) ⌝ }
+) -> Answered
+    ensures { λ r. ⌜ r ≡ answered (now (text .entry)) (lengths (now (prices .entry)) (now (scratch .entry)) (now (schedule .entry)) (now (out .entry))) ⌝ }
+    ensures { λ _. ⌜ now (out .exit) ≡ bufferAfter (printed (now (text .entry)) (lengths (now (prices .entry)) (now (scratch .entry)) (now (schedule .entry)) (now (out .entry)))) (now (out .entry)) ⌝ }
+    ensures { λ _. ⌜ now (prices .exit) ≡ pricesAfter (now (text .entry)) (lengths (now (prices .entry)) (now (scratch .entry)) (now (schedule .entry)) (now (out .entry))) (now (prices .entry)) ⌝ }
+    ensures { λ _. ⌜ now (schedule .exit) ≡ scheduleAnswered (now (text .entry)) (lengths (now (prices .entry)) (now (scratch .entry)) (now (schedule .entry)) (now (out .entry))) (now (schedule .entry)) ⌝ }
+    ensures { λ _. ⌜ now (scratch .exit) ≡ scratchAnswered (now (text .entry)) (lengths (now (prices .entry)) (now (scratch .entry)) (now (schedule .entry)) (now (out .entry))) (now (scratch .entry)) ⌝ }
 {
-    match casefile::read_into(text, &mut *prices) {
-        CaseRead::Refused(cause) => refuse(cause, out),
-        CaseRead::Case { unit, count } => report(unit, &prices[..count], scratch, schedule, out),
+    let lent = Lent {
+        prices: prices.len(),
+        cells: scratch.len(),
+        entries: schedule.len(),
+        bytes: out.len(),
+    };
+    match check(text, lent) {
+        Checked::Refused(cause) => refuse(cause, out),
+        Checked::Passed => report(text, prices, scratch, schedule, out),
     }
 }
 
-// The listing of a case's best plan, or its refusal.
+// The causes of the text, then 7 and 8.
+fn check(text: &[u8], lent: Lent) -> Checked
+    ensures { λ r. ⌜ r ≡ lentFound (now (text .entry)) lent ⌝ }
+{
+    match casefile::check_text(text, lent.prices) {
+        Checked::Refused(cause) => Checked::Refused(cause),
+        Checked::Passed => {
+            let unit = casefile::fields::unit_in(text);
+            let count = casefile::pricing::prices_counted(text);
+            let long = (count <= lent.entries) & (most_printed(count) <= lent.bytes);
+            planner::checks::check_slices(unit, count, long, lent.cells)
+        }
+    }
+}
+
+fn most_printed(intervals: usize) -> usize
+    requires { ⌜ intervals ≤ mostIntervals ⌝ }
+    ensures { λ r. ⌜ r ≡ mostPrinted intervals ⌝ }
+{
+    9 * intervals + 136
+}
+
+// A case that passed its checks: read, planned, valued and listed; or 9.
 fn report(
+    text: &[u8],
+    prices: &mut [i64],
+    scratch: &mut [i64],
+    schedule: &mut [u64],
+    out: &mut [u8],
+) -> Answered
+    requires { ⌜ lentFound (now text) (lengths (now prices) (now scratch) (now schedule) (now out)) ≡ Passed ⌝ }
+    ensures { λ r. ⌜ r ≡ answered (now (text .entry)) (lengths (now (prices .entry)) (now (scratch .entry)) (now (schedule .entry)) (now (out .entry))) ⌝ }
+    ensures { λ _. ⌜ now (out .exit) ≡ bufferAfter (printed (now (text .entry)) (lengths (now (prices .entry)) (now (scratch .entry)) (now (schedule .entry)) (now (out .entry)))) (now (out .entry)) ⌝ }
+    ensures { λ _. ⌜ now (prices .exit) ≡ pricesLeft Passed (pricesIn (now (text .entry))) (now (prices .entry)) ⌝ }
+    ensures { λ _. ⌜ now (schedule .exit) ≡ scheduleAnswered (now (text .entry)) (lengths (now (prices .entry)) (now (scratch .entry)) (now (schedule .entry)) (now (out .entry))) (now (schedule .entry)) ⌝ }
+    ensures { λ _. ⌜ now (scratch .exit) ≡ scratchAfter Passed (cellsNeeded (unitIn (now (text .entry))) (length (pricesIn (now (text .entry))))) (now (scratch .entry)) ⌝ }
+{
+    let unit = casefile::fields::unit_in(text);
+    let count = casefile::pricing::prices_counted(text);
+    casefile::pricing::store(text, &mut *prices);
+    report_case(unit, &prices[..count], scratch, schedule, out)
+}
+
+// The listing of a case's best plan, or its refusal.
+fn report_case(
     unit: UnitRecord,
     prices: &[i64],
     scratch: &mut [i64],
     schedule: &mut [u64],
     out: &mut [u8],
-) -> Written
-    ensures { λ r. ⌜ r ≡ writtenBy (fitted (length (casePrinted unit (now (prices .entry)) (length (now (scratch .entry))) (length (now (schedule .entry))))) (length (now (out .entry)))) ⌝ }
-    ensures { λ _. ⌜ now (out .exit) ≡ bufferAfter (casePrinted unit (now (prices .entry)) (length (now (scratch .entry))) (length (now (schedule .entry)))) (now (out .entry)) ⌝ }
-    ensures { λ _. ⌜ now (schedule .exit) ≡ planning.scheduleLeft unit (now (prices .entry)) (length (now (scratch .entry))) (now (schedule .entry)) ⌝ }
-    ensures { λ _. ⌜ now (scratch .exit) ≡ planning.scratchLeft unit (now (prices .entry)) (length (now (schedule .entry))) (now (scratch .entry)) ⌝ }
+) -> Answered
+    ensures { λ r. ⌜ r ≡ answeredFor (planChecked unit (now (prices .entry)) (length (now (scratch .entry))) (length (now (schedule .entry)))) unit (now (prices .entry)) (length (now (out .entry))) ⌝ }
+    ensures { λ _. ⌜ now (out .exit) ≡ bufferAfter (printedFor (planChecked unit (now (prices .entry)) (length (now (scratch .entry))) (length (now (schedule .entry)))) unit (now (prices .entry))) (now (out .entry)) ⌝ }
+    ensures { λ _. ⌜ now (schedule .exit) ≡ scheduleLeft unit (now (prices .entry)) (length (now (scratch .entry))) (now (schedule .entry)) ⌝ }
+    ensures { λ _. ⌜ now (scratch .exit) ≡ scratchLeft unit (now (prices .entry)) (length (now (schedule .entry))) (now (scratch .entry)) ⌝ }
 {
     match planner::report_into(unit, prices, scratch, &mut *schedule) {
         Reported::Refused(cause) => refuse(cause, out),
@@ -54,16 +141,24 @@ fn report(
             let count = report.count;
             let profit = report.profit;
             let outcomes = report.outcomes;
-            listing::write_listing(&schedule[..count], profit, outcomes, out)
+            let written = listing::write_listing(&schedule[..count], profit, outcomes, out);
+            Answered {
+                number: 0,
+                bytes: listing::bytes_in(written),
+            }
         }
     }
 }
 
-// The line of a refusal.
-fn refuse(cause: Cause, out: &mut [u8]) -> Written
-    ensures { λ r. ⌜ r ≡ writtenBy (fitted (length (refusal (numberOf cause))) (length (now (out .entry)))) ⌝ }
+// The line of a refusal; where it does not fit, the number alone.
+fn refuse(cause: Cause, out: &mut [u8]) -> Answered
+    ensures { λ r. ⌜ r ≡ answeredIn (numberOf cause) (refusal (numberOf cause)) (length (now (out .entry))) ⌝ }
     ensures { λ _. ⌜ now (out .exit) ≡ bufferAfter (refusal (numberOf cause)) (now (out .entry)) ⌝ }
 {
     let number = commitment::number_of(cause);
-    listing::write_refusal(number, out)
+    let written = listing::write_refusal(number, out);
+    Answered {
+        number,
+        bytes: listing::bytes_in(written),
+    }
 }

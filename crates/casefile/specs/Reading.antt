@@ -81,15 +81,20 @@ pricesIn text = map (priceOf (priceHead text)) (priceRows text)
 
 -- ---- the causes: 1, 2, those of the case, then 7 where the prices do not fit
 
-abbrev pub valuesChecks : List ℕ → ℕ → List Check
-valuesChecks text room =
-    caseChecks (unitIn text) (pricesKept (pricesIn text)) (length (pricesIn text)) ++ (leb (length (pricesIn text)) room else Length) ∷ []
+abbrev pub caseInChecks : List ℕ → List Check
+caseInChecks text = caseChecks (unitIn text) (pricesKept (pricesIn text)) (length (pricesIn text))
+
+abbrev pub writtenChecks : List ℕ → List Check
+writtenChecks text = (formKept text else Form) ∷ (namesKept text else Name) ∷ caseInChecks text
+
+abbrev pub roomChecks : List ℕ → ℕ → List Check
+roomChecks text room = (leb (length (pricesIn text)) room else Length) ∷ []
 
 abbrev pub textChecks : List ℕ → ℕ → List Check
-textChecks text room = (formKept text else Form) ∷ (namesKept text else Name) ∷ valuesChecks text room
+textChecks text room = writtenChecks text ++ roomChecks text room
 
 unfoldable pub valuesChecked : List ℕ → ℕ → Checked
-valuesChecked text room = firstOf (valuesChecks text room)
+valuesChecked text room = firstOf (caseInChecks text ++ roomChecks text room)
 
 unfoldable pub textChecked : List ℕ → ℕ → Checked
 textChecked text room = firstOf (textChecks text room)

@@ -56,7 +56,8 @@ fn taken(text: &[u8], prices: &mut [i64]) -> CaseRead
     CaseRead::Case { unit, count }
 }
 
-fn check_text(text: &[u8], room: usize) -> Checked
+// What is found of a text before anything is written.
+pub fn check_text(text: &[u8], room: usize) -> Checked
     ensures { λ r. ⌜ r ≡ textChecked (now (text .entry)) room ⌝ }
 {
     if !casetext::form::form_kept(text) {
@@ -145,5 +146,5 @@ fn no_unit() -> UnitRecord
     }
 }
 
-mod fields;
-mod pricing;
+pub mod fields;
+pub mod pricing;

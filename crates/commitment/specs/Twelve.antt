@@ -39,25 +39,25 @@ c1-but mot was held starts hours mwh =
 abbrev pub c1 : UnitRecord
 c1 = c1-but 2 0 2 (At 2) (At 2) limit.None
 
-abbrev c2 : UnitRecord
+abbrev pub c2 : UnitRecord
 c2 = c1-but 2 0 2 (At 2) (At 2) (At 10)
 
-abbrev c4 : UnitRecord
+abbrev pub c4 : UnitRecord
 c4 = c1-but 2 0 1 (At 2) (At 2) limit.None
 
-abbrev c5 : UnitRecord
+abbrev pub c5 : UnitRecord
 c5 = c1-but 2 1 2 (At 2) (At 2) limit.None
 
-abbrev c6 : UnitRecord
+abbrev pub c6 : UnitRecord
 c6 = c1-but 2 1 1 (At 2) (At 0) limit.None
 
-abbrev c7 : UnitRecord
+abbrev pub c7 : UnitRecord
 c7 = c1-but 6 1 1 (At 2) (At 3) limit.None
 
-abbrev c8 : UnitRecord
+abbrev pub c8 : UnitRecord
 c8 = c1-but 2 0 2 (At 2) (At 1) limit.None
 
-abbrev c9 : UnitRecord
+abbrev pub c9 : UnitRecord
 c9 = c1-but 2 0 2 (At 0) (At 2) limit.None
 
 -- the unit of C10 but for om, gmc, allowance, rate, fuel, aux and minutes; its one segment stands beside it
@@ -100,13 +100,18 @@ abbrev profitBefore : Plan → List Value → List Value
 profitBefore nothing rest = number (numberOf NoSchedule) ∷ rest
 profitBefore (plan s p) rest = profit p ∷ rest
 
+-- 0 where there is a plan
+abbrev numberBefore : Plan → List Value → List Value
+numberBefore nothing rest = number (numberOf NoSchedule) ∷ rest
+numberBefore (plan s p) rest = number 0 ∷ rest
+
 -- how many schedules earn at least so much
 abbrev reaching : ℤ → List Plan → ℕ
 reaching p [] = 0
 reaching p (nothing ∷ rest) = reaching p rest
 reaching p (plan s q ∷ rest) = cond (leZ p q) 1 0 + reaching p rest
 
-abbrev tiesOf : UnitRecord → List ℤ → ℕ
+abbrev pub tiesOf : UnitRecord → List ℤ → ℕ
 tiesOf u prices = among (best u prices)
   where
     among : Plan → ℕ
@@ -135,9 +140,9 @@ table =
     ∷ row (planBefore (best c4 (pos 9000 ∷ [])) []) (schedule (0 ∷ []) ∷ profit (pos 0) ∷ [])
     -- C5: three schedules tie
     ∷ row (planBefore (best c5 (pos 3000 ∷ [])) (ties (tiesOf c5 (pos 3000 ∷ [])) ∷ [])) (schedule (0 ∷ []) ∷ profit (pos 0) ∷ ties 3 ∷ [])
-    -- C6: no schedule; C7: none with an hour less
+    -- C6: no schedule; C7: one, but none with an hour less
     ∷ row (planBefore (best c6 c1-prices) []) (number 9 ∷ [])
-    ∷ row (outcome (outcomeOf c7 c1-prices Hours) ∷ []) (outcome Never ∷ [])
+    ∷ row (numberBefore (best c7 c1-prices) (outcome (outcomeOf c7 c1-prices Hours) ∷ [])) (number 0 ∷ outcome Never ∷ [])
     -- C8, C9: nine tenths round to 0
     ∷ row (profitBefore (best c8 c1-prices) (outcome (outcomeOf c8 c1-prices Hours) ∷ [])) (profit (pos 320000) ∷ outcome Empty ∷ [])
     ∷ row (planBefore (best c9 c1-prices) (outcome (outcomeOf c9 c1-prices Starts) ∷ []))
@@ -148,6 +153,10 @@ table =
     ∷ row (cents (sucOf (c10-but 0 50 0 0 100 2 30)) ∷ []) (cents 66875 ∷ [])
     ∷ []
 
--- the definitions give what the specification says of all twelve
-pub twelve : map (λ (r : Row). r .computed) table ≡ map (λ (r : Row). r .given) table
+-- what the specification says of all twelve
+abbrev pub saidOfTwelve : List (List Value)
+saidOfTwelve = map (λ (r : Row). r .given) table
+
+-- the definitions give it; that the calls answer it stands in `promises`
+pub twelve : map (λ (r : Row). r .computed) table ≡ saidOfTwelve
 twelve = refl

@@ -51,6 +51,15 @@ length-small n h = ap length (number-small n h)
 pub length-large : (n : ℕ) → 10 ≤ n → n < 2 ^ 64 → length (number n) ≡ length (number (n / 10)) + 1
 length-large n h k = ap length (number-large n h k) ∙ simp length-append
 
+-- a number below a power of ten has no more digits
+pub number-digits : (k n : ℕ) → n < 10 ^ suc k → n < 2 ^ 64 → length (number n) ≤ suc k
+number-digits zero n h small = omega (arith, length-small n (omega (arith, h)))
+number-digits (suc k) n h small = go (ltb n 10) refl (number-digits k (n / 10) (omega (arith, h, pow-suc 10 (suc k))) (omega (arith, small)))
+  where
+    go : (t : Bool) → ltb n 10 ≡ t → length (number (n / 10)) ≤ suc k → length (number n) ≤ suc (suc k)
+    go true e i = omega (arith, length-small n (ltb-true n 10 e))
+    go false e i = omega (arith, i, length-large n (ltb-false n 10 e) small)
+
 decimal-short : (k n : ℕ) → length (decimal k n) ≤ k
 unfolding decimal
 decimal-short zero n = omega arith

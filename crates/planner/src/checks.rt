@@ -19,7 +19,8 @@ pub fn check_lent(unit: UnitRecord, prices: &[i64], long: bool, scratch: usize) 
     }
 }
 
-fn check_slices(unit: UnitRecord, n: usize, long: bool, scratch: usize) -> Checked
+// 7 and 8.
+pub fn check_slices(unit: UnitRecord, n: usize, long: bool, scratch: usize) -> Checked
     requires { ⌜ InOrder unit n ⌝ }
     ensures { λ r. ⌜ r ≡ firstOf (slicesChecks unit n long scratch) ⌝ }
 {

@@ -2,7 +2,7 @@
 // found before any work (checks), the table filled, read and cleared (tables), the runs of valuing (runs).
 
 pub mod answers;
-mod checks;
+pub mod checks;
 mod runs;
 mod tables;
 

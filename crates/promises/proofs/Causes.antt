@@ -1,7 +1,7 @@
 -- A number is given exactly where its cause is the first of the call's order that holds, and an answer exactly where none holds.
 use mathlib.Core.Path.{_≡_, refl, sym, ap, _∙_}
 use mathlib.Core.Bool.{Bool, true, false, _&&_}
-use mathlib.Core.List.{List, [], _∷_, map}
+use mathlib.Core.List.{List, [], _∷_, _++_, map}
 use mathlib.Core.Logic.{_↔_, _⊎_, inl, inr, ⊎-elim, Iff·rfl, Iff·trans}
 use Prim.Native.Nat.{ℕ, _<_}
 use native.Mathlib.Omega.{arith}
@@ -24,7 +24,7 @@ use Rattle.commitment.specs.Figures.{totalMw}
 use Rattle.commitment.specs.Profit.{profit}
 use Rattle.commitment.specs.Ranges.{rangesKept, shapeKept, pricesKept}
 use Rattle.commitment.specs.Valuing.{outcomesOf}
-use Rattle.commitment.proofs.Causes.{unless-passed, then-passed}
+use Rattle.commitment.proofs.Causes.{in-turn, unless-passed, then-passed}
 use Rattle.optimality.proofs.Optimal.{no-schedule-exactly}
 use Rattle.casefile.specs.declared.CaseRead.the-variants as read
 use Rattle.casefile.specs.Answers.{readBy, readCase}
@@ -38,11 +38,13 @@ use Rattle.planner.specs.declared.Planned.the-variants as plans
 use Rattle.planner.specs.declared.Report.{Report}
 use Rattle.planner.specs.declared.Reported.the-variants as reports
 use Rattle.planner.specs.declared.Valued.the-variants as values
-use Rattle.planner.specs.Planning.{hasSchedule, scheduleChecked, planChecks, planChecked, lentChecked, plannedBy, planned}
+use Rattle.planner.specs.Planning.{hasSchedule, scheduleChecks, scheduleChecked, lentChecks, planChecks, planChecked, plannedBy, planned}
 use Rattle.planner.specs.Reporting.{reportedBy, reported}
 use Rattle.planner.specs.Valuing.{valueChecks, valueChecked, valuedBy, valued}
-use Rattle.planner.proofs.Lent.{plan-turn}
-use Rattle.promises.specs.Causes.{FirstOf, NoneOf, ReadCause, CostCause, HandCause, NoRival, PlanCause, ValueCause, readingOrder, costOrder, handInOrder, planningOrder, valuingOrder}
+use Rattle.answers.specs.declared.Lent.{Lent}
+use Rattle.answers.specs.Answering.{allFound, reportOn}
+use Rattle.answers.specs.Answering as answers
+use Rattle.promises.specs.Causes.{FirstOf, NoneOf, ReadCause, CostCause, HandCause, NoRival, PlanCause, ValueCause, AnswerCause, readingOrder, costOrder, handInOrder, planningOrder, valuingOrder, answeringOrder}
 
 -- ---- along any list of checks: each fails exactly where its cause holds, where those before it are kept
 
@@ -172,6 +174,38 @@ module _ (u : UnitRecord) (prices : List ℤ) where
   no-rival : (rangesKept u && pricesKept prices) ≡ true → shapeKept (u .generator) ≡ true → (hasSchedule (best u prices) ≡ false) ↔ NoRival u prices
   no-rival ranges shape = Iff·trans (no-plan (best u prices)) (no-schedule-exactly u (both (rangesKept u) (pricesKept prices) ranges .0) shape prices)
 
+  -- a list of checks that ends with the schedule's passes where there is a plan
+  found : (checks : List Check) → firstOf (checks ++ scheduleChecks u prices) ≡ Passed → best u prices ≡ nothing → ⊥
+  found checks passed none =
+      let turn = then-passed (firstOf checks) (scheduleChecked u prices) (sym (in-turn checks (scheduleChecks u prices)) ∙ passed) in
+      let has = unless-passed (hasSchedule (best u prices)) NoSchedule Passed (turn .1) .0 in
+      let no : false ≡ true = ap hasSchedule (sym none) ∙ has in
+      let z : _≡_ {A = ℕ} 0 1 = cc in
+      absurd (omega arith)
+
+  -- a report is refused where its checks are, and given where they pass
+  module _ (k : Checked) (planned : k ≡ Passed → best u prices ≡ nothing → ⊥) where
+    report-refused : {cause : Cause} → (reportedBy k (best u prices) (outcomesOf u prices) ≡ reports.Refused cause) ↔ (k ≡ Refused cause)
+    report-refused {cause} = by k (best u prices) refl refl
+      where
+        by : (found : Checked) (b : Plan) → k ≡ found → best u prices ≡ b
+            → (reportedBy found b (outcomesOf u prices) ≡ reports.Refused cause) ↔ (found ≡ Refused cause)
+        by Passed nothing i none = absurd (planned i none)
+        by Passed (plan s p) i is = (λ e. let z : _≡_ {A = ℕ} 0 1 = cc in absurd (omega arith), λ e. let z : _≡_ {A = ℕ} 0 1 = cc in absurd (omega arith))
+        by (Refused given) b i is = (λ e. let same : given ≡ cause = cc in ap Refused same, λ e. let same : given ≡ cause = cc in ap reports.Refused same)
+
+    report-given : ((r : Report) × (reportedBy k (best u prices) (outcomesOf u prices) ≡ reports.Report r)) ↔ (k ≡ Passed)
+    report-given = by k (best u prices) refl refl
+      where
+        by : (found : Checked) (b : Plan) → k ≡ found → best u prices ≡ b
+            → ((r : Report) × (reportedBy found b (outcomesOf u prices) ≡ reports.Report r)) ↔ (found ≡ Passed)
+        by Passed nothing i none = absurd (planned i none)
+        by Passed (plan s p) i is = (λ e. refl, λ e. (record { count = length s; profit = p; outcomes = outcomesOf u prices }, refl))
+        by (Refused given) b i is = (λ e. lie (e .1), λ e. let z : _≡_ {A = ℕ} 0 1 = cc in absurd (omega arith))
+          where
+            lie : {r : Report} → reports.Refused given ≡ reports.Report r → Refused given ≡ Passed
+            lie e = let z : _≡_ {A = ℕ} 0 1 = cc in absurd (omega arith)
+
   module _ (cells entries : ℕ) where
     plan-judged : Judged (PlanCause u prices cells entries) (planChecks u prices cells entries)
     plan-judged = (
@@ -182,15 +216,9 @@ module _ (u : UnitRecord) (prices : List ℤ) where
       ),
     )
 
-    -- a check that passes has found a plan
-    found : planChecked u prices cells entries ≡ Passed → best u prices ≡ nothing → ⊥
-    found passed none =
-        let lent = lentChecked u prices (leb (length prices) entries) cells in
-        let turn = then-passed lent (scheduleChecked u prices) (sym (plan-turn u prices cells entries) ∙ passed) in
-        let has = unless-passed (hasSchedule (best u prices)) NoSchedule Passed (turn .1) .0 in
-        let no : false ≡ true = ap hasSchedule (sym none) ∙ has in
-        let z : _≡_ {A = ℕ} 0 1 = cc in
-        absurd (omega arith)
+    plan-found : planChecked u prices cells entries ≡ Passed → best u prices ≡ nothing → ⊥
+    unfolding planChecked
+    plan-found passed none = found (lentChecks u prices (leb (length prices) entries) cells) passed none
 
     pub planning-refused : {cause : Cause} → (planned u prices cells entries ≡ plans.Refused cause)
         ↔ FirstOf (PlanCause u prices cells entries) planningOrder cause
@@ -200,22 +228,16 @@ module _ (u : UnitRecord) (prices : List ℤ) where
         (refused-first (PlanCause u prices cells entries) (planChecks u prices cells entries) plan-judged)
       where
         by : (k : Checked) (b : Plan) → planChecked u prices cells entries ≡ k → best u prices ≡ b → (plannedBy k b ≡ plans.Refused cause) ↔ (k ≡ Refused cause)
-        by Passed nothing i none = absurd (found i none)
+        by Passed nothing i none = absurd (plan-found i none)
         by Passed (plan s p) i is = (λ e. let z : _≡_ {A = ℕ} 0 1 = cc in absurd (omega arith), λ e. let z : _≡_ {A = ℕ} 0 1 = cc in absurd (omega arith))
         by (Refused given) b i is = (λ e. let same : given ≡ cause = cc in ap Refused same, λ e. let same : given ≡ cause = cc in ap plans.Refused same)
 
     pub reporting-refused : {cause : Cause} → (reported u prices cells entries ≡ reports.Refused cause)
         ↔ FirstOf (PlanCause u prices cells entries) planningOrder cause
     unfolding planChecked
-    reporting-refused {cause} =
-        Iff·trans (by (planChecked u prices cells entries) (best u prices) refl refl)
+    reporting-refused =
+        Iff·trans (report-refused (planChecked u prices cells entries) plan-found)
         (refused-first (PlanCause u prices cells entries) (planChecks u prices cells entries) plan-judged)
-      where
-        by : (k : Checked) (b : Plan) → planChecked u prices cells entries ≡ k → best u prices ≡ b
-            → (reportedBy k b (outcomesOf u prices) ≡ reports.Refused cause) ↔ (k ≡ Refused cause)
-        by Passed nothing i none = absurd (found i none)
-        by Passed (plan s p) i is = (λ e. let z : _≡_ {A = ℕ} 0 1 = cc in absurd (omega arith), λ e. let z : _≡_ {A = ℕ} 0 1 = cc in absurd (omega arith))
-        by (Refused given) b i is = (λ e. let same : given ≡ cause = cc in ap Refused same, λ e. let same : given ≡ cause = cc in ap reports.Refused same)
 
     pub planning-answered : ((n : ℕ) × (p : ℤ) × (planned u prices cells entries ≡ plans.Plan n p)) ↔ NoneOf (PlanCause u prices cells entries) planningOrder
     unfolding planChecked
@@ -225,7 +247,7 @@ module _ (u : UnitRecord) (prices : List ℤ) where
       where
         by : (k : Checked) (b : Plan) → planChecked u prices cells entries ≡ k → best u prices ≡ b
             → ((n : ℕ) × (p : ℤ) × (plannedBy k b ≡ plans.Plan n p)) ↔ (k ≡ Passed)
-        by Passed nothing i none = absurd (found i none)
+        by Passed nothing i none = absurd (plan-found i none)
         by Passed (plan s p) i is = (λ e. refl, λ e. (length s, p, refl))
         by (Refused given) b i is = (λ e. lie (e .2), λ e. let z : _≡_ {A = ℕ} 0 1 = cc in absurd (omega arith))
           where
@@ -235,17 +257,8 @@ module _ (u : UnitRecord) (prices : List ℤ) where
     pub reporting-answered : ((r : Report) × (reported u prices cells entries ≡ reports.Report r)) ↔ NoneOf (PlanCause u prices cells entries) planningOrder
     unfolding planChecked
     reporting-answered =
-        Iff·trans (by (planChecked u prices cells entries) (best u prices) refl refl)
+        Iff·trans (report-given (planChecked u prices cells entries) plan-found)
         (passed-none (PlanCause u prices cells entries) (planChecks u prices cells entries) plan-judged)
-      where
-        by : (k : Checked) (b : Plan) → planChecked u prices cells entries ≡ k → best u prices ≡ b
-            → ((r : Report) × (reportedBy k b (outcomesOf u prices) ≡ reports.Report r)) ↔ (k ≡ Passed)
-        by Passed nothing i none = absurd (found i none)
-        by Passed (plan s p) i is = (λ e. refl, λ e. (record { count = length s; profit = p; outcomes = outcomesOf u prices }, refl))
-        by (Refused given) b i is = (λ e. lie (e .1), λ e. let z : _≡_ {A = ℕ} 0 1 = cc in absurd (omega arith))
-          where
-            lie : {r : Report} → reports.Refused given ≡ reports.Report r → Refused given ≡ Passed
-            lie e = let z : _≡_ {A = ℕ} 0 1 = cc in absurd (omega arith)
 
   module _ (cells : ℕ) where
     value-judged : Judged (ValueCause u prices cells) (valueChecks u prices cells)
@@ -267,3 +280,46 @@ module _ (u : UnitRecord) (prices : List ℤ) where
         by : (k : Checked) → (valuedBy k (outcomesOf u prices) ≡ values.Outcomes (outcomesOf u prices)) ↔ (k ≡ Passed)
         by Passed = (λ e. refl, λ e. refl)
         by (Refused given) = (λ e. let z : _≡_ {A = ℕ} 0 1 = cc in absurd (omega arith), λ e. let z : _≡_ {A = ℕ} 0 1 = cc in absurd (omega arith))
+
+-- ---- answering a text
+
+module _ (text : List ℕ) (lent : Lent) where
+  answer-judged : Judged (AnswerCause text lent) (answers.lentChecks text lent ++ scheduleChecks (unitIn text) (pricesIn text))
+  answer-judged = (
+    Iff·rfl,
+    λ _. (
+      Iff·rfl,
+      λ _. (
+        Iff·rfl,
+        λ ranges. (
+          Iff·rfl,
+          λ shape. (
+            Iff·rfl,
+            λ _. (
+              Iff·rfl,
+              λ _. (
+                at-most (cellsNeeded (unitIn text) (length (pricesIn text))) (lent .cells),
+                λ _. (no-rival (unitIn text) (pricesIn text) ranges shape, λ _. tt),
+              ),
+            ),
+          ),
+        ),
+      ),
+    ),
+  )
+
+  answer-found : allFound text lent ≡ Passed → best (unitIn text) (pricesIn text) ≡ nothing → ⊥
+  unfolding allFound
+  answer-found passed none = found (unitIn text) (pricesIn text) (answers.lentChecks text lent) passed none
+
+  pub answering-refused : {cause : Cause} → (reportOn text lent ≡ reports.Refused cause) ↔ FirstOf (AnswerCause text lent) answeringOrder cause
+  unfolding allFound
+  answering-refused =
+      Iff·trans (report-refused (unitIn text) (pricesIn text) (allFound text lent) answer-found)
+      (refused-first (AnswerCause text lent) (answers.lentChecks text lent ++ scheduleChecks (unitIn text) (pricesIn text)) answer-judged)
+
+  pub answering-answered : ((r : Report) × (reportOn text lent ≡ reports.Report r)) ↔ NoneOf (AnswerCause text lent) answeringOrder
+  unfolding allFound
+  answering-answered =
+      Iff·trans (report-given (unitIn text) (pricesIn text) (allFound text lent) answer-found)
+      (passed-none (AnswerCause text lent) (answers.lentChecks text lent ++ scheduleChecks (unitIn text) (pricesIn text)) answer-judged)

@@ -4,11 +4,12 @@ use mathlib.Core.Path.{_≡_, refl}
 use mathlib.Core.Bool.{true}
 use mathlib.Core.List.{List, [], _++_}
 use mathlib.Core.Logic.{_↔_}
-use Prim.Native.Nat.{ℕ, _≤_}
+use Prim.Native.Nat.{ℕ, _≤_, _<_}
 use lib.IntN.{ℤ, pos}
 use lib.ListN.{length, take, drop}
 use Rattle.commitment.specs.declared.Cause.{Cause}
-use Rattle.commitment.specs.declared.Checked.the-variants.{Passed}
+use Rattle.commitment.specs.declared.Cause.the-variants.{Form}
+use Rattle.commitment.specs.declared.Checked.the-variants.{Passed, Refused}
 use Rattle.commitment.specs.declared.CostInputs.{CostInputs}
 use Rattle.commitment.specs.declared.Limitation.{Limitation}
 use Rattle.commitment.specs.declared.Outcome.the-variants.{Never}
@@ -41,8 +42,7 @@ use Rattle.writing.proofs.Back.{written-read}
 use Rattle.assessment.specs.declared.Assessed.the-variants as assessing
 use Rattle.assessment.specs.Assessed.{assessed, assessedNumber, assessedProfit}
 use Rattle.assessment.proofs.Passed as passed
-use Rattle.listing.specs.declared.Written.the-variants as writing
-use Rattle.listing.specs.Listing.{fitted, writtenBy}
+use Rattle.listing.specs.Listing.{refusal, bufferAfter}
 use Rattle.planner.specs.declared.Planned.the-variants as planning
 use Rattle.planner.specs.declared.Report.{Report}
 use Rattle.planner.specs.declared.Reported.the-variants as reporting
@@ -50,8 +50,10 @@ use Rattle.planner.specs.declared.Valued.the-variants as valuing
 use Rattle.planner.specs.Planning.{planned, plannedNumber, plannedProfit, plannedCount, scheduleLeft, partGiven}
 use Rattle.planner.specs.Reporting.{reported, reportedNumber, reportedProfit, reportedCount, reportedOutcomes}
 use Rattle.planner.specs.Valuing.{valued, valuedNumber, valuedOutcomes}
-use Rattle.answers.specs.Printing.{printed}
-use Rattle.promises.specs.Causes.{FirstOf, NoneOf, ReadCause, CostCause, HandCause, PlanCause, ValueCause, readingOrder, costOrder, handInOrder, planningOrder, valuingOrder}
+use Rattle.answers.specs.declared.Lent.{Lent}
+use Rattle.answers.specs.Answering.{lentFound, reportOn, answered, printed, pricesAfter, scheduleAnswered, scratchAnswered}
+use Rattle.answers.specs.Sizes.{outRoom, programLends}
+use Rattle.promises.specs.Causes.{FirstOf, NoneOf, ReadCause, CostCause, HandCause, PlanCause, ValueCause, AnswerCause, readingOrder, costOrder, handInOrder, planningOrder, valuingOrder, answeringOrder}
 use Rattle.promises.specs.Outcomes.{outcomeFor}
 use Rattle.promises.specs.Sequences.{InSomeSequence}
 use Rattle.promises.specs.Tables.{TwoTables}
@@ -62,11 +64,17 @@ use Rattle.promises.proofs.Planning as plans
 use Rattle.promises.proofs.Printed as printing
 use Rattle.promises.proofs.Untouched as untouched
 
--- ---- Demand 1. "Whoever calls .. gets an answer": no call has a `requires`, and every text gets all of its bytes from the program's buffer.
+-- ---- Demand 1. "Whoever calls .. gets an answer": no call has a `requires`, and every text gets all of its bytes from the program.
 
-pub every-text-is-answered : (text : List ℕ) (prices cells entries : ℕ)
-    → writtenBy (fitted (length (printed text prices cells entries)) printing.room) ≡ writing.Bytes (length (printed text prices cells entries))
+pub every-text-is-answered : (text : List ℕ)
+    → answered text (programLends outRoom) .bytes ≡ length (printed text (programLends outRoom))
 every-text-is-answered = printing.every-text-is-answered
+
+-- a text of more bytes than are read is refused as it would be whole, by what was read of it
+
+pub longer-text-is-refused : (text more : List ℕ) (lent : Lent) → mostBytes < length text
+    → (reportOn text lent ≡ reporting.Refused Form) × (reportOn (text ++ more) lent ≡ reporting.Refused Form)
+longer-text-is-refused = printing.longer-refused
 
 -- "A bad input gets the number of its cause": the first of the call's order that holds, and no other. 9 is among them: it is given exactly when no cause
 -- before it holds and there is no rival.
@@ -94,6 +102,10 @@ reporting-refused u prices cells entries cause = causes.reporting-refused u pric
 pub valuing-refused : (u : UnitRecord) (prices : List ℤ) (cells : ℕ) (cause : Cause)
     → (valued u prices cells ≡ valuing.Refused cause) ↔ FirstOf (ValueCause u prices cells) valuingOrder cause
 valuing-refused u prices cells cause = causes.valuing-refused u prices cells
+
+pub answering-refused : (text : List ℕ) (lent : Lent) (cause : Cause)
+    → (reportOn text lent ≡ reporting.Refused cause) ↔ FirstOf (AnswerCause text lent) answeringOrder cause
+answering-refused text lent cause = causes.answering-refused text lent
 
 -- A text has the form, so that 1 does not hold, exactly when a writer of two tables makes it within its bytes.
 
@@ -131,6 +143,10 @@ reporting-answered = causes.reporting-answered
 pub valuing-answered : (u : UnitRecord) (prices : List ℤ) (cells : ℕ)
     → (valued u prices cells ≡ valuing.Outcomes (outcomesOf u prices)) ↔ NoneOf (ValueCause u prices cells) valuingOrder
 valuing-answered = causes.valuing-answered
+
+pub answering-answered : (text : List ℕ) (lent : Lent)
+    → ((r : Report) × (reportOn text lent ≡ reporting.Report r)) ↔ NoneOf (AnswerCause text lent) answeringOrder
+answering-answered = causes.answering-answered
 
 -- with a refusal come the number of its cause, profit 0, every other number 0, every outcome and limitation `none`
 
@@ -174,6 +190,29 @@ pub report-untouched : (u : UnitRecord) (prices : List ℤ) (cells : ℕ) (slice
     → reported u prices cells (length slice) ≡ reporting.Refused cause
     → (scheduleLeft u prices cells slice ≡ slice) × (partGiven u prices cells (length slice) ≡ [])
 report-untouched = untouched.report-untouched
+
+-- answering a text: its number is the report's; on 7, 8 and what comes before, every slice but the buffer is as it was, and the buffer has the line of
+-- the refusal, or where that does not fit is as it was and 0 bytes are counted; on 9 the schedule slice is as it was
+
+pub answer-number : (text : List ℕ) (lent : Lent) → answered text lent .number ≡ reportedNumber (reportOn text lent)
+answer-number = printing.answer-number
+
+pub answer-refusal : (text : List ℕ) (lent : Lent) {cause : Cause} → reportOn text lent ≡ reporting.Refused cause
+    → printed text lent ≡ refusal (numberOf cause)
+answer-refusal = printing.answer-refusal
+
+pub short-buffer-untouched : (text : List ℕ) (lent : Lent) (out : List ℕ) → lent .bytes ≡ length out → lent .bytes < length (printed text lent)
+    → (answered text lent .bytes ≡ 0) × (bufferAfter (printed text lent) out ≡ out)
+short-buffer-untouched = printing.short-buffer-untouched
+
+pub answer-untouched : (text : List ℕ) (lent : Lent) {cause : Cause} → lentFound text lent ≡ Refused cause
+    → ((was : List ℤ) → (pricesAfter text lent was ≡ was) × (scratchAnswered text lent was ≡ was))
+    × ((was : List ℕ) → scheduleAnswered text lent was ≡ was)
+answer-untouched = untouched.answer-untouched
+
+pub answer-refused-schedule : (text : List ℕ) (lent : Lent) (was : List ℕ) {cause : Cause} → reportOn text lent ≡ reporting.Refused cause
+    → scheduleAnswered text lent was ≡ was
+answer-refused-schedule = untouched.answer-refused-schedule
 
 -- "A text that is not refused is read as the figures written in it."
 

@@ -1,89 +1,160 @@
--- The planning program has an answer for every text: what is printed fits its buffer, whatever the text and the slices lent.
+-- An answer fits its buffer where no cause is found before the work; so the program's buffer holds what is printed for any text.
 use mathlib.Core.Path.{_≡_, refl, ap}
-use mathlib.Core.Bool.{Bool, cond}
-use mathlib.Core.List.{List, [], _∷_}
-use Prim.Native.Nat.{ℕ, suc, _*_, _≤_}
+use mathlib.Core.Bool.{Bool, true, false, cond, _&&_}
+use mathlib.Core.List.{List, [], _∷_, _++_}
+use mathlib.Core.Logic.{inl}
+use Prim.Native.Nat.{ℕ, suc, _+_, _*_, _≤_, _<_}
 use native.Mathlib.Omega.{arith}
-use borrow.Author.Tests.{le-leb}
+use borrow.Author.Tests.{le-leb, lt-leb, eqb-true}
+use lib.Dec.{eqb}
 use lib.IntN.{ℤ}
-use lib.ListN.{length, length-append}
+use lib.ListN.{length, drop, length-append}
+use Rattle.lists.specs.Every.{every}
+use Rattle.lists.proofs.Conjunctions.{both}
+use Rattle.commitment.specs.declared.Cause.{Cause}
+use Rattle.commitment.specs.declared.Cause.the-variants.{Form, NoSchedule}
 use Rattle.commitment.specs.declared.Checked.{Checked}
 use Rattle.commitment.specs.declared.Checked.the-variants.{Passed, Refused}
+use Rattle.commitment.specs.declared.Generator.{Generator}
 use Rattle.commitment.specs.declared.Outcomes.{Outcomes}
 use Rattle.commitment.specs.declared.UnitRecord.{UnitRecord}
 use Rattle.commitment.specs.Best.{Plan, nothing, plan, best}
+use Rattle.commitment.specs.Bounds.{mostMw, mostIntervals}
 use Rattle.commitment.specs.Causes.{numberOf}
-use Rattle.commitment.specs.Bounds.{mostIntervals}
-use Rattle.commitment.specs.Ranges.{pricesKept}
-use Rattle.commitment.proofs.Passing.{passing}
-use Rattle.optimality.proofs.Optimal.{plan-length}
-use Rattle.casefile.specs.declared.CaseRead.{CaseRead}
-use Rattle.casefile.specs.declared.CaseRead.the-variants as read
-use Rattle.casefile.specs.Answers.{readCase}
-use Rattle.casefile.specs.Reading.{pricesIn}
+use Rattle.commitment.specs.Ranges.{InOrder}
+use Rattle.commitment.specs.Schedule.{isOutput, isSchedule}
+use Rattle.commitment.specs.Valuing.{outcomesOf}
+use Rattle.optimality.proofs.Optimal.{plan-exactly}
+use Rattle.assessment.proofs.Bounds.{output-most}
+use Rattle.casefile.specs.Reading.{unitIn, pricesIn}
 use Rattle.listing.specs.declared.Fit.{Fit}
 use Rattle.listing.specs.declared.Fit.the-variants.{Bytes, TooLong}
-use Rattle.listing.specs.declared.Written.the-variants as written
-use Rattle.listing.specs.Listing.{intervalLine, intervalLines, listing, refusal, fitted, writtenBy}
-use Rattle.listing.proofs.Numbers.{number-short}
+use Rattle.listing.specs.Listing.{intervalLine, intervalLines, listing, refusal, writtenBy, bytesIn, bufferAfter}
+use Rattle.listing.proofs.Numbers.{number-short, number-digits}
 use Rattle.listing.proofs.Lengths.{signed-short, outcome-short, line-length, profit-length, outcomes-length, listing-length, refusal-length}
 use Rattle.planner.specs.declared.Reported.{Reported}
-use Rattle.planner.specs.declared.Reported.the-variants as answer
-use Rattle.planner.specs.Planning.{planChecked, plannedPart}
-use Rattle.planner.specs.Reporting.{reported}
-use Rattle.answers.specs.Printing.{reportPrinted, casePrinted, readPrinted, printed}
-use Rattle.promises.proofs.Planning.{plan-case}
+use Rattle.planner.specs.declared.Reported.the-variants as reports
+use Rattle.planner.specs.Planning.{plannedPart}
+use Rattle.planner.specs.Reporting.{reportedBy, reportedNumber}
+use Rattle.answers.specs.declared.Lent.{Lent}
+use Rattle.answers.specs.Answering.{mostPrinted, lentFound, allFound, reportPrinted, printedFor, reportOn, answered, printed}
+use Rattle.answers.specs.Sizes.{outRoom, programLends}
+use Rattle.answers.proofs.Found.{passed, refused-in-all}
+use Rattle.casetext.specs.Form.{mostBytes, formKept}
+use Rattle.promises.proofs.Causes.{answering-refused}
 
--- the program's buffer
-abbrev pub room : ℕ
-room = 131072
+-- ---- a listing takes no more than is reckoned with
 
--- ---- no listing is longer
+numbers-below : (i mw : ℕ) → i < 10000 → mw ≤ mostMw → length (intervalLine i mw) ≤ 9
+numbers-below i mw few small =
+    omega (arith, line-length i mw, number-digits 3 i (omega arith) (omega arith), number-digits 2 mw (omega arith) (omega arith))
 
-lines-most : (i : ℕ) (s : List ℕ) → length (intervalLines i s) ≤ 42 * length s
-lines-most i [] = omega arith
-lines-most i (mw ∷ s) =
-    omega
-    (arith, length-append (intervalLine i mw) (intervalLines (suc i) s), line-length i mw, number-short i, number-short mw, lines-most (suc i) s)
+module _ (g : Generator) (small : (m : ℕ) → isOutput g m ≡ true → m ≤ mostMw) where
+  lines-most : (i : ℕ) (s : List ℕ) → every (isOutput g) s ≡ true → i + length s ≤ 10000 → length (intervalLines i s) ≤ 9 * length s
+  lines-most i [] kept few = omega arith
+  lines-most i (mw ∷ s) kept few =
+      let k = both (isOutput g mw) (every (isOutput g) s) kept in
+      omega (
+        arith,
+        length-append (intervalLine i mw) (intervalLines (suc i) s),
+        numbers-below i mw (omega arith) (small mw (k .0)),
+        lines-most (suc i) s (k .1) (omega arith),
+      )
 
-listing-most : (s : List ℕ) (p : ℤ) (o : Outcomes) → length s ≤ mostIntervals → length (listing s p o) ≤ room
-listing-most s p o short =
-    omega
-    (arith, short, listing-length s p o, lines-most 1 s, profit-length p, signed-short p, outcomes-length o, outcome-short (o .starts), outcome-short (o .hours), outcome-short (o .mwh))
+  listing-most : (n : ℕ) (s : List ℕ) (p : ℤ) (o : Outcomes) → isSchedule g n s ≡ true → n ≤ mostIntervals → length (listing s p o) ≤ mostPrinted n
+  listing-most n s p o kept short =
+      let k = both (eqb (length s) n) (every (isOutput g) s) kept in
+      let count = eqb-true (length s) n (k .0) in
+      omega (
+        arith,
+        count,
+        listing-length s p o,
+        lines-most 1 s (k .1) (omega arith),
+        profit-length p,
+        signed-short p,
+        outcomes-length o,
+        outcome-short (o .starts),
+        outcome-short (o .hours),
+        outcome-short (o .mwh),
+      )
 
-refusal-most : (n : ℕ) → length (refusal n) ≤ room
-refusal-most n = omega (arith, refusal-length n, number-short n)
+-- ---- what is printed, by what was found of a case
 
-report-most : (r : Reported) (outputs : List ℕ) → length outputs ≤ mostIntervals → length (reportPrinted r outputs) ≤ room
-report-most (answer.Report r) outputs short = listing-most outputs (r .profit) (r .outcomes) short
-report-most (answer.Refused cause) outputs short = refusal-most (numberOf cause)
+refusal-most : (cause : Cause) → length (refusal (numberOf cause)) ≤ 29
+refusal-most cause = omega (arith, refusal-length (numberOf cause), number-short (numberOf cause))
 
--- ---- of a case, and of a text
+module _ (u : UnitRecord) (prices : List ℤ) (order : InOrder u (length prices)) where
+  case-most : (found : Checked) → length (printedFor found u prices) ≤ mostPrinted (length prices)
+  case-most found = by found (best u prices) refl
+    where
+      by : (k : Checked) (b : Plan) → best u prices ≡ b
+          → length (reportPrinted (reportedBy k b (outcomesOf u prices)) (plannedPart k b)) ≤ mostPrinted (length prices)
+      by Passed (plan s p) is =
+          let own = plan-exactly u (order .ranges) (order .shape) prices s p .0 is .own in
+          listing-most (u .generator) (output-most u (order .ranges) (order .shape)) (length prices) s p (outcomesOf u prices) (own .schedule) (order .short)
+      by Passed nothing is = omega (arith, refusal-most NoSchedule)
+      by (Refused cause) b is = omega (arith, refusal-most cause)
 
-module _ (u : UnitRecord) (prices : List ℤ) (cells entries : ℕ) where
-  -- a plan is no longer than the prices of a case in order
-  part-most : (k : Checked) (b : Plan) → planChecked u prices cells entries ≡ k → best u prices ≡ b → length (plannedPart k b) ≤ mostIntervals
-  part-most Passed (plan s p) e is =
-      let h = passing u (pricesKept prices) (length prices) (plan-case u prices cells entries e) .order in
-      omega (arith, plan-length u (h .ranges) (h .shape) prices s p is, h .short)
-  part-most Passed nothing e is = omega arith
-  part-most (Refused cause) b e is = omega arith
+-- ---- of a text
 
-  case-most : length (casePrinted u prices cells entries) ≤ room
-  unfolding casePrinted
-  case-most = report-most (reported u prices cells entries) _ (part-most (planChecked u prices cells entries) (best u prices) refl refl)
+-- a buffer with room for the lines gets them all
+written-whole : (text : List ℕ) (lent : Lent) → length (printed text lent) ≤ lent .bytes → answered text lent .bytes ≡ length (printed text lent)
+unfolding answered printed
+written-whole text lent fits =
+    let n = length (printed text lent) in
+    ap (λ (t : Bool). bytesIn (writtenBy (cond {A = Fit} t (Bytes n) TooLong))) (le-leb n (lent .bytes) fits)
 
-read-most : (r : CaseRead) (prices : List ℤ) (cells entries : ℕ) → length (readPrinted r prices cells entries) ≤ room
-read-most (read.Case unit count) prices cells entries = case-most unit prices cells entries
-read-most (read.Refused cause) prices cells entries = refusal-most (numberOf cause)
-
-pub printed-fits : (text : List ℕ) (prices cells entries : ℕ) → length (printed text prices cells entries) ≤ room
+-- where no cause was found before the work, the buffer has that room
+pub passed-whole : (text : List ℕ) (lent : Lent) → lentFound text lent ≡ Passed → answered text lent .bytes ≡ length (printed text lent)
 unfolding printed
-printed-fits text prices cells entries = read-most (readCase text prices) (pricesIn text) cells entries
+passed-whole text lent e =
+    let r = passed text lent e in
+    written-whole text lent (omega (arith, case-most (unitIn text) (pricesIn text) (r .case .order) (allFound text lent), r .bytes))
 
--- so that every text gets all of its bytes
-pub every-text-is-answered : (text : List ℕ) (prices cells entries : ℕ)
-    → writtenBy (fitted (length (printed text prices cells entries)) room) ≡ written.Bytes (length (printed text prices cells entries))
-every-text-is-answered text prices cells entries =
-    let n = length (printed text prices cells entries) in
-    ap (λ (t : Bool). writtenBy (cond {A = Fit} t (Bytes n) TooLong)) (le-leb n room (printed-fits text prices cells entries))
+-- and the program's buffer has it for any text
+pub every-text-is-answered : (text : List ℕ)
+    → answered text (programLends outRoom) .bytes ≡ length (printed text (programLends outRoom))
+unfolding printed
+every-text-is-answered text = by (lentFound text (programLends outRoom)) refl
+  where
+    by : (k : Checked) → lentFound text (programLends outRoom) ≡ k
+        → answered text (programLends outRoom) .bytes ≡ length (printed text (programLends outRoom))
+    by Passed e = passed-whole text (programLends outRoom) e
+    by (Refused cause) e =
+        let line = ap (λ (found : Checked). printedFor found (unitIn text) (pricesIn text)) (refused-in-all text (programLends outRoom) cause e) in
+        written-whole text (programLends outRoom) (omega (arith, ap length line, refusal-most cause))
+
+-- ---- what a refusal prints
+
+pub answer-number : (text : List ℕ) (lent : Lent) → answered text lent .number ≡ reportedNumber (reportOn text lent)
+unfolding answered
+answer-number text lent = refl
+
+pub answer-refusal : (text : List ℕ) (lent : Lent) {cause : Cause} → reportOn text lent ≡ reports.Refused cause
+    → printed text lent ≡ refusal (numberOf cause)
+unfolding printed
+answer-refusal text lent e =
+    ap (λ (r : Reported). reportPrinted r (plannedPart (allFound text lent) (best (unitIn text) (pricesIn text)))) e
+
+pub short-buffer-untouched : (text : List ℕ) (lent : Lent) (out : List ℕ) → lent .bytes ≡ length out → lent .bytes < length (printed text lent)
+    → (answered text lent .bytes ≡ 0) × (bufferAfter (printed text lent) out ≡ out)
+unfolding answered printed
+short-buffer-untouched text lent out long short =
+    let n = length (printed text lent) in
+    let no = lt-leb n (lent .bytes) short in (
+      ap (λ (t : Bool). bytesIn (writtenBy (cond {A = Fit} t (Bytes n) TooLong))) (lt-leb n (lent .bytes) short),
+      ap (λ (t : Bool). cond t (printed text lent ++ drop n out) out) (lt-leb n (length out) (omega (arith, long, short))),
+    )
+
+-- ---- a text longer than a text may be, whatever follows it
+
+form-short : (text : List ℕ) → mostBytes < length text → formKept text ≡ false
+unfolding formKept
+form-short text long = rw (lt-leb (length text) mostBytes long)
+
+pub longer-refused : (text more : List ℕ) (lent : Lent) → mostBytes < length text
+    → (reportOn text lent ≡ reports.Refused Form) × (reportOn (text ++ more) lent ≡ reports.Refused Form)
+longer-refused text more lent long = (too-long text long, too-long (text ++ more) (omega (arith, long, length-append text more)))
+  where
+    too-long : (text : List ℕ) → mostBytes < length text → reportOn text lent ≡ reports.Refused Form
+    too-long text long = answering-refused text lent .1 (inl (refl, form-short text long))

@@ -1,18 +1,24 @@
--- Case C1 whole: from the bytes of its text to the bytes of its listing, computed from the definitions, with the program's slices.
+-- Cases computed from the definitions: C1 whole, from the bytes of its text to the bytes of its listing with the program's slices; and the answers of the
+-- calls to C1 to C12.
 use mathlib.Core.Path.{_≡_, refl}
 use mathlib.Core.List.{List, [], _∷_, _++_}
 use Prim.Native.Nat.{ℕ}
 use Rattle.lists.specs.Text.{bytes}
-use Rattle.casefile.specs.Answers.{readCase}
-use Rattle.casefile.specs.Reading.{unitIn, pricesIn, textChecked}
-use Rattle.commitment.specs.Ranges.{caseChecked, rangesKept, pricesKept}
+use Rattle.casefile.specs.Reading.{unitIn, pricesIn}
+use Rattle.commitment.specs.Ranges.{rangesKept, pricesKept}
 use Rattle.casetext.specs.Form.{formKept, namesKept}
 use Rattle.tabletext.specs.Bytes.{isOf}
 use Rattle.tabletext.specs.Values.{isName, isValue, valueOf, numeral}
 use Rattle.listing.specs.Listing.{listing, refusal}
 use Rattle.listing.specs.Numbers.{number, decimal}
+use Rattle.commitment.specs.Twelve.{saidOfTwelve}
+use Rattle.costs.specs.Answers.{costed}
+use Rattle.costs.specs.Ranges.{inputsKept, segmentsKept, inputsChecked}
 use Rattle.planner.specs.Planning.{planChecked}
-use Rattle.answers.specs.Printing.{casePrinted, printed}
+use Rattle.planner.specs.Valuing.{valueChecked}
+use Rattle.answers.specs.Answering.{allFound, printed}
+use Rattle.answers.specs.Sizes.{outRoom, programLends}
+use Rattle.promises.specs.Twelve.{answersOfTwelve}
 
 -- the lines of a text, each with its end
 abbrev linesOf : List (List ℕ) → List ℕ
@@ -57,6 +63,13 @@ lines =
     ∷ []
     )
 
-pub c1-whole : printed text 6144 4000 6144 ≡ lines
-unfolding printed casePrinted readCase unitIn pricesIn textChecked caseChecked listing refusal number decimal planChecked formKept namesKept isOf isName isValue valueOf numeral rangesKept pricesKept
+pub c1-whole : printed text (programLends outRoom) ≡ lines
+unfolding
+    printed allFound unitIn pricesIn listing refusal number decimal formKept namesKept isOf isName isValue valueOf numeral rangesKept pricesKept
 c1-whole = refl
+
+-- ---- the calls answer what the specification says of all twelve
+
+pub twelve : answersOfTwelve ≡ saidOfTwelve
+unfolding planChecked valueChecked costed inputsChecked inputsKept segmentsKept rangesKept pricesKept
+twelve = refl

@@ -19,6 +19,8 @@ use Rattle.commitment.specs.Schedule.{isSchedule}
 use Rattle.casetext.specs.Form.{formKept, namesKept}
 use Rattle.casefile.specs.Reading.{unitIn, pricesIn}
 use Rattle.costs.specs.Ranges.{inputsKept, segmentsKept, outputsKept, rangeMw}
+use Rattle.answers.specs.declared.Lent.{Lent}
+use Rattle.answers.specs.Answering.{longEnough}
 
 -- the first of an order of causes that holds
 abbrev pub FirstOf : (Cause → Type 0) → List Cause → Cause → Type 0
@@ -120,3 +122,20 @@ ValueCause u prices cells cause = PlanCause u prices cells (length prices) cause
 
 abbrev pub valuingOrder : List Cause
 valuingOrder = Range ∷ Shape ∷ Horizon ∷ Scratch ∷ NoSchedule ∷ []
+
+-- ---- answering a text, with slices of so many prices, cells, entries and bytes
+
+abbrev pub AnswerCause : List ℕ → Lent → Cause → Type 0
+AnswerCause text lent Form = formKept text ≡ false
+AnswerCause text lent Name = namesKept text ≡ false
+AnswerCause text lent Range = CaseCause (unitIn text) (pricesIn text) Range
+AnswerCause text lent Shape = CaseCause (unitIn text) (pricesIn text) Shape
+AnswerCause text lent Horizon = CaseCause (unitIn text) (pricesIn text) Horizon
+AnswerCause text lent Length = longEnough (length (pricesIn text)) lent ≡ false
+AnswerCause text lent Scratch = lent .cells < cellsNeeded (unitIn text) (length (pricesIn text))
+AnswerCause text lent NoSchedule = NoRival (unitIn text) (pricesIn text)
+AnswerCause text lent Segments = ⊥
+AnswerCause text lent NotKept = ⊥
+
+abbrev pub answeringOrder : List Cause
+answeringOrder = Form ∷ Name ∷ Range ∷ Shape ∷ Horizon ∷ Length ∷ Scratch ∷ NoSchedule ∷ []

@@ -4,3 +4,4 @@ pub mod Causes
 pub mod Outcomes
 pub mod Tables
 pub mod Sequences
+pub mod Twelve

@@ -1,25 +1,19 @@
--- The line of the cause's number.
-use mathlib.Core.Path.{ap}
-use Rattle.listing.specs.Listing.{refusal}
+-- The line of the cause's number, and the bytes that it took.
+use mathlib.Core.Path.{ap, _∙_}
+use Rattle.listing.specs.Listing.{bytesIn}
 use borrow.Author.Needs.{needs}
-use Rattle.answers.proofs.Printing.{written-as}
+use Rattle.answers.proofs.Printing.{answered-as}
 use Rattle.answers.proofs.refuse.Statement.{statement}
 use Rattle.answers.proofs.refuse.Tie as tie
 
-number-of-requires : tie.Need-number-of-requires
-number-of-requires c κs = search needs
-
-write-refusal-requires : tie.Need-write-refusal-requires
-write-refusal-requires c κs = search needs
-
-same-length : tie.Need-same-length
-same-length c = search needs
-
 returns : tie.Need-returns
 returns c =
-    let w = c .before .before in
-    let s = w .before .before .before .before in
-    written-as (s .args .out .now) (ap refusal (w .before .before .number-of .ensures)) (w .write-refusal .ensures)
+    let w = c .before .before .before in
+    let n = w .before .before in
+    let wrote = rw (n .number-of .ensures) at (w .write-refusal .ensures) in
+    (answered-as (n .number-of .ensures) (c .bytes-in .ensures ∙ ap bytesIn (wrote .0)), wrote .1)
 
 pub refuse-spec : {M : Type 1} → statement M
-refuse-spec = tie.close (tie.spec number-of-requires write-refusal-requires same-length returns)
+refuse-spec =
+    tie.close
+    (tie.spec (λ c κs. search needs) (λ c κs. search needs) (λ c κs. search needs) (λ c. search needs) returns)

@@ -1,115 +1,73 @@
--- By cases on the report: the line of its cause, or the listing of the part that it counts.
+-- The prices as they stand in the text, and the report of the case.
 use mathlib.Core.Path.{sym, ap, ap₂, _∙_}
-use mathlib.Core.List.{List}
-use Prim.Native.Nat.{ℕ, _≤_}
+use Prim.Native.Nat.{_≤_}
 use native.Mathlib.Omega.{arith}
-use lib.IntN.{ℤ}
-use lib.ListN.{length, take}
-use lib.Seq.{length-take-le}
-use Rattle.integers.proofs.Ranges.{plain-fits}
+use lib.ListN.{length, take, drop}
+use lib.Seq.{length-take-le, take-append-seam}
+use Rattle.commitment.specs.declared.Checked.{Checked}
 use Rattle.commitment.specs.Best.{best}
-use Rattle.commitment.specs.Valuing.{outcomesOf}
-use Rattle.listing.specs.Listing.{listing}
-use Rattle.planner.specs.Planning.{planChecked}
-use Rattle.planner.proofs.Answering.{report-fits}
+use Rattle.commitment.specs.Cells.{cellsNeeded}
+use Rattle.casefile.specs.Reading.{unitIn, pricesIn}
+use Rattle.listing.specs.Listing.{bufferAfter}
+use Rattle.planner.specs.Planning.{scheduleAfter, scratchAfter}
+use Rattle.answers.specs.Answering.{lengths, printedFor, answeredFor, answered, printed}
 use borrow.Author.Needs.{needs}
-use Rattle.answers.proofs.Printing.{written-as, case-refused, case-listed}
+use Rattle.answers.proofs.Found.{Read, passed}
 use Rattle.answers.proofs.report.Statement.{statement}
 use Rattle.answers.proofs.report.Tie as tie
 
--- a report counts entries that the schedule slice has
-fits : (c : tie.After-outcomes)
-    → c .before .before .before .report .given .0 .0 .count ≤ length (c .before .before .before .before .before .before .before .before .report-into .last .1 .1 .1 .0)
+read : (s : tie.Start) → let a = s .args in Read (a .text .now) (lengths (a .prices .now) (a .scratch .now) (a .schedule .now) (a .out .now))
+read s =
+    let a = s .args in
+    passed (a .text .now) (lengths (a .prices .now) (a .scratch .now) (a .schedule .now) (a .out .now)) (s .pre)
+
+-- the prices counted are there
+fits : (c : tie.After-store) → c .before .before .prices-counted .result ≤ length (c .store .last .1 .0)
 fits c =
-    let s = c .before .before .before .before .before .before .before .before .before .before .before .before .before .args in
-    let call = c .before .before .before .before .before .before .before .before .report-into .ensures in
-    let told = c .before .before .before .report .given in
-    let k = planChecked (s .unit) (s .prices .now) (length (s .scratch .now)) (length (s .schedule .now)) in
-    let b = best (s .unit) (s .prices .now) in
-    let counted = report-fits k b (outcomesOf (s .unit) (s .prices .now)) (s .schedule .now) (told .0 .0) (sym (call .0) ∙ told .1) in
-    omega (arith, counted, ap length (call .1 .0))
+    let k = c .before .before in
+    omega (arith, k .prices-counted .ensures, c .store .kept .1 .0, read (k .before .before .before .before .before) .fits)
 
-report-into-requires : tie.Need-report-into-requires
-report-into-requires c κs = search needs
+store-requires : tie.Need-store-requires
+store-requires c κs = read (c .before .before .before .before .before .before) .fits
 
-enum-known-cause : tie.Need-enum-known-cause
-enum-known-cause c = search needs
+slice-reshare-prefix-report-case : tie.Need-slice-reshare-prefix-report-case
+slice-reshare-prefix-report-case c = fits (c .before)
 
-refuse-requires : tie.Need-refuse-requires
-refuse-requires c κs = search needs
-
-enum-known-report : tie.Need-enum-known-report
-enum-known-report c = search needs
-
-slice-reshare-prefix-write-listing : tie.Need-slice-reshare-prefix-write-listing
-slice-reshare-prefix-write-listing c = omega (arith, fits c)
-
-slice-aggregate-write-listing : tie.Need-slice-aggregate-write-listing
-slice-aggregate-write-listing c = sym (length-take-le _ _ (omega (arith, fits (c .before))))
-
-write-listing-requires : tie.Need-write-listing-requires
-write-listing-requires c κs = search needs
-
-same-length : tie.Need-same-length
-same-length c = search needs
-
-same-length-2 : tie.Need-same-length-2
-same-length-2 c = search needs
-
-same-length-3 : tie.Need-same-length-3
-same-length-3 c = search needs
+slice-aggregate-report-case : tie.Need-slice-aggregate-report-case
+slice-aggregate-report-case c = sym (length-take-le _ _ (fits (c .before .before)))
 
 returns : tie.Need-returns
+unfolding answered printed
 returns c =
-    let w = c .before .before in
-    let told = w .before .before .before .cause .given in
-    let r = w .before .before .before .before .before .before .before .before in
-    let s = r .before .before .before .before .before .args in
-    let call = r .report-into .ensures in
-    let line = case-refused (s .unit) (s .prices .now) (length (s .scratch .now)) (s .schedule .now) (told .0 .0) (sym (call .0) ∙ told .1) in
-    let wrote = written-as (s .out .now) line (w .refuse .ensures) in
-    (wrote .0, (wrote .1, call .1))
-
-same-length-4 : tie.Need-same-length-4
-same-length-4 c = search needs
-
-same-length-5 : tie.Need-same-length-5
-same-length-5 c = search needs
-
-same-length-6 : tie.Need-same-length-6
-same-length-6 c = search needs
-
-returns-2 : tie.Need-returns-2
-returns-2 c =
-    let w = c .before .before in
-    let told = w .before .before .before .before .before .before .report .given in
-    let report = told .0 .0 in
-    let r = w .before .before .before .before .before .before .before .before .before .before .before in
-    let s = r .before .before .before .before .before .args in
-    let call = r .report-into .ensures in
-    let profit = plain-fits {x = report .profit} (record { sfits = w .before .before .before .before .struct-told .given .1 .0 .1 }) in
-    let part = ap (take (report .count)) (call .1 .0) in
-    let same = ap₂ (λ (outputs : List ℕ) (p : ℤ). listing outputs p (report .outcomes)) part profit in
-    let lines = case-listed (s .unit) (s .prices .now) (length (s .scratch .now)) (s .schedule .now) report (sym (call .0) ∙ told .1) in
-    let wrote = written-as (s .out .now) (same ∙ lines) (w .write-listing .ensures) in
-    (wrote .0, (wrote .1, call .1))
+    let w = c .before .before .before .before .before in
+    let stored = w .before .before .before .before .before .before in
+    let k = stored .before .before in
+    let s = k .before .before .before .before .before in
+    let a = s .args in
+    let text = a .text .now in
+    let r = read s in
+    let prices = ap₂ take (k .prices-counted .ensures) (stored .store .ensures) ∙ take-append-seam (pricesIn text) (drop (length (pricesIn text)) (a .prices .now)) in
+    let made = rw (prices, k .before .unit-in .ensures) at (w .report-case .ensures) in (
+      made .0 ∙ ap (λ (found : Checked). answeredFor found (unitIn text) (pricesIn text) (length (a .out .now))) (r .plan-is),
+      (
+        made .1 .0 ∙ ap (λ (found : Checked). bufferAfter (printedFor found (unitIn text) (pricesIn text)) (a .out .now)) (r .plan-is),
+        (
+          stored .store .ensures,
+          (
+            made .1 .1 .0 ∙ ap (λ (found : Checked). scheduleAfter found (best (unitIn text) (pricesIn text)) (a .schedule .now)) (r .plan-is),
+            made .1 .1 .1 ∙ ap (λ (found : Checked). scratchAfter found (cellsNeeded (unitIn text) (length (pricesIn text))) (a .scratch .now)) (r .lent-is),
+          ),
+        ),
+      ),
+    )
 
 pub report-spec : {M : Type 1} → statement M
 report-spec =
     tie.close
     (tie.spec
-    report-into-requires
-    enum-known-cause
-    refuse-requires
-    enum-known-report
-    slice-reshare-prefix-write-listing
-    slice-aggregate-write-listing
-    write-listing-requires
-    same-length
-    same-length-2
-    same-length-3
-    returns
-    same-length-4
-    same-length-5
-    same-length-6
-    returns-2)
+    (λ c κs. search needs) (λ c κs. search needs)
+    store-requires
+    slice-reshare-prefix-report-case
+    slice-aggregate-report-case
+    (λ c κs. search needs) (λ c. search needs) (λ c. search needs) (λ c. search needs) (λ c. search needs)
+    returns)

@@ -1,0 +1,93 @@
+-- What is found of a text before anything is written and by the work, in turn; and what it says that a text passed.
+use mathlib.Core.Path.{_≡_, refl, sym, ap, _∙_}
+use mathlib.Core.Bool.{Bool, true, false, _&&_}
+use mathlib.Core.List.{List}
+use Prim.Native.Nat.{ℕ, _≤_}
+use Rattle.lists.proofs.Conjunctions.{both}
+use borrow.Author.Tests.{leb-true}
+use lib.Dec.{leb}
+use lib.IntN.{ℤ}
+use lib.ListN.{length}
+use Rattle.commitment.specs.declared.Cause.{Cause}
+use Rattle.commitment.specs.declared.Cause.the-variants.{Length}
+use Rattle.commitment.specs.declared.Checked.{Checked}
+use Rattle.commitment.specs.declared.Checked.the-variants.{Passed, Refused}
+use Rattle.commitment.specs.declared.UnitRecord.{UnitRecord}
+use Rattle.commitment.specs.Causes.{unless, firstOf}
+use Rattle.commitment.specs.Ranges.{pricesKept}
+use Rattle.commitment.proofs.Causes.{checkedThen, in-turn, unless-passed, then-passed}
+use Rattle.commitment.proofs.Passing.{Passing, passing}
+use Rattle.casefile.specs.Reading.{unitIn, pricesIn, writtenChecks, roomChecks, textChecked}
+use Rattle.casefile.proofs.Checking.{text-passed}
+use Rattle.planner.specs.Planning.{slicesChecks, lentChecked, scheduleChecks, scheduleChecked, planChecked}
+use Rattle.planner.proofs.Lent.{lent-turn, plan-turn}
+use Rattle.answers.specs.declared.Lent.{Lent}
+use Rattle.answers.specs.Answering.{mostPrinted, longEnough, lentChecks, lentFound, allFound}
+
+module _ (text : List ℕ) (lent : Lent) where
+  abbrev unit : UnitRecord
+  unit = unitIn text
+
+  abbrev prices : List ℤ
+  prices = pricesIn text
+
+  abbrev count : ℕ
+  count = length (pricesIn text)
+
+  -- 7 and 8 of a text whose prices have room
+  abbrev pub slices : Checked
+  slices = firstOf (slicesChecks unit count (leb count (lent .entries) && leb (mostPrinted count) (lent .bytes)) (lent .cells))
+
+  pub lent-in-turn : lentFound text lent ≡ checkedThen (textChecked text (lent .prices)) slices
+  unfolding lentFound textChecked
+  lent-in-turn =
+      let written = writtenChecks text in
+      let room = roomChecks text (lent .prices) in
+      in-turn written (slicesChecks unit count (longEnough count lent) (lent .cells))
+      ∙ by (firstOf written) (leb count (lent .prices))
+      ∙ ap (λ (k : Checked). checkedThen k slices) (sym (in-turn written room))
+    where
+      by : (k : Checked) (t : Bool)
+          → checkedThen k (firstOf (slicesChecks unit count (t && (leb count (lent .entries) && leb (mostPrinted count) (lent .bytes))) (lent .cells)))
+          ≡ checkedThen (checkedThen k (unless t Length Passed)) slices
+      by Passed true = refl
+      by Passed false = refl
+      by (Refused cause) t = refl
+
+  pub all-in-turn : allFound text lent ≡ checkedThen (lentFound text lent) (scheduleChecked unit prices)
+  unfolding lentFound allFound
+  all-in-turn = in-turn (lentChecks text lent) (scheduleChecks unit prices)
+
+  pub refused-in-all : (cause : Cause) → lentFound text lent ≡ Refused cause → allFound text lent ≡ Refused cause
+  refused-in-all cause e = all-in-turn ∙ ap (λ (k : Checked). checkedThen k (scheduleChecked unit prices)) e
+
+  -- ---- a text that passed
+
+  pub case-passing : textChecked text (lent .prices) ≡ Passed → Passing unit (pricesKept prices) count
+  case-passing e = passing unit (pricesKept prices) count (text-passed text (lent .prices) e .checks)
+
+  pub record Read : Type 0 where
+    pub case : Passing unit (pricesKept prices) count
+    pub fits : count ≤ lent .prices
+    pub bytes : mostPrinted count ≤ lent .bytes
+    pub lent-is : lentChecked unit prices (leb count (lent .entries)) (lent .cells) ≡ Passed
+    pub plan-is : planChecked unit prices (lent .cells) (lent .entries) ≡ allFound text lent
+
+  pub passed : lentFound text lent ≡ Passed → Read
+  passed e =
+      let k = then-passed (textChecked text (lent .prices)) slices (sym lent-in-turn ∙ e) in
+      let t = text-passed text (lent .prices) (k .0) in
+      let long = unless-passed (leb count (lent .entries) && leb (mostPrinted count) (lent .bytes)) Length _ (k .1) in
+      let slice = both (leb count (lent .entries)) (leb (mostPrinted count) (lent .bytes)) (long .0) in
+      let is : lentChecked unit prices (leb count (lent .entries)) (lent .cells) ≡ Passed =
+      lent-turn unit prices (leb count (lent .entries)) (lent .cells) ∙ rw (t .checks, slice .0) (long .1) in
+      record {
+        case = case-passing (k .0);
+        fits = t .fits;
+        bytes = leb-true (mostPrinted count) (lent .bytes) (slice .1);
+        lent-is = is;
+        plan-is =
+            plan-turn unit prices (lent .cells) (lent .entries)
+            ∙ ap (λ (k : Checked). checkedThen k (scheduleChecked unit prices)) (is ∙ sym e)
+            ∙ sym all-in-turn;
+      }

@@ -1,0 +1,80 @@
+-- By cases on the report: the line of its cause, or the listing of the part that it counts.
+use mathlib.Core.Path.{refl, sym, ap, ap₂, _∙_}
+use mathlib.Core.List.{List}
+use Prim.Native.Nat.{ℕ, _≤_}
+use native.Mathlib.Omega.{arith}
+use lib.IntN.{ℤ}
+use lib.ListN.{length, take}
+use lib.Seq.{length-take-le}
+use Rattle.integers.proofs.Ranges.{plain-fits}
+use Rattle.commitment.specs.declared.Checked.{Checked}
+use Rattle.commitment.specs.Best.{best}
+use Rattle.commitment.specs.Valuing.{outcomesOf}
+use Rattle.listing.specs.Listing.{listing, bytesIn}
+use Rattle.planner.specs.declared.Reported.the-variants as reported
+use Rattle.planner.specs.Planning.{planChecked}
+use Rattle.planner.proofs.Answering.{report-fits}
+use borrow.Author.Needs.{needs}
+use Rattle.answers.proofs.Printing.{answered-as, wrote, part-counted}
+use Rattle.answers.proofs.report_case.Statement.{statement}
+use Rattle.answers.proofs.report_case.Tie as tie
+
+-- what planning finds
+abbrev found : tie.Start → Checked
+found c = planChecked (c .args .unit) (c .args .prices .now) (length (c .args .scratch .now)) (length (c .args .schedule .now))
+
+-- a report counts entries that the schedule slice has
+fits : (c : tie.After-outcomes)
+    → c .before .before .before .report .given .0 .0 .count ≤ length (c .before .before .before .before .before .before .before .before .report-into .last .1 .1 .1 .0)
+fits c =
+    let r = c .before .before .before .before .before .before .before .before in
+    let s = r .before .before .before .before .before in
+    let a = s .args in
+    let told = c .before .before .before .report .given in
+    let counted = report-fits (found s) (best (a .unit) (a .prices .now)) (outcomesOf (a .unit) (a .prices .now)) (a .schedule .now) (told .0 .0) (sym (r .report-into .ensures .0) ∙ told .1) in
+    omega (arith, counted, ap length (r .report-into .ensures .1 .0))
+
+slice-reshare-prefix-write-listing : tie.Need-slice-reshare-prefix-write-listing
+slice-reshare-prefix-write-listing c = omega (arith, fits c)
+
+slice-aggregate-write-listing : tie.Need-slice-aggregate-write-listing
+slice-aggregate-write-listing c = sym (length-take-le _ _ (omega (arith, fits (c .before))))
+
+returns : tie.Need-returns
+returns c =
+    let w = c .before .before in
+    let r = w .before .before .before .before .before .before .before .before in
+    let s = r .before .before .before .before .before in
+    let a = s .args in
+    let told = w .before .before .before .cause .given in
+    let is = sym (r .report-into .ensures .0) ∙ told .1 in
+    let made = wrote (found s) (a .unit) (a .prices .now) (a .out .now) (reported.Refused (told .0 .0)) is refl (w .refuse .ensures) in
+    (made .0, (made .1, r .report-into .ensures .1))
+
+returns-2 : tie.Need-returns-2
+returns-2 c =
+    let w = c .before .before .before in
+    let r = w .before .before .before .before .before .before .before .before .before .before .before in
+    let s = r .before .before .before .before .before in
+    let a = s .args in
+    let told = w .before .before .before .before .before .before .report .given in
+    let report = told .0 .0 in
+    let is = sym (r .report-into .ensures .0) ∙ told .1 in
+    let profit = plain-fits {x = report .profit} (record { sfits = w .before .before .before .before .struct-told .given .1 .0 .1 }) in
+    let part = ap (take (report .count)) (r .report-into .ensures .1 .0) ∙ part-counted (found s) (a .unit) (a .prices .now) (a .schedule .now) report is in
+    let same = ap₂ (λ (outputs : List ℕ) (p : ℤ). listing outputs p (report .outcomes)) part profit in
+    let bytes = answered-as {number = 0} refl (c .bytes-in .ensures ∙ ap bytesIn (w .write-listing .ensures .0)) in
+    let made = wrote (found s) (a .unit) (a .prices .now) (a .out .now) (reported.Report report) is same (bytes, w .write-listing .ensures .1) in
+    (made .0, (made .1, r .report-into .ensures .1))
+
+pub report-case-spec : {M : Type 1} → statement M
+report-case-spec =
+    tie.close
+    (tie.spec
+    (λ c κs. search needs) (λ c. search needs) (λ c κs. search needs) (λ c. search needs)
+    slice-reshare-prefix-write-listing
+    slice-aggregate-write-listing
+    (λ c κs. search needs) (λ c κs. search needs) (λ c. search needs) (λ c. search needs) (λ c. search needs)
+    returns
+    (λ c. search needs) (λ c. search needs) (λ c. search needs)
+    returns-2)

@@ -1,0 +1,91 @@
+-- The answer to the text of a case: what is found before anything is written, the lines printed, and what becomes of the slices lent.
+use mathlib.Core.Bool.{Bool, _&&_}
+use mathlib.Core.List.{List, _++_}
+use Prim.Native.Nat.{ℕ, _+_, _*_}
+use lib.Dec.{leb}
+use lib.IntN.{ℤ}
+use lib.ListN.{length}
+use Rattle.commitment.specs.declared.Checked.{Checked}
+use Rattle.commitment.specs.declared.UnitRecord.{UnitRecord}
+use Rattle.commitment.specs.Best.{best}
+use Rattle.commitment.specs.Causes.{numberOf, Check, firstOf}
+use Rattle.commitment.specs.Cells.{cellsNeeded}
+use Rattle.commitment.specs.Valuing.{outcomesOf}
+use Rattle.casefile.specs.Answers.{pricesLeft}
+use Rattle.casefile.specs.Reading.{unitIn, pricesIn, writtenChecks}
+use Rattle.listing.specs.Listing.{listing, refusal, fitted, writtenBy, bytesIn}
+use Rattle.planner.specs.declared.Reported.{Reported}
+use Rattle.planner.specs.declared.Reported.the-variants.{Report, Refused}
+use Rattle.planner.specs.Planning.{slicesChecks, scheduleChecks, plannedPart, scheduleAfter, scratchAfter}
+use Rattle.planner.specs.Reporting.{reportedBy, reportedNumber}
+use Rattle.answers.specs.declared.Answered.{Answered}
+use Rattle.answers.specs.declared.Lent.{Lent}
+
+-- the lengths of the slices lent: prices, scratch, schedule and buffer
+abbrev pub lengths : List ℤ → List ℤ → List ℕ → List ℕ → Lent
+lengths prices scratch schedule out =
+    record { prices = length prices; cells = length scratch; entries = length schedule; bytes = length out }
+
+-- ---- the causes: those of the text, then 7 where a slice is too short, then 8, all before anything is written; then 9
+
+-- the most bytes that a case of so many intervals prints: 9 for a line such as `2976,500`, 136 for headings, profit and outcomes
+abbrev pub mostPrinted : ℕ → ℕ
+mostPrinted n = 9 * n + 136
+
+-- whether price slice, schedule slice and buffer suffice for so many intervals
+abbrev pub longEnough : ℕ → Lent → Bool
+longEnough n lent = leb n (lent .prices) && (leb n (lent .entries) && leb (mostPrinted n) (lent .bytes))
+
+abbrev pub lentChecks : List ℕ → Lent → List Check
+lentChecks text lent =
+    writtenChecks text
+    ++ slicesChecks (unitIn text) (length (pricesIn text)) (longEnough (length (pricesIn text)) lent) (lent .cells)
+
+-- what is found before anything is written, and in all
+unfoldable pub lentFound : List ℕ → Lent → Checked
+lentFound text lent = firstOf (lentChecks text lent)
+
+unfoldable pub allFound : List ℕ → Lent → Checked
+allFound text lent = firstOf (lentChecks text lent ++ scheduleChecks (unitIn text) (pricesIn text))
+
+-- ---- the answer, by what was found of a case
+
+abbrev pub reportFor : Checked → UnitRecord → List ℤ → Reported
+reportFor found u prices = reportedBy found (best u prices) (outcomesOf u prices)
+
+-- a report and the outputs planned: their listing; a refusal: its line
+abbrev pub reportPrinted : Reported → List ℕ → List ℕ
+reportPrinted (Report report) outputs = listing outputs (report .profit) (report .outcomes)
+reportPrinted (Refused cause) outputs = refusal (numberOf cause)
+
+abbrev pub printedFor : Checked → UnitRecord → List ℤ → List ℕ
+printedFor found u prices = reportPrinted (reportFor found u prices) (plannedPart found (best u prices))
+
+-- a number, 0 or the cause's, and the bytes that its lines take of a buffer of so many: none where they do not fit
+abbrev pub answeredIn : ℕ → List ℕ → ℕ → Answered
+answeredIn number lines room = record { number = number; bytes = bytesIn (writtenBy (fitted (length lines) room)) }
+
+abbrev pub answeredFor : Checked → UnitRecord → List ℤ → ℕ → Answered
+answeredFor found u prices room = answeredIn (reportedNumber (reportFor found u prices)) (printedFor found u prices) room
+
+-- ---- of a text
+
+abbrev pub reportOn : List ℕ → Lent → Reported
+reportOn text lent = reportFor (allFound text lent) (unitIn text) (pricesIn text)
+
+unfoldable pub answered : List ℕ → Lent → Answered
+answered text lent = answeredFor (allFound text lent) (unitIn text) (pricesIn text) (lent .bytes)
+
+unfoldable pub printed : List ℕ → Lent → List ℕ
+printed text lent = printedFor (allFound text lent) (unitIn text) (pricesIn text)
+
+-- ---- the slices: as they were where the text is refused before the work, prices read and needed cells 0 after it, the plan in front of the schedule slice
+
+abbrev pub pricesAfter : List ℕ → Lent → List ℤ → List ℤ
+pricesAfter text lent was = pricesLeft (lentFound text lent) (pricesIn text) was
+
+abbrev pub scheduleAnswered : List ℕ → Lent → List ℕ → List ℕ
+scheduleAnswered text lent was = scheduleAfter (allFound text lent) (best (unitIn text) (pricesIn text)) was
+
+abbrev pub scratchAnswered : List ℕ → Lent → List ℤ → List ℤ
+scratchAnswered text lent was = scratchAfter (lentFound text lent) (cellsNeeded (unitIn text) (length (pricesIn text))) was

@@ -1,0 +1,2 @@
+-- Reading: what is known of the bytes that were read.
+pub mod Reading
