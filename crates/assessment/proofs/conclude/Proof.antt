@@ -5,8 +5,6 @@ use Rattle.assessment.specs.Walking.{concluded}
 use Rattle.assessment.proofs.conclude.Statement.{statement}
 use Rattle.assessment.proofs.conclude.Tie as tie
 
--- By cases on how the walk ended.
-
 returns : tie.Need-returns
 returns c = c .settle .ensures ∙ ap (concluded (c .before .before .before .before .args .unit)) (sym (c .before .before .walked .given .1))
 

@@ -6,8 +6,6 @@ use Rattle.assessment.specs.Assessed.{assessedProfit}
 use Rattle.assessment.proofs.profit_of.Statement.{statement}
 use Rattle.assessment.proofs.profit_of.Tie as tie
 
--- By cases on the answer.
-
 returns : tie.Need-returns
 returns c = plain-fits (record { sfits = c .known-told .given .0 .1 }) ∙ ap assessedProfit (sym (c .before .answer .given .1))
 

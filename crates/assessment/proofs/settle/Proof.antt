@@ -20,13 +20,13 @@ kept : (c : tie.After-within-limit3) →
 kept c = sym (ap₂ _&&_ (ap₂ _&&_ (c .before .before .within-limit .ensures) (c .before .within-limit2 .ensures)) (c .within-limit3 .ensures))
 
 within-limit-requires : tie.Need-within-limit-requires
-within-limit-requires c κs = (omega arith, limit-small (c .before .args .unit) (c .before .pre) Starts)
+within-limit-requires c κs = let s = c .before in (omega arith, limit-small (s .args .unit) (s .pre) Starts)
 
 within-limit-requires-2 : tie.Need-within-limit-requires-2
-within-limit-requires-2 c κs = (omega arith, limit-small (c .before .before .args .unit) (c .before .before .pre) Hours)
+within-limit-requires-2 c κs = let s = c .before .before in (omega arith, limit-small (s .args .unit) (s .pre) Hours)
 
 within-limit-requires-3 : tie.Need-within-limit-requires-3
-within-limit-requires-3 c κs = (omega arith, limit-small (c .before .before .before .args .unit) (c .before .before .before .pre) Mwh)
+within-limit-requires-3 c κs = let s = c .before .before .before in (omega arith, limit-small (s .args .unit) (s .pre) Mwh)
 
 returns : tie.Need-returns
 returns c =

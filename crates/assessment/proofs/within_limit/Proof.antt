@@ -10,10 +10,6 @@ use Rattle.commitment.specs.Limits.{within, limitKept}
 use Rattle.assessment.proofs.within_limit.Statement.{statement}
 use Rattle.assessment.proofs.within_limit.Tie as tie
 
--- The product of a figure in range with 1 or 4 fits.
-
--- The product of a figure in range with 1 or 4 fits.
-
 mul-result : tie.Need-mul-result
 mul-result c =
     let s = c .before .before .before in
@@ -22,7 +18,7 @@ mul-result c =
     omega (arith, mul-le-mul (s .pre .0) small)
 
 returns-2 : tie.Need-returns-2
-returns-2 c = ap (within (c .before .before .before .args .worth) (c .before .before .before .args .count)) (sym (c .before .limit .given .1))
+returns-2 c = let a = c .before .before .before .args in ap (within (a .worth) (a .count)) (sym (c .before .limit .given .1))
 
 pub within-limit-spec : {M : Type 1} → statement M
 within-limit-spec =
