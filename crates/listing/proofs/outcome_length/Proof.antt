@@ -10,8 +10,6 @@ use borrow.Author.Needs.{needs}
 use Rattle.listing.proofs.outcome_length.Statement.{statement}
 use Rattle.listing.proofs.outcome_length.Tie as tie
 
--- By cases on the outcome.
-
 returns-4 : tie.Need-returns-4
 returns-4 c =
     let z = c .before .before .outcome .given in

@@ -14,9 +14,6 @@ parts : (c : tie.Start)
     → length (closed (c .args .name .now ++ outcomeText (c .args .outcome))) ≡ length (c .args .name .now) + length (outcomeText (c .args .outcome)) + 1
 parts c = simp length-append (omega arith)
 
-put-text-requires : tie.Need-put-text-requires
-put-text-requires c κs = omega (arith, parts (c .before .before .before), c .before .before .before .pre)
-
 put-outcome-requires : tie.Need-put-outcome-requires
 put-outcome-requires c κs =
     let name = c .before .before .before in
@@ -43,4 +40,9 @@ returns c =
 pub put-outcome-line-spec : {M : Type 1} → statement M
 put-outcome-line-spec =
     tie.close
-    (tie.spec put-text-requires put-outcome-requires put-byte-requires (λ c. search needs) returns)
+    (tie.spec
+    (λ c κs. omega (arith, parts (c .before .before .before)))
+    put-outcome-requires
+    put-byte-requires
+    (λ c. search needs)
+    returns)

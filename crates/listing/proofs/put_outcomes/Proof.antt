@@ -23,9 +23,6 @@ parts c =
     let rest = line hoursLead (o .hours) ++ line mwhLead (o .mwh) in
     omega (arith, length-append (line startsLead (o .starts)) rest, length-append (line hoursLead (o .hours)) (line mwhLead (o .mwh)))
 
-put-outcome-line-requires : tie.Need-put-outcome-line-requires
-put-outcome-line-requires c κs = omega (arith, parts (c .before .before .before), c .before .before .before .pre)
-
 put-outcome-line-requires-2 : tie.Need-put-outcome-line-requires-2
 put-outcome-line-requires-2 c κs =
     let first = c .before .before .before .before in
@@ -54,7 +51,7 @@ put-outcomes-spec =
     tie.close
     (tie.spec
     (λ c. search needs)
-    put-outcome-line-requires
+    (λ c κs. omega (arith, parts (c .before .before .before)))
     (λ c. search needs)
     put-outcome-line-requires-2
     (λ c. search needs)

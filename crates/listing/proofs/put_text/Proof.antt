@@ -27,7 +27,7 @@ loop-holds : tie.Need-loop-holds Inv-loop μ-loop
 loop-holds c = (omega arith, copied-none (c .args .out .now) (c .args .at) (c .args .text .now) (c .pre))
 
 add-out : tie.Need-add-out Inv-loop μ-loop
-add-out c = omega (arith, c .before .before .before .pre, c .before .before .before .good .0 .0)
+add-out c = let s = c .before .before .before in omega (arith, s .pre, s .good .0 .0)
 
 slice-write-out : tie.Need-slice-write-out Inv-loop μ-loop
 slice-write-out c = omega (arith, c .before .before .before .pre, out-length (c .before .before))
@@ -41,7 +41,7 @@ loop-again c =
     (omega arith, one ∙ copied-next (s .args .out .now) (s .args .at) text (s .pre) (l .i) (omega arith))
 
 add-result : tie.Need-add-result Inv-loop μ-loop
-add-result c = omega (arith, c .before .before .pre, c .before .before .good .0 .0)
+add-result c = let s = c .before .before in omega (arith, s .pre, s .good .0 .0)
 
 same-length : tie.Need-same-length Inv-loop μ-loop
 same-length c = out-length (c .before)
