@@ -6,8 +6,6 @@ use borrow.Author.Needs.{needs}
 use Rattle.planner.proofs.answers.plan_of.Statement.{statement}
 use Rattle.planner.proofs.answers.plan_of.Tie as tie
 
--- By cases on the report.
-
 returns : tie.Need-returns
 returns c =
     let z = c .before .before .answer .given in
