@@ -34,10 +34,10 @@ pub record Bounded (i : ℕ) (at : Walk) : Type 0 where
 pub bounded-small : (i : ℕ) (at : Walk) → i ≤ mostIntervals → Bounded i at → Small at
 bounded-small i at h b =
     record {
-      spent = omega (arith, b .spent);
-      starts = omega (arith, b .starts);
-      running = omega (arith, b .running);
-      output = omega (arith, b .output);
+      spent = omega arith;
+      starts = omega arith;
+      running = omega arith;
+      output = omega arith;
       profit = omega (arith, abs-within (b .profit));
     }
 
@@ -45,8 +45,10 @@ module _ (u : UnitRecord) (ranges : rangesKept u ≡ true) (shape : shapeKept (u
   pub output-most : (m : ℕ) → isOutput (u .generator) m ≡ true → m ≤ mostMw
   output-most zero e = omega arith
   output-most (suc m) e =
-      let f = both (eqb (suc m % u .generator .block) 0 && leb (u .generator .pmin * u .generator .block) (suc m)) (leb (suc m) (u .generator .pmax * u .generator .block)) e in
-      omega (arith, leb-true (suc m) (u .generator .pmax * u .generator .block) (f .1), in-shape (u .generator) shape .most)
+      let g = u .generator in
+      let top = g .pmax * g .block in
+      let f = both (eqb (suc m % g .block) 0 && leb (g .pmin * g .block) (suc m)) (leb (suc m) top) e in
+      omega (arith, leb-true (suc m) top (f .1), in-shape g shape .most)
 
   pub opening-bounded : Bounded 0 (openingWalk (u .opening))
   opening-bounded =
@@ -78,23 +80,21 @@ module _ (u : UnitRecord) (ranges : rangesKept u ≡ true) (shape : shapeKept (u
       kept = within-weaken (omega arith) (b .profit)
 
       go : (on : Bool) (m : ℕ) → m ≤ mostMw → Bounded (i + 1) (advanced u at price on m)
-      go true zero o =
-          record { spent = omega arith; starts = omega (arith, b .starts); running = omega (arith, b .running); output = omega (arith, b .output); profit = kept }
-      go false zero o =
-          record { spent = omega (arith, b .spent); starts = omega (arith, b .starts); running = omega (arith, b .running); output = omega (arith, b .output); profit = kept }
+      go true zero o = record { spent = omega arith; starts = omega arith; running = omega arith; output = omega arith; profit = kept }
+      go false zero o = record { spent = omega arith; starts = omega arith; running = omega arith; output = omega arith; profit = kept }
       go true (suc m) o =
           record {
-            spent = omega (arith, b .spent);
-            starts = omega (arith, b .starts);
-            running = omega (arith, b .running);
-            output = omega (arith, b .output);
+            spent = omega arith;
+            starts = omega arith;
+            running = omega arith;
+            output = omega arith;
             profit = within-weaken (omega arith) (within-sum (b .profit) (earned-within price m p o));
           }
       go false (suc m) o =
           record {
             spent = omega arith;
-            starts = omega (arith, b .starts);
-            running = omega (arith, b .running);
-            output = omega (arith, b .output);
+            starts = omega arith;
+            running = omega arith;
+            output = omega arith;
             profit = within-weaken (omega arith) (within-sum (b .profit) (within-diff (earned-within price m p o) start-within));
           }

@@ -39,12 +39,15 @@ module _ (u : UnitRecord) where
         after false h = ap (λ (b : Bool). cond b (rested at 1) (rested at (at .spent + 1))) h
     step-off t (suc m) h e = absurd (omega arith)
 
+    abbrev gain : ℕ → ℤ
+    gain m = margin price m (u .costs .vec) (u .generator .pmin * u .generator .block) (u .costs .mlc)
+
     -- on for one interval more, and on for the first
     abbrev on-more : ℕ → Walk
-    on-more m = ran at (at .spent + 1) (at .starts) m (margin price m (u .costs .vec) (u .generator .pmin * u .generator .block) (u .costs .mlc))
+    on-more m = ran at (at .spent + 1) (at .starts) m (gain m)
 
     abbrev on-first : ℕ → Walk
-    on-first m = ran at 1 (at .starts + 1) m (margin price m (u .costs .vec) (u .generator .pmin * u .generator .block) (u .costs .mlc) -ℤ pos (startCost (u .costs)))
+    on-first m = ran at 1 (at .starts + 1) m (gain m -ℤ pos (startCost (u .costs)))
 
     pub step-on : (t : Bool) (m : ℕ) → at .on ≡ t → (m ≡ 0 → ⊥) → stepped u at price m ≡ cond t (on-more m) (on-first m)
     unfolding stepped

@@ -16,7 +16,8 @@ use Rattle.commitment.specs.declared.Cause.the-variants.{NotKept}
 use Rattle.commitment.specs.declared.Checked.the-variants.{Passed}
 use Rattle.commitment.specs.declared.UnitRecord.{UnitRecord}
 use Rattle.commitment.specs.Causes.{unless}
-use Rattle.commitment.specs.Keeping.{wasOn, startsIn, runsLast, spellsLast, onIntervals, outputSum, keepsStarts, keepsRuns, keepsSpells, keepsHours, keepsMwh, keepsCase}
+use Rattle.commitment.specs.Keeping.{wasOn, startsIn, runsLast, spellsLast, onIntervals, outputSum}
+use Rattle.commitment.specs.Keeping.{keepsStarts, keepsRuns, keepsSpells, keepsHours, keepsMwh, keepsCase}
 use Rattle.commitment.specs.Profit.{earned, earnedIn, startCost, profit}
 use Rattle.lists.specs.Every.{every}
 use Rattle.commitment.specs.Schedule.{isOutput, isSchedule}
@@ -32,17 +33,36 @@ abbrev standing : Bool → ℕ → ℕ → ℕ → ℕ → ℤ → Walk
 standing on spent starts running output p =
     record { on = on; spent = spent; starts = starts; running = running; output = output; profit = p }
 
+-- no interval more brings nothing
+no-gain : (p : ℤ) (k : ℕ) → p +ℤ (pos 0 -ℤ pos (k * 0)) ≡ p
+no-gain p k =
+    omega (zarith, zdiff (pos 0) (pos (k * 0)), zsum p (pos 0 -ℤ pos (k * 0)), up-pos 0, dn-pos 0, up-pos (k * 0), dn-pos (k * 0))
+
 -- one interval's gain in front of the rest
-gain-next : (p g rest : ℤ) (k n : ℕ) → p +ℤ (g +ℤ rest -ℤ pos (k * n)) ≡ (p +ℤ g) +ℤ (rest -ℤ pos (k * n))
-gain-next p g rest k n =
+gain-next : (p g rest cost : ℤ) → p +ℤ (g +ℤ rest -ℤ cost) ≡ (p +ℤ g) +ℤ (rest -ℤ cost)
+gain-next p g rest cost =
     omega
-    (zarith, zsum g rest, zdiff (g +ℤ rest) (pos (k * n)), zsum p (g +ℤ rest -ℤ pos (k * n)), zsum p g, zdiff rest (pos (k * n)), zsum (p +ℤ g) (rest -ℤ pos (k * n)))
+    (zarith, zsum g rest, zdiff (g +ℤ rest) cost, zsum p (g +ℤ rest -ℤ cost), zsum p g, zdiff rest cost, zsum (p +ℤ g) (rest -ℤ cost))
 
 -- and where it is a start
 gain-start : (p g rest : ℤ) (k n : ℕ) → p +ℤ (g +ℤ rest -ℤ pos (k * suc n)) ≡ (p +ℤ (g -ℤ pos k)) +ℤ (rest -ℤ pos (k * n))
 gain-start p g rest k n =
-    omega
-    (zarith, zsum g rest, zdiff (g +ℤ rest) (pos (k * suc n)), zsum p (g +ℤ rest -ℤ pos (k * suc n)), zdiff g (pos k), zsum p (g -ℤ pos k), zdiff rest (pos (k * n)), zsum (p +ℤ (g -ℤ pos k)) (rest -ℤ pos (k * n)), up-pos (k * suc n), dn-pos (k * suc n), up-pos k, dn-pos k, up-pos (k * n), dn-pos (k * n))
+    omega (
+      zarith,
+      zsum g rest,
+      zdiff (g +ℤ rest) (pos (k * suc n)),
+      zsum p (g +ℤ rest -ℤ pos (k * suc n)),
+      zdiff g (pos k),
+      zsum p (g -ℤ pos k),
+      zdiff rest (pos (k * n)),
+      zsum (p +ℤ (g -ℤ pos k)) (rest -ℤ pos (k * n)),
+      up-pos (k * suc n),
+      dn-pos (k * suc n),
+      up-pos k,
+      dn-pos k,
+      up-pos (k * n),
+      dn-pos (k * n),
+    )
 
 -- the tests of the first interval, pulled to the front
 pull-run : (o t e r z : Bool) → (o && e && (t && r) && z) ≡ (o && t && (e && r && z))
@@ -78,20 +98,21 @@ module _ (u : UnitRecord) where
 
   -- ---- one interval of the walk over two slices
 
+  -- the walk from the interval behind i
+  abbrev next : Walk → List ℤ → List ℕ → ℕ → Walked
+  next at prices s i = walkFrom u (stepped u at (getD prices i (pos 0)) (getD s i 0)) (drop (i + 1) prices) (drop (i + 1) s)
+
   walk-next : (at : Walk) (prices : List ℤ) (s : List ℕ) (i : ℕ) → i < length prices → i < length s
-      → walkFrom u at (drop i prices) (drop i s)
-      ≡ cond (mayFollow u at (getD s i 0)) (walkFrom u (stepped u at (getD prices i (pos 0)) (getD s i 0)) (drop (i + 1) prices) (drop (i + 1) s)) Broken
+      → walkFrom u at (drop i prices) (drop i s) ≡ cond (mayFollow u at (getD s i 0)) (next at prices s i) Broken
   walk-next at prices s i h k = rw (drop-next prices i (pos 0) h, drop-next s i 0 k)
 
   pub walk-on : (at : Walk) (prices : List ℤ) (s : List ℕ) (i : ℕ) → i < length prices → i < length s → mayFollow u at (getD s i 0) ≡ true
-      → walkFrom u (stepped u at (getD prices i (pos 0)) (getD s i 0)) (drop (i + 1) prices) (drop (i + 1) s) ≡ walkFrom u at (drop i prices) (drop i s)
-  walk-on at prices s i h k e =
-      sym (walk-next at prices s i h k ∙ ap (λ (t : Bool). cond t (walkFrom u (stepped u at (getD prices i (pos 0)) (getD s i 0)) (drop (i + 1) prices) (drop (i + 1) s)) Broken) e)
+      → next at prices s i ≡ walkFrom u at (drop i prices) (drop i s)
+  walk-on at prices s i h k e = sym (walk-next at prices s i h k ∙ ap (λ (t : Bool). cond t (next at prices s i) Broken) e)
 
   pub walk-broken : (at : Walk) (prices : List ℤ) (s : List ℕ) (i : ℕ) → i < length prices → i < length s → mayFollow u at (getD s i 0) ≡ false
       → walkFrom u at (drop i prices) (drop i s) ≡ Broken
-  walk-broken at prices s i h k e =
-      walk-next at prices s i h k ∙ ap (λ (t : Bool). cond t (walkFrom u (stepped u at (getD prices i (pos 0)) (getD s i 0)) (drop (i + 1) prices) (drop (i + 1) s)) Broken) e
+  walk-broken at prices s i h k e = walk-next at prices s i h k ∙ ap (λ (t : Bool). cond t (next at prices s i) Broken) e
 
   pub walk-done : (at : Walk) (prices : List ℤ) (s : List ℕ) (i : ℕ) → length prices ≤ i → walkFrom u at (drop i prices) (drop i s) ≡ Whole at
   walk-done at prices s i h = rw (drop-of-length-le prices {i = i} h)
@@ -99,7 +120,8 @@ module _ (u : UnitRecord) where
   -- ---- what the walk concludes
 
   -- an interval that may follow where t holds, before a rest that ends in a
-  lead : (t g : Bool) (w : Walked) (a b : Assessed) → concluded u w ≡ cond g a (Refused NotKept) → a ≡ b → concluded u (cond t w Broken) ≡ cond (t && g) b (Refused NotKept)
+  lead : (t g : Bool) (w : Walked) (a b : Assessed) → concluded u w ≡ cond g a (Refused NotKept) → a ≡ b
+      → concluded u (cond t w Broken) ≡ cond (t && g) b (Refused NotKept)
   lead true g w a b e f = e ∙ ap (λ (x : Assessed). cond g x (Refused NotKept)) f
   lead false g w a b e f = refl
 
@@ -112,38 +134,55 @@ module _ (u : UnitRecord) where
       ≡ cond (lasting on spent s)
       (settled (u .limits) (starts + startsIn on s) (running + onIntervals s) (output + outputSum s) (p +ℤ profitFrom on prices s)) (Refused NotKept)
   unfolding mayFollow stepped
-  walk-from on spent starts running output p [] [] e =
-      let f : p +ℤ (pos 0 -ℤ pos (startCost (u .costs) * 0)) ≡ p = omega (zarith, zdiff (pos 0) (pos (startCost (u .costs) * 0)), zsum p (pos 0 -ℤ pos (startCost (u .costs) * 0)), up-pos 0, dn-pos 0, up-pos (startCost (u .costs) * 0), dn-pos (startCost (u .costs) * 0)) in
-      simp (add-zero, f)
+  walk-from on spent starts running output p [] [] e = simp (add-zero, no-gain p (startCost (u .costs)))
   walk-from on spent starts running output p [] (m ∷ s) e = absurd (omega arith)
   walk-from on spent starts running output p (l ∷ ls) [] e = absurd (omega arith)
   walk-from true spent starts running output p (l ∷ ls) (zero ∷ s) e =
-      rw (pull-run true (leb (u .generator .mot) spent) (every (isOutput (u .generator)) s) (runsLast (u .generator .mot) false 1 s) (spellsLast (u .generator .mdt) false 1 s))
-      (lead (leb (u .generator .mot) spent) (lasting false 1 s) (walkFrom u (standing false 1 starts running output p) ls s) _ _
+      let g = u .generator in
+      rw (pull-run true (leb (g .mot) spent) (every (isOutput g) s) (runsLast (g .mot) false 1 s) (spellsLast (g .mdt) false 1 s))
+      (lead (leb (g .mot) spent) (lasting false 1 s) (walkFrom u (standing false 1 starts running output p) ls s) _ _
       (walk-from false 1 starts running output p ls s (omega arith))
-      (rw (zero-add (outputSum s), +ℤ-idl (earnedIn (u .generator) (u .costs) ls s))))
+      (rw (zero-add (outputSum s), +ℤ-idl (earnedIn g (u .costs) ls s))))
   walk-from false spent starts running output p (l ∷ ls) (zero ∷ s) e =
-      rw (zero-add (outputSum s), +ℤ-idl (earnedIn (u .generator) (u .costs) ls s), ← add-one spent) (walk-from false (spent + 1) starts running output p ls s (omega arith))
+      rw (zero-add (outputSum s), +ℤ-idl (earnedIn (u .generator) (u .costs) ls s), ← add-one spent)
+      (walk-from false (spent + 1) starts running output p ls s (omega arith))
   walk-from true spent starts running output p (l ∷ ls) (suc m ∷ s) e =
-      rw
-      (← add-one spent, pull-run (isOutput (u .generator) (suc m)) true (every (isOutput (u .generator)) s) (runsLast (u .generator .mot) true (spent + 1) s) (spellsLast (u .generator .mdt) true (spent + 1) s))
-      (lead (isOutput (u .generator) (suc m) && true) (lasting true (spent + 1) s) (walkFrom u (standing true (spent + 1) starts (running + 1) (output + suc m) (p +ℤ earned (u .generator) (u .costs) l (suc m))) ls s) _ _
-      (walk-from true (spent + 1) starts (running + 1) (output + suc m) (p +ℤ earned (u .generator) (u .costs) l (suc m)) ls s (omega arith))
-      (same-totals refl (omega arith) (omega arith) (sym (gain-next p (earned (u .generator) (u .costs) l (suc m)) (earnedIn (u .generator) (u .costs) ls s) (startCost (u .costs)) (startsIn true s)))))
+      let g = u .generator in
+      let runs = runsLast (g .mot) true (spent + 1) s in
+      let gain = earned g (u .costs) l (suc m) in
+      let later = pos (startCost (u .costs) * startsIn true s) in
+      rw (← add-one spent, pull-run (isOutput g (suc m)) true (every (isOutput g) s) runs (spellsLast (g .mdt) true (spent + 1) s))
+      (lead (isOutput g (suc m) && true) (lasting true (spent + 1) s)
+      (walkFrom u (standing true (spent + 1) starts (running + 1) (output + suc m) (p +ℤ gain)) ls s) _ _
+      (walk-from true (spent + 1) starts (running + 1) (output + suc m) (p +ℤ gain) ls s (omega arith))
+      (same-totals refl (omega arith) (omega arith) (sym (gain-next p gain (earnedIn g (u .costs) ls s) later))))
   walk-from false spent starts running output p (l ∷ ls) (suc m ∷ s) e =
-      rw (pull-spell (isOutput (u .generator) (suc m)) (leb (u .generator .mdt) spent) (every (isOutput (u .generator)) s) (runsLast (u .generator .mot) true 1 s) (spellsLast (u .generator .mdt) true 1 s))
-      (lead (isOutput (u .generator) (suc m) && leb (u .generator .mdt) spent) (lasting true 1 s) (walkFrom u (standing true 1 (starts + 1) (running + 1) (output + suc m) (p +ℤ (earned (u .generator) (u .costs) l (suc m) -ℤ pos (startCost (u .costs))))) ls s) _ _
-      (walk-from true 1 (starts + 1) (running + 1) (output + suc m) (p +ℤ (earned (u .generator) (u .costs) l (suc m) -ℤ pos (startCost (u .costs)))) ls s (omega arith))
-      (same-totals (omega arith) (omega arith) (omega arith) (sym (gain-start p (earned (u .generator) (u .costs) l (suc m)) (earnedIn (u .generator) (u .costs) ls s) (startCost (u .costs)) (startsIn true s)))))
+      let g = u .generator in
+      let cost = startCost (u .costs) in
+      let gain = earned g (u .costs) l (suc m) in
+      let starting = p +ℤ (gain -ℤ pos cost) in
+      let rest = earnedIn g (u .costs) ls s in
+      rw (pull-spell (isOutput g (suc m)) (leb (g .mdt) spent) (every (isOutput g) s) (runsLast (g .mot) true 1 s) (spellsLast (g .mdt) true 1 s))
+      (lead (isOutput g (suc m) && leb (g .mdt) spent) (lasting true 1 s)
+      (walkFrom u (standing true 1 (starts + 1) (running + 1) (output + suc m) starting) ls s) _ _
+      (walk-from true 1 (starts + 1) (running + 1) (output + suc m) starting ls s (omega arith))
+      (same-totals (omega arith) (omega arith) (omega arith) (sym (gain-start p gain rest cost (startsIn true s)))))
 
   -- what the walk over a whole schedule concludes is what the definitions say
   pub walk-is : (prices : List ℤ) (s : List ℕ) → length s ≡ length prices
       → concluded u (walkFrom u (openingWalk (u .opening)) prices s)
       ≡ assessedBy (unless (isSchedule (u .generator) (length prices) s && keepsCase u s) NotKept Passed) (profit u prices s)
   walk-is prices s e =
-      walk-from (wasOn (u .opening)) (u .opening .held) 0 0 0 (pos 0) prices s e
-      ∙ rw
-      (zero-add (startsIn (wasOn (u .opening)) s), zero-add (onIntervals s), zero-add (outputSum s), +ℤ-idl (profitFrom (wasOn (u .opening)) prices s), eq-eqb (length s) (length prices) e)
-      (told (lasting (wasOn (u .opening)) (u .opening .held) s) (keepsStarts u s && keepsHours u s && keepsMwh u s) (profit u prices s)
+      let was = wasOn (u .opening) in
+      let totals = keepsStarts u s && keepsHours u s && keepsMwh u s in
+      walk-from was (u .opening .held) 0 0 0 (pos 0) prices s e
+      ∙ rw (
+        zero-add (startsIn was s),
+        zero-add (onIntervals s),
+        zero-add (outputSum s),
+        +ℤ-idl (profitFrom was prices s),
+        eq-eqb (length s) (length prices) e,
+      )
+      (told (lasting was (u .opening .held) s) totals (profit u prices s)
       ∙ ap (λ (t : Bool). assessedBy (unless t NotKept Passed) (profit u prices s))
       (in-order (keepsStarts u s) (keepsRuns u s) (keepsSpells u s) (keepsHours u s) (keepsMwh u s) (every (isOutput (u .generator)) s)))

@@ -74,7 +74,9 @@ pub fn profit_of(answer: Assessed) -> i64
 
 fn of_case(unit: UnitRecord, prices: &[i64], schedule: &[u64]) -> Assessed
     requires { ⌜ caseChecked unit (pricesKept (now prices)) (length (now prices)) ≡ checked.Passed ⌝ }
-    ensures { λ r. ⌜ r ≡ assessedBy (handedIn unit (now (prices .entry)) (now (schedule .entry))) (profits.profit unit (now (prices .entry)) (now (schedule .entry))) ⌝ }
+    ensures { λ r. ⌜ r ≡ assessedBy
+        (handedIn unit (now (prices .entry)) (now (schedule .entry)))
+        (profits.profit unit (now (prices .entry)) (now (schedule .entry))) ⌝ }
 {
     if schedule.len() != prices.len() {
         return Assessed::Refused(Cause::Length);

@@ -23,7 +23,8 @@ use Rattle.optimality.specs.declared.Cell.{Cell}
 use Rattle.commitment.specs.declared.BestProfit.{BestProfit}
 use Rattle.commitment.specs.declared.BestProfit.the-variants.{Nothing, Profit}
 use Rattle.optimality.specs.Machine.{go, allow, more, valueAlong}
-use Rattle.optimality.specs.Cells.{Sound, InTable, states, afterOff, afterOn, startTakes, startPays, mayRun, gain, offCell, onCell, rungs, valueAt, offValue, onValue, onBest}
+use Rattle.optimality.specs.Cells.{Sound, InTable, states, afterOff, afterOn, startTakes, startPays, mayRun, gain}
+use Rattle.optimality.specs.Cells.{offCell, onCell, rungs, valueAt, offValue, onValue, onBest}
 use Rattle.optimality.proofs.Turns.{value-turn, may-not-run, off-in-table, on-in-table}
 use Rattle.geometry.specs.Layers.{infeasible, swing, Holds, Layer, mostPays}
 use Rattle.layers.specs.Turns.{net, slope, raised, offStored, roomFor, onStored, cellStored}

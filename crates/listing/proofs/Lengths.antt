@@ -9,7 +9,8 @@ use Rattle.commitment.specs.declared.Outcome.{Outcome}
 use Rattle.commitment.specs.declared.Outcome.the-variants.{None, Empty, Never, Gap}
 use Rattle.commitment.specs.declared.Outcomes.{Outcomes}
 use Rattle.listing.specs.Numbers.{number, signedNumber}
-use Rattle.listing.specs.Listing.{outcomeText, closed, intervalHeading, valueHeading, profitLead, startsLead, hoursLead, mwhLead, intervalLine, intervalLines, profitLine, outcomeLines, listing, refusedLead, refusal}
+use Rattle.listing.specs.Listing.{outcomeText, closed, profitLead, refusedLead}
+use Rattle.listing.specs.Listing.{intervalLine, intervalLines, profitLine, outcomeLines, listing, refusal}
 use Rattle.listing.proofs.Numbers.{number-short}
 
 pub signed-short : (x : ℤ) → length (signedNumber x) ≤ 21
@@ -33,16 +34,12 @@ profit-length p = omega (arith, closed-length profitLead (signedNumber p))
 
 pub outcomes-length : (o : Outcomes)
     → length (outcomeLines o) ≡ 20 + length (outcomeText (o .starts)) + length (outcomeText (o .hours)) + length (outcomeText (o .mwh))
-outcomes-length o =
-    omega
-    (arith, length-append (closed (startsLead ++ outcomeText (o .starts))) (closed (hoursLead ++ outcomeText (o .hours)) ++ closed (mwhLead ++ outcomeText (o .mwh))), length-append (closed (hoursLead ++ outcomeText (o .hours))) (closed (mwhLead ++ outcomeText (o .mwh))), closed-length startsLead (outcomeText (o .starts)), closed-length hoursLead (outcomeText (o .hours)), closed-length mwhLead (outcomeText (o .mwh)))
+outcomes-length o = simp length-append (omega arith)
 
 pub listing-length : (s : List ℕ) (p : ℤ) (o : Outcomes)
     → length (listing s p o) ≡ length (intervalLines 1 s) + (24 + (length (profitLine p) + length (outcomeLines o)))
 unfolding listing
-listing-length s p o =
-    omega
-    (arith, length-append intervalHeading (intervalLines 1 s ++ (valueHeading ++ (profitLine p ++ outcomeLines o))), length-append (intervalLines 1 s) (valueHeading ++ (profitLine p ++ outcomeLines o)), length-append valueHeading (profitLine p ++ outcomeLines o), length-append (profitLine p) (outcomeLines o))
+listing-length s p o = simp length-append (omega arith)
 
 pub refusal-length : (n : ℕ) → length (refusal n) ≡ 9 + length (number n)
 unfolding refusal

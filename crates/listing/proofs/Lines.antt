@@ -28,7 +28,10 @@ module _ (s : List ℕ) (i : ℕ) where
 
   pub lines-short : length (intervalLines 1 (take i s)) ≤ length (intervalLines 1 s)
   lines-short =
-      let e = lines-split 1 (take i s) (drop i s) in
-      let whole : length (intervalLines 1 s) ≡ length (intervalLines 1 (take i s)) + length (intervalLines (1 + length (take i s)) (drop i s)) =
-      ap (λ (l : List ℕ). length (intervalLines 1 l)) (sym (take-append-drop i s)) ∙ ap length e ∙ length-append (intervalLines 1 (take i s)) (intervalLines (1 + length (take i s)) (drop i s)) in
+      let front = intervalLines 1 (take i s) in
+      let rest = intervalLines (1 + length (take i s)) (drop i s) in
+      let whole : length (intervalLines 1 s) ≡ length front + length rest =
+      ap (λ (l : List ℕ). length (intervalLines 1 l)) (sym (take-append-drop i s))
+      ∙ ap length (lines-split 1 (take i s) (drop i s))
+      ∙ length-append front rest in
       omega arith

@@ -40,7 +40,8 @@ unfolding written
 put-none b at = record { place = sym (add-zero at); bytes = sym (rw (add-zero at) (take-append-drop at b)) }
 
 -- a text after another, as what the two calls give
-pub put-then : {b : List ℕ} {at : ℕ} {s : List ℕ} {p : ℕ} {c t : List ℕ} {q : ℕ} {d : List ℕ} → at + length s + length t ≤ length b → Put b at s p c → Put c p t q d → Put b at (s ++ t) q d
+pub put-then : {b : List ℕ} {at : ℕ} {s : List ℕ} {p : ℕ} {c t : List ℕ} {q : ℕ} {d : List ℕ} → at + length s + length t ≤ length b
+    → Put b at s p c → Put c p t q d → Put b at (s ++ t) q d
 put-then {b} {at} {s} {p} {c} {t} {q} {d} h f g =
     let e : length (s ++ t) ≡ length s + length t = length-append s t in
     record {

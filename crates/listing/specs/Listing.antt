@@ -64,7 +64,8 @@ profitLine profit = closed (profitLead ++ signedNumber profit)
 
 abbrev pub outcomeLines : Outcomes → List ℕ
 outcomeLines outcomes =
-    closed (startsLead ++ outcomeText (outcomes .starts)) ++ (closed (hoursLead ++ outcomeText (outcomes .hours)) ++ closed (mwhLead ++ outcomeText (outcomes .mwh)))
+    closed (startsLead ++ outcomeText (outcomes .starts))
+    ++ (closed (hoursLead ++ outcomeText (outcomes .hours)) ++ closed (mwhLead ++ outcomeText (outcomes .mwh)))
 
 -- interval and MW, then profit and the three outcomes
 unfoldable pub listing : List ℕ → ℤ → Outcomes → List ℕ

@@ -9,7 +9,8 @@ ghost use lib.IntN.{natAbs};
 ghost use lib.ListN.{length};
 ghost use mathlib.Core.List.{[], _∷_, _++_};
 ghost use Rattle.listing.specs.Numbers.{number, signedNumber};
-ghost use Rattle.listing.specs.Listing.{outcomeText, closed, intervalLine, intervalLines, profitLine, outcomeLines, listing, refusal, fitted, writtenBy, bufferAfter, bytesIn};
+ghost use Rattle.listing.specs.Listing.{outcomeText, closed, intervalLine, intervalLines, profitLine, outcomeLines, listing, refusal};
+ghost use Rattle.listing.specs.Listing.{fitted, writtenBy, bufferAfter, bytesIn};
 ghost use Rattle.listing.specs.Writing.{Put, written};
 
 // What writing answers: so many bytes from the front, or 7 for a buffer too short.

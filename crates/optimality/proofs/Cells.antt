@@ -18,7 +18,8 @@ use Rattle.lists.proofs.Conjunctions.{both}
 use Rattle.optimality.specs.declared.Figures.{Figures}
 use Rattle.optimality.specs.declared.Cell.{Cell}
 use Rattle.optimality.specs.Machine.{go, anywhere, bestFrom}
-use Rattle.optimality.specs.Cells.{takenOf, figuresWith, states, afterOff, afterOn, startTakes, startPays, gain, mayRun, offCell, onCell, onStep, cellStep, planAt}
+use Rattle.optimality.specs.Cells.{takenOf, figuresWith, states, afterOff, afterOn, startTakes, startPays, gain, mayRun}
+use Rattle.optimality.specs.Cells.{offCell, onCell, onStep, cellStep, planAt}
 use Rattle.optimality.proofs.Ranges.{Ranged}
 use Rattle.optimality.proofs.Commit.{affords, spend, Status, status, commit}
 use Rattle.optimality.proofs.Outputs.{blocks-of}
@@ -65,7 +66,8 @@ module _ (u : UnitRecord) (ok : Ranged u) (a-top b-top c-top : ℕ) where
       next : ℕ
       next = cond (eqb (s + 1) (u .generator .mot)) (u .generator .mot) (states f)
 
-      test : (q : Bool) → leb (u .generator .mot) spent ≡ q → (ltb next (states f) ≡ leb (u .generator .mot) spent) × (leb (u .generator .mot) spent ≡ true → next ≡ u .generator .mot)
+      test : (q : Bool) → leb (u .generator .mot) spent ≡ q
+          → (ltb next (states f) ≡ leb (u .generator .mot) spent) × (leb (u .generator .mot) spent ≡ true → next ≡ u .generator .mot)
       test true i =
           let k : s + 1 ≡ u .generator .mot = omega (arith, t .1, leb-true (u .generator .mot) spent i) in
           rw (eq-eqb (s + 1) (u .generator .mot) k) (lt-ltb (u .generator .mot) (states f) (omega (arith, ok .mdt)) ∙ sym i, λ o. refl)
@@ -94,8 +96,8 @@ module _ (u : UnitRecord) (ok : Ranged u) (a-top b-top c-top : ℕ) where
       next = cond (eqb (s + 1) (states f)) 0 (states f)
 
       test : (q : Bool) → leb (u .generator .mdt) spent ≡ q
-          → (ltb next (states f) ≡ leb (u .generator .mdt) spent) × (leb (u .generator .mdt) spent ≡ true → next ≡ 0) × (takenOf (u .limits .starts) ≡ takenOf (u .limits .starts))
-          × (startCost (u .costs) ≡ startCost (u .costs))
+          → (ltb next (states f) ≡ leb (u .generator .mdt) spent) × (leb (u .generator .mdt) spent ≡ true → next ≡ 0)
+          × (takenOf (u .limits .starts) ≡ takenOf (u .limits .starts)) × (startCost (u .costs) ≡ startCost (u .costs))
       test true i =
           let k : s + 1 ≡ states f = omega (arith, t .1, leb-true (u .generator .mdt) spent i) in
           rw (eq-eqb (s + 1) (states f) k) (lt-ltb 0 (states f) (omega (arith, ok .mdt)) ∙ sym i, (λ o. refl), refl, refl)
@@ -116,11 +118,13 @@ module _ (u : UnitRecord) (ok : Ranged u) (a-top b-top c-top : ℕ) where
       → Match (Alike u n) (commit u (status on spent a b c) price 0) (cellStep f x price 0)
   match-off n true spent a b c x price r =
       let t = run-ends spent (x .state) (r .0) in
-      match-allow (Alike u n) (leb (u .generator .mot) spent) (ltb (afterOff f (x .state)) (states f)) (go (pos 0) (status false 1 a b c)) (go (pos 0) (offCell f x)) (t .0)
+      match-allow (Alike u n) (leb (u .generator .mot) spent) (ltb (afterOff f (x .state)) (states f))
+      (go (pos 0) (status false 1 a b c)) (go (pos 0) (offCell f x)) (t .0)
       (λ i. (refl, ((omega arith, rw (t .1 i) (omega (arith, ok .mdt))), none-used n a b c x (r .1))))
   match-off n false spent a b c x price r =
       let t = spell-goes-on spent (x .state) (r .0) in
-      match-allow (Alike u n) true (ltb (afterOff f (x .state)) (states f)) (go (pos 0) (status false (suc spent) a b c)) (go (pos 0) (offCell f x)) (t .0)
+      match-allow (Alike u n) true (ltb (afterOff f (x .state)) (states f))
+      (go (pos 0) (status false (suc spent) a b c)) (go (pos 0) (offCell f x)) (t .0)
       (λ i. (refl, (t .1, none-used n a b c x (r .1))))
 
   -- what the cells' machine counts in blocks
@@ -145,7 +149,9 @@ module _ (u : UnitRecord) (ok : Ranged u) (a-top b-top c-top : ℕ) where
       hours = one-affords (takenOf (u .limits .hours)) n b (x .ons) (left .1)
 
       mwh : leb (k * takenOf (u .limits .mwh)) (x .blocks) ≡ affords c (suc m)
-      mwh = left-affords (u .generator .block) (u .generator .pmax) (ok .block) (takenOf (u .limits .mwh)) n k c (x .blocks) hk (left .2) ∙ ap (affords c) (sym i)
+      mwh =
+          left-affords (u .generator .block) (u .generator .pmax) (ok .block) (takenOf (u .limits .mwh)) n k c (x .blocks) hk (left .2)
+          ∙ ap (affords c) (sym i)
 
       hours-left : Left 1 1 (takenOf (u .limits .hours)) n (spend b 1) (x .ons - takenOf (u .limits .hours))
       hours-left = one-spend (takenOf (u .limits .hours)) n b (x .ons) (left .1)
@@ -160,10 +166,13 @@ module _ (u : UnitRecord) (ok : Ranged u) (a-top b-top c-top : ℕ) where
           (go (earned (u .generator) (u .costs) price (suc m)) (status true (suc spent) a (spend b 1) (spend c (suc m))))
           (go (gain f price k -ℤ pos (startPays f (x .state))) (onCell f x k))
           (rw (t .0, t .2, leb·zero (x .starts), hours, mwh))
-          (λ o. rw (t .2, t .3) (e ∙ sym (+ℤ-idr (gain f price k)), (t .1, (one-less (takenOf (u .limits .starts)) n a (x .starts) (left .0), hours-left, mwh-left))))
+          (λ o.
+          let starts-left = one-less (takenOf (u .limits .starts)) n a (x .starts) (left .0) in
+          rw (t .2, t .3) (e ∙ sym (+ℤ-idr (gain f price k)), (t .1, (starts-left, hours-left, mwh-left))))
       case false h =
           let t = spell-ends spent (x .state) h in
-          match-allow (Alike u n) (affords a 1 && leb (u .generator .mdt) spent && affords b 1 && affords c (suc m)) (mayRun f x && leb (k * takenOf (u .limits .mwh)) (x .blocks))
+          match-allow (Alike u n) (affords a 1 && leb (u .generator .mdt) spent && affords b 1 && affords c (suc m))
+          (mayRun f x && leb (k * takenOf (u .limits .mwh)) (x .blocks))
           (go (earned (u .generator) (u .costs) price (suc m) -ℤ pos (startCost (u .costs))) (status true 1 (spend a 1) (spend b 1) (spend c (suc m))))
           (go (gain f price k -ℤ pos (startPays f (x .state))) (onCell f x k))
           ((rw (t .0, t .2, starts, hours, mwh)) ∙ swap (leb (u .generator .mdt) spent) (affords a 1) (affords b 1) (affords c (suc m)))
@@ -188,4 +197,5 @@ module _ (u : UnitRecord) (ok : Ranged u) (a-top b-top c-top : ℕ) where
   pub same-plan : (prices : List ℤ) (s : Status) (x : Cell) → Alike u (length prices) s x
       → bestFrom Status ℤ (commit u) anywhere (outputs (u .generator)) prices s ≡ planAt f anywhere prices x
   unfolding planAt
-  same-plan prices s x r = same-best Status Cell ℤ (commit u) (cellStep f) anywhere anywhere (Alike u) (outputs (u .generator)) matches (λ s x r. refl) prices s x r
+  same-plan prices s x r =
+      same-best Status Cell ℤ (commit u) (cellStep f) anywhere anywhere (Alike u) (outputs (u .generator)) matches (λ s x r. refl) prices s x r

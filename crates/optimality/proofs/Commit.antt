@@ -80,7 +80,8 @@ before u = status (wasOn (u .opening)) (u .opening .held) (scaled 1 (u .limits .
 
 abbrev keepsFrom : UnitRecord → Status → List ℕ → Bool
 keepsFrom u (status on spent a b c) s =
-    affords a (startsIn on s) && runsLast (u .generator .mot) on spent s && spellsLast (u .generator .mdt) on spent s && affords b (onIntervals s) && affords c (outputSum s)
+    affords a (startsIn on s) && runsLast (u .generator .mot) on spent s && spellsLast (u .generator .mdt) on spent s
+    && affords b (onIntervals s) && affords c (outputSum s)
 
 abbrev profitFrom : UnitRecord → Status → List ℤ → List ℕ → ℤ
 profitFrom u (status on spent a b c) prices s = earnedIn (u .generator) (u .costs) prices s -ℤ pos (startCost (u .costs) * startsIn on s)
@@ -147,24 +148,40 @@ module _ (u : UnitRecord) where
   one-step : (x : Status) (price : ℤ) (prices : List ℤ) (m : ℕ) (s : List ℕ)
       → candidateFrom u (price ∷ prices) (m ∷ s) x ≡ along m (commit u x price m) (candidateFrom u prices s)
   one-step (status true spent a b c) price prices zero s =
-      interval (status true spent a b c) (status false 1 a b c) (leb (u .generator .mot) spent) (pos 0) price prices 0 s
+      let g = u .generator in
+      let runs = runsLast (g .mot) false 1 s in
+      let spells = spellsLast (g .mdt) false 1 s in
+      interval (status true spent a b c) (status false 1 a b c) (leb (g .mot) spent) (pos 0) price prices 0 s
       (rw (zero-add (outputSum s))
-      (pull-off (leb (u .generator .mot) spent) (affords a (startsIn false s)) (runsLast (u .generator .mot) false 1 s) (spellsLast (u .generator .mdt) false 1 s) (affords b (onIntervals s)) (affords c (outputSum s))))
-      (earn-on (pos 0) (earnedIn (u .generator) (u .costs) prices s) (startCost (u .costs) * startsIn false s))
+      (pull-off (leb (g .mot) spent) (affords a (startsIn false s)) runs spells (affords b (onIntervals s)) (affords c (outputSum s))))
+      (earn-on (pos 0) (earnedIn g (u .costs) prices s) (startCost (u .costs) * startsIn false s))
   one-step (status false spent a b c) price prices zero s =
       interval (status false spent a b c) (status false (suc spent) a b c) true (pos 0) price prices 0 s (rw (zero-add (outputSum s)))
       (earn-on (pos 0) (earnedIn (u .generator) (u .costs) prices s) (startCost (u .costs) * startsIn false s))
   one-step (status true spent a b c) price prices (suc m) s =
-      interval (status true spent a b c) (status true (suc spent) a (spend b 1) (spend c (suc m))) (affords b 1 && affords c (suc m)) (earned (u .generator) (u .costs) price (suc m)) price prices (suc m) s
+      let g = u .generator in
+      let c′ = spend c (suc m) in
+      let runs = runsLast (g .mot) true (suc spent) s in
+      let spells = spellsLast (g .mdt) true (suc spent) s in
+      let gain = earned g (u .costs) price (suc m) in
+      interval (status true spent a b c) (status true (suc spent) a (spend b 1) c′) (affords b 1 && affords c (suc m)) gain price prices (suc m) s
       (rw (affords-one b (onIntervals s), affords-sum c (suc m) (outputSum s))
-      (pull-on (affords b 1) (affords c (suc m)) (affords a (startsIn true s)) (runsLast (u .generator .mot) true (suc spent) s) (spellsLast (u .generator .mdt) true (suc spent) s) (affords (spend b 1) (onIntervals s)) (affords (spend c (suc m)) (outputSum s))))
-      (earn-on (earned (u .generator) (u .costs) price (suc m)) (earnedIn (u .generator) (u .costs) prices s) (startCost (u .costs) * startsIn true s))
+      (pull-on (affords b 1) (affords c (suc m))
+      (affords a (startsIn true s)) runs spells (affords (spend b 1) (onIntervals s)) (affords c′ (outputSum s))))
+      (earn-on gain (earnedIn g (u .costs) prices s) (startCost (u .costs) * startsIn true s))
   one-step (status false spent a b c) price prices (suc m) s =
-      interval (status false spent a b c) (status true 1 (spend a 1) (spend b 1) (spend c (suc m))) (affords a 1 && leb (u .generator .mdt) spent && affords b 1 && affords c (suc m))
-      (earned (u .generator) (u .costs) price (suc m) -ℤ pos (startCost (u .costs))) price prices (suc m) s
+      let g = u .generator in
+      let c′ = spend c (suc m) in
+      let runs = runsLast (g .mot) true 1 s in
+      let spells = spellsLast (g .mdt) true 1 s in
+      let gain = earned g (u .costs) price (suc m) in
+      let cost = startCost (u .costs) in
+      interval (status false spent a b c) (status true 1 (spend a 1) (spend b 1) c′)
+      (affords a 1 && leb (g .mdt) spent && affords b 1 && affords c (suc m)) (gain -ℤ pos cost) price prices (suc m) s
       (rw (affords-one a (startsIn true s), affords-one b (onIntervals s), affords-sum c (suc m) (outputSum s))
-      (pull-start (affords a 1) (leb (u .generator .mdt) spent) (affords b 1) (affords c (suc m)) (affords (spend a 1) (startsIn true s)) (runsLast (u .generator .mot) true 1 s) (spellsLast (u .generator .mdt) true 1 s) (affords (spend b 1) (onIntervals s)) (affords (spend c (suc m)) (outputSum s))))
-      (earn-start (earned (u .generator) (u .costs) price (suc m)) (earnedIn (u .generator) (u .costs) prices s) (startCost (u .costs)) (startsIn true s))
+      (pull-start (affords a 1) (leb (g .mdt) spent) (affords b 1) (affords c (suc m))
+      (affords (spend a 1) (startsIn true s)) runs spells (affords (spend b 1) (onIntervals s)) (affords c′ (outputSum s))))
+      (earn-start gain (earnedIn g (u .costs) prices s) cost (startsIn true s))
 
   at-end : (x : Status) → candidateFrom u [] [] x ≡ plan [] (pos 0)
   at-end (status on spent a b c) = simp (affords-none a, affords-none b, affords-none c, mul-zero)
@@ -199,5 +216,7 @@ lists-ext ms (suc n) f g h = each (λ m. lists-ext ms n (λ s. f (m ∷ s)) (λ 
 -- the best of all schedules is found step by step
 pub best-steps : (u : UnitRecord) (prices : List ℤ) → best u prices ≡ bestFrom Status ℤ (commit u) anywhere (outputs (u .generator)) prices (before u)
 best-steps u prices =
-    ap firstBest (lists-ext (outputs (u .generator)) (length prices) (candidate u prices) (run Status ℤ (commit u) anywhere prices (before u)) (λ s e. candidate-run u prices s e))
-    ∙ optimal Status ℤ (commit u) anywhere (outputs (u .generator)) prices (before u)
+    let ms = outputs (u .generator) in
+    let runs = run Status ℤ (commit u) anywhere prices (before u) in
+    ap firstBest (lists-ext ms (length prices) (candidate u prices) runs (λ s e. candidate-run u prices s e))
+    ∙ optimal Status ℤ (commit u) anywhere ms prices (before u)

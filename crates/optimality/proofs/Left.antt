@@ -48,10 +48,13 @@ module _ (unit most : ℕ) (counts : 1 ≤ unit) where
       test false i false j = i ∙ sym j
 
   -- and after them the rest is alike
-  pub left-spend : (taken n k : ℕ) (l : Limit) (x : ℕ) → k ≤ most → Left unit most taken (suc n) l x → Left unit most taken n (spend l (k * unit)) (x - k * taken)
+  pub left-spend : (taken n k : ℕ) (l : Limit) (x : ℕ) → k ≤ most → Left unit most taken (suc n) l x
+      → Left unit most taken n (spend l (k * unit)) (x - k * taken)
   left-spend taken n k None x h r = r
   left-spend taken n k (At left) x h r =
-      (r .0, rw (r .0, mul-one k, units-less left k) (less (left / unit) x k (n * most) most h (subst (λ (z : ℕ). min (left / unit) z ≡ min x z) (omega arith) (r .1))))
+      let all = n * most + most in
+      let same : min (left / unit) all ≡ min x all = subst (λ (z : ℕ). min (left / unit) z ≡ min x z) (omega arith) (r .1) in
+      (r .0, rw (r .0, mul-one k, units-less left k) (less (left / unit) x k (n * most) most h same))
     where
       less : (a b k m p : ℕ) → k ≤ p → min a (m + p) ≡ min b (m + p) → min (a - k) m ≡ min (b - k) m
       less a b k m p h e = omega arith

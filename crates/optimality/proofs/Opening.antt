@@ -34,10 +34,13 @@ use Rattle.optimality.proofs.Cells.{Timed, Alike, same-plan}
 
 -- ---- the opening cell is alike to the status before interval 1
 
+abbrev stateOf : UnitRecord → Bool → ℕ
+stateOf u on = cond on (min (u .opening .held) (u .generator .mot) - 1) (u .generator .mot + min (u .opening .held) (u .generator .mdt) - 1)
+
 opening-time : (u : UnitRecord) → Ranged u → Timed u (wasOn (u .opening)) (u .opening .held) (openingState u)
 opening-time u ok = test (wasOn (u .opening))
   where
-    test : (on : Bool) → Timed u on (u .opening .held) (cond on (min (u .opening .held) (u .generator .mot) - 1) (u .generator .mot + min (u .opening .held) (u .generator .mdt) - 1))
+    test : (on : Bool) → Timed u on (u .opening .held) (stateOf u on)
     test true = (ok .held, omega (arith, ok .held, ok .mot))
     test false = (ok .held, omega (arith, ok .held, ok .mdt))
 
@@ -171,7 +174,7 @@ module _ (u : UnitRecord) (ok : Ranged u) (n : ℕ) where
         blocks = counted-rise (u .generator) n Mwh (limits .mwh) (u .limits .mwh) (ok .block) (h Mwh);
       }
     where
-      state : (on : Bool) → cond on (min (u .opening .held) (u .generator .mot) - 1) (u .generator .mot + min (u .opening .held) (u .generator .mdt) - 1) < u .generator .mot + u .generator .mdt
+      state : (on : Bool) → stateOf u on < u .generator .mot + u .generator .mdt
       state true = omega (arith, ok .mot, ok .mdt)
       state false = omega (arith, ok .mot, ok .mdt)
 
@@ -183,7 +186,11 @@ best-under u ok prices limits h =
     let n = length prices in
     let v : UnitRecord = limited u limits in
     let same : figuresWith v (countFor u n Starts) (countFor u n Hours) (countFor u n Mwh) ≡ figuresOf u n =
-    rw (taken-same (limits .starts) (u .limits .starts) (h Starts), taken-same (limits .hours) (u .limits .hours) (h Hours), taken-same (limits .mwh) (u .limits .mwh) (h Mwh)) in
+    rw (
+      taken-same (limits .starts) (u .limits .starts) (h Starts),
+      taken-same (limits .hours) (u .limits .hours) (h Hours),
+      taken-same (limits .mwh) (u .limits .mwh) (h Mwh),
+    ) in
     best-steps v prices
     ∙ same-plan v ok (countFor u n Starts) (countFor u n Hours) (countFor u n Mwh) prices (before v) (openingCell v n) (opening-alike v ok n)
     ∙ ap (λ (f : Figures). planAt f anywhere prices (openingCell v n)) same

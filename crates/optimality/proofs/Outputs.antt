@@ -56,51 +56,61 @@ blocks-join a b block h = by (b - a) (omega arith)
 -- ---- the outputs of a unit
 
 module _ (u : UnitRecord) (ok : Ranged u) where
+  abbrev block : ℕ
+  block = u .generator .block
+
+  -- the least output but 0, and how many there are
+  abbrev first : ℕ
+  first = u .generator .pmin * block
+
+  abbrev count : ℕ
+  count = suc (u .generator .pmax) - u .generator .pmin
+
   pub outputs-ascending : Ascending (outputs (u .generator))
   outputs-ascending = (
-    λ n i. omega (arith, ladder-from (suc (u .generator .pmax) - u .generator .pmin) (u .generator .pmin * u .generator .block) (u .generator .block) n (ok .block) i, mul-le-mul-right (u .generator .block) (ok .pmin), ok .block),
-    ladder-ascending (suc (u .generator .pmax) - u .generator .pmin) (u .generator .pmin * u .generator .block) (u .generator .block) (ok .block),
+    λ n i. omega (arith, ladder-from count first block n (ok .block) i, mul-le-mul-right block (ok .pmin), ok .block),
+    ladder-ascending count first block (ok .block),
   )
 
   -- an output but 0 that is tried is so many blocks
-  pub blocks-of : (m : ℕ) → List·Memᴰ (suc m) (outputs (u .generator)) → (k : ℕ) × (suc m ≡ k * u .generator .block) × (u .generator .pmin ≤ k) × (k ≤ u .generator .pmax)
+  pub blocks-of : (m : ℕ) → List·Memᴰ (suc m) (outputs (u .generator)) → (k : ℕ) × (suc m ≡ k * block) × (u .generator .pmin ≤ k) × (k ≤ u .generator .pmax)
   blocks-of m i =
       ⊎-elim (λ (e : suc m ≡ 0). absurd (omega arith))
-      (λ (t : List·Memᴰ (suc m) (ladder (u .generator .block) (u .generator .pmin * u .generator .block) (suc (u .generator .pmax) - u .generator .pmin))).
-      let r = ladder-is (suc (u .generator .pmax) - u .generator .pmin) (u .generator .pmin * u .generator .block) (u .generator .block) (suc m) t in
+      (λ (t : List·Memᴰ (suc m) (ladder block first count)).
+      let r = ladder-is count first block (suc m) t in
       (u .generator .pmin + r .0, omega (arith, r .2), omega arith, omega (arith, r .1, ok .pmax)))
       (List·Memᴰ·cases-cons i)
 
   output-tried : (m : ℕ) → isOutput (u .generator) m ≡ true → List·Memᴰ m (outputs (u .generator))
   output-tried zero e = List·Memᴰ·head refl
   output-tried (suc m) e =
-      let whole = eqb (suc m % u .generator .block) 0 in
-      let low = leb (u .generator .pmin * u .generator .block) (suc m) in
-      let high = leb (suc m) (u .generator .pmax * u .generator .block) in
+      let whole = eqb (suc m % block) 0 in
+      let low = leb first (suc m) in
+      let high = leb (suc m) (u .generator .pmax * block) in
       let t = both (whole && low) high e in
       let s = both whole low (t .0) in
-      let z = eqb-true (suc m % u .generator .block) 0 (s .0) in
-      let lo = leb-true (u .generator .pmin * u .generator .block) (suc m) (s .1) in
-      let hi = leb-true (suc m) (u .generator .pmax * u .generator .block) (t .1) in
-      let k : ℕ = suc m / u .generator .block in
-      let is : k * u .generator .block ≡ suc m = omega (arith, div-add-mod' (suc m) (u .generator .block), z) in
-      let least : u .generator .pmin ≤ k = le-of-mul-le-mul-right {k = u .generator .block} (omega arith) (ok .block) in
-      let greatest : k ≤ u .generator .pmax = le-of-mul-le-mul-right {k = u .generator .block} (omega arith) (ok .block) in
+      let z = eqb-true (suc m % block) 0 (s .0) in
+      let lo = leb-true first (suc m) (s .1) in
+      let hi = leb-true (suc m) (u .generator .pmax * block) (t .1) in
+      let k : ℕ = suc m / block in
+      let is : k * block ≡ suc m = omega (arith, div-add-mod' (suc m) block, z) in
+      let least : u .generator .pmin ≤ k = le-of-mul-le-mul-right {k = block} (omega arith) (ok .block) in
+      let greatest : k ≤ u .generator .pmax = le-of-mul-le-mul-right {k = block} (omega arith) (ok .block) in
       List·Memᴰ·tail
-      (subst (λ (n : ℕ). List·Memᴰ n (ladder (u .generator .block) (u .generator .pmin * u .generator .block) (suc (u .generator .pmax) - u .generator .pmin))) (blocks-join (u .generator .pmin) k (u .generator .block) least ∙ is)
-      (ladder-has (suc (u .generator .pmax) - u .generator .pmin) (u .generator .pmin * u .generator .block) (u .generator .block) (k - u .generator .pmin) (omega arith)))
+      (subst (λ (n : ℕ). List·Memᴰ n (ladder block first count)) (blocks-join (u .generator .pmin) k block least ∙ is)
+      (ladder-has count first block (k - u .generator .pmin) (omega arith)))
 
   tried-output : (m : ℕ) → List·Memᴰ m (outputs (u .generator)) → isOutput (u .generator) m ≡ true
   tried-output zero i = refl
   tried-output (suc m) i =
       let r = blocks-of m i in
       let k : ℕ = r .0 in
-      let z : suc m % u .generator .block ≡ 0 = ap (λ (n : ℕ). n % u .generator .block) (r .1) ∙ mul-mod-left k (u .generator .block) in
+      let z : suc m % block ≡ 0 = ap (λ (n : ℕ). n % block) (r .1) ∙ mul-mod-left k block in
       simp (
         z,
         eq-eqb 0 0 refl,
-        le-leb (u .generator .pmin * u .generator .block) (suc m) (omega (arith, r .1, mul-le-mul-right (u .generator .block) (r .2))),
-        le-leb (suc m) (u .generator .pmax * u .generator .block) (omega (arith, r .1, mul-le-mul-right (u .generator .block) (r .3))),
+        le-leb first (suc m) (omega (arith, r .1, mul-le-mul-right block (r .2))),
+        le-leb (suc m) (u .generator .pmax * block) (omega (arith, r .1, mul-le-mul-right block (r .3))),
       )
 
   -- a list is of outputs exactly where each is tried

@@ -33,10 +33,12 @@ along-match Alike m (go e x) stop f g h k = absurd h
 along-match Alike m (go e x) (go e′ y) f g h k = ap₂ (λ (z : ℤ) (a : Plan). after m z a) (h .0) (k x y (h .1))
 
 -- `Alike n` says that two states are alike with n intervals to go
-module _ (A B Input : Type 0) (one : A → Input → ℕ → Step A) (two : B → Input → ℕ → Step B) (one-ends : A → BestProfit) (two-ends : B → BestProfit) (Alike : ℕ → A → B → Type 0) (outputs : List ℕ)
+module _ (A B Input : Type 0) (one : A → Input → ℕ → Step A) (two : B → Input → ℕ → Step B)
+    (one-ends : A → BestProfit) (two-ends : B → BestProfit) (Alike : ℕ → A → B → Type 0) (outputs : List ℕ)
     (match : (n : ℕ) (x : A) (y : B) (i : Input) (m : ℕ) → List·Memᴰ m outputs → Alike (suc n) x y → Match (Alike n) (one x i m) (two y i m))
     (alike-ends : (x : A) (y : B) → Alike 0 x y → one-ends x ≡ two-ends y) where
-  pub same-best : (is : List Input) (x : A) (y : B) → Alike (length is) x y → bestFrom A Input one one-ends outputs is x ≡ bestFrom B Input two two-ends outputs is y
+  pub same-best : (is : List Input) (x : A) (y : B) → Alike (length is) x y
+      → bestFrom A Input one one-ends outputs is x ≡ bestFrom B Input two two-ends outputs is y
   same-best [] x y h = ap ended (alike-ends x y h)
   same-best (i ∷ is) x y h =
       let f = bestFrom A Input one one-ends outputs is in

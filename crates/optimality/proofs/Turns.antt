@@ -17,7 +17,8 @@ use Rattle.optimality.specs.declared.Cell.{Cell}
 use Rattle.commitment.specs.declared.BestProfit.{BestProfit}
 use Rattle.commitment.specs.declared.BestProfit.the-variants.{Nothing, Profit}
 use Rattle.optimality.specs.Machine.{Step, go, allow, after, along, more, most, valueAlong}
-use Rattle.optimality.specs.Cells.{Sound, InTable, states, afterOff, afterOn, startTakes, startPays, gain, mayRun, offCell, onCell, offStep, onStep, cellStep, rungs, choices, planAt, valueAt, offValue, onValue, onBest}
+use Rattle.optimality.specs.Cells.{Sound, InTable, states, afterOff, afterOn, startTakes, startPays, gain, mayRun}
+use Rattle.optimality.specs.Cells.{offCell, onCell, offStep, onStep, cellStep, rungs, choices, planAt, valueAt, offValue, onValue, onBest}
 use Rattle.optimality.proofs.Outputs.{ladder-is, blocks-join}
 use Rattle.optimality.proofs.Values.{no-earning, value-from, first-reaching}
 
@@ -33,7 +34,8 @@ value-end f ends c = refl
 
 -- ---- outputs in blocks
 
-ladder-split : (block first a b : ℕ) → ladder block first (a + suc b) ≡ ladder block first a ++ ((first + a * block) ∷ ladder block (first + a * block + block) b)
+ladder-split : (block first a b : ℕ)
+    → ladder block first (a + suc b) ≡ ladder block first a ++ ((first + a * block) ∷ ladder block (first + a * block + block) b)
 ladder-split block first zero b =
     let e : 0 + suc b ≡ suc b = omega arith in
     let i : first + 0 * block ≡ first = omega arith in
@@ -99,15 +101,19 @@ module _ (f : Figures) (ok : Sound f) (ends : Cell → BestProfit) where
   -- ---- the plan's output, by the values: off where that reaches the cell's value, else the first number of blocks that does
 
   module _ (price : ℤ) (prices : List ℤ) (c : Cell) (best : ℤ) (worth : valueAt f ends (price ∷ prices) c ≡ Profit best) where
-    plan-off : offValue f (valueAt f ends prices) c ≡ Profit best → planAt f ends (price ∷ prices) c ≡ along 0 (offStep f c) (planAt f ends prices)
+    -- the values of the cells after it
+    abbrev rest : Cell → BestProfit
+    rest = valueAt f ends prices
+
+    plan-off : offValue f rest c ≡ Profit best → planAt f ends (price ∷ prices) c ≡ along 0 (offStep f c) (planAt f ends prices)
     unfolding planAt valueAt
     plan-off h =
         first-reaching Cell ℤ (cellStep f) ends (choices f) price prices c [] 0 (ladder (f .block) (f .pmin * f .block) (rungs f)) refl
         (λ n i. absurd (List·Memᴰ·not-nil i))
         (h ∙ sym worth)
 
-    plan-on : (offValue f (valueAt f ends prices) c ≡ Profit best → ⊥) → (k : ℕ) → f .pmin ≤ k → k ≤ f .pmax
-        → ((j : ℕ) → f .pmin ≤ j → j < k → onValue f (valueAt f ends prices) c price j ≡ Profit best → ⊥) → onValue f (valueAt f ends prices) c price k ≡ Profit best
+    plan-on : (offValue f rest c ≡ Profit best → ⊥) → (k : ℕ) → f .pmin ≤ k → k ≤ f .pmax
+        → ((j : ℕ) → f .pmin ≤ j → j < k → onValue f rest c price j ≡ Profit best → ⊥) → onValue f rest c price k ≡ Profit best
         → planAt f ends (price ∷ prices) c ≡ along (k * f .block) (onStep f c price k) (planAt f ends prices)
     unfolding planAt valueAt
     plan-on off k lo hi short h =
@@ -115,7 +121,7 @@ module _ (f : Figures) (ok : Sound f) (ends : Cell → BestProfit) where
         (ladder (f .block) (k * f .block + f .block) (f .pmax - k))
         split
         passed
-        (ap (λ (t : Step Cell). valueAlong t (valueAt f ends prices)) (in-blocks c price k (omega (arith, ok .pmin))) ∙ h ∙ sym worth)
+        (ap (λ (t : Step Cell). valueAlong t rest) (in-blocks c price k (omega (arith, ok .pmin))) ∙ h ∙ sym worth)
         ∙ ap (λ (t : Step Cell). along (k * f .block) t (planAt f ends prices)) (in-blocks c price k (omega (arith, ok .pmin)))
       where
         split : choices f
@@ -126,14 +132,15 @@ module _ (f : Figures) (ok : Sound f) (ends : Cell → BestProfit) where
             ap (_∷_ 0) (ap (ladder (f .block) (f .pmin * f .block)) n ∙ (rw m at (ladder-split (f .block) (f .pmin * f .block) (k - f .pmin) (f .pmax - k))))
 
         passed : (n : ℕ) → List·Memᴰ n (0 ∷ ladder (f .block) (f .pmin * f .block) (k - f .pmin))
-            → valueAlong (cellStep f c price n) (valueAt f ends prices) ≡ valueAt f ends (price ∷ prices) c → ⊥
+            → valueAlong (cellStep f c price n) rest ≡ valueAt f ends (price ∷ prices) c → ⊥
         passed n i e =
             ⊎-elim (λ (z : n ≡ 0). off (rw z at e ∙ worth))
             (λ (t : List·Memᴰ n (ladder (f .block) (f .pmin * f .block) (k - f .pmin))).
             let r = ladder-is (k - f .pmin) (f .pmin * f .block) (f .block) n t in
             let m : n ≡ (f .pmin + r .0) * f .block = omega (arith, r .2) in
             short (f .pmin + r .0) (omega arith) (omega (arith, r .1, lo))
-            (ap (λ (t : Step Cell). valueAlong t (valueAt f ends prices)) (sym (in-blocks c price (f .pmin + r .0) (omega (arith, ok .pmin)))) ∙ (rw m at e) ∙ worth))
+            (ap (λ (t : Step Cell). valueAlong t rest) (sym (in-blocks c price (f .pmin + r .0) (omega (arith, ok .pmin))))
+            ∙ (rw m at e) ∙ worth))
             (List·Memᴰ·cases-cons i)
 
     reached : (v w : BestProfit) → more v w ≡ Profit best → (v ≡ Profit best) ⊎ (w ≡ Profit best)
@@ -145,39 +152,39 @@ module _ (f : Figures) (ok : Sound f) (ends : Cell → BestProfit) where
         by true e = inr e
         by false e = inl e
 
-    one-on : (k count : ℕ) → onBest f (valueAt f ends prices) c price k count ≡ Profit best
-        → (j : ℕ) × (k ≤ j) × (j < k + count) × (onValue f (valueAt f ends prices) c price j ≡ Profit best)
+    one-on : (k count : ℕ) → onBest f rest c price k count ≡ Profit best
+        → (j : ℕ) × (k ≤ j) × (j < k + count) × (onValue f rest c price j ≡ Profit best)
     one-on k zero e = absurd (no-earning e)
     one-on k (suc count) e =
-        ⊎-elim (λ (h : onValue f (valueAt f ends prices) c price k ≡ Profit best). (k, omega arith, omega arith, h))
-        (λ (h : onBest f (valueAt f ends prices) c price (suc k) count ≡ Profit best).
+        ⊎-elim (λ (h : onValue f rest c price k ≡ Profit best). (k, omega arith, omega arith, h))
+        (λ (h : onBest f rest c price (suc k) count ≡ Profit best).
         let r = one-on (suc k) count h in
         (r .0, omega (arith, r .1), omega (arith, r .2), r .3))
-        (reached (onValue f (valueAt f ends prices) c price k) (onBest f (valueAt f ends prices) c price (suc k) count) e)
+        (reached (onValue f rest c price k) (onBest f rest c price (suc k) count) e)
 
     -- some output reaches it
-    pub some-turn : (offValue f (valueAt f ends prices) c ≡ Profit best → ⊥)
-        → ((k : ℕ) → f .pmin ≤ k → k ≤ f .pmax → onValue f (valueAt f ends prices) c price k ≡ Profit best → ⊥) → ⊥
+    pub some-turn : (offValue f rest c ≡ Profit best → ⊥)
+        → ((k : ℕ) → f .pmin ≤ k → k ≤ f .pmax → onValue f rest c price k ≡ Profit best → ⊥) → ⊥
     some-turn off on =
-        ⊎-elim (λ (h : offValue f (valueAt f ends prices) c ≡ Profit best). off h)
-        (λ (h : onBest f (valueAt f ends prices) c price (f .pmin) (rungs f) ≡ Profit best).
+        ⊎-elim (λ (h : offValue f rest c ≡ Profit best). off h)
+        (λ (h : onBest f rest c price (f .pmin) (rungs f) ≡ Profit best).
         let r = one-on (f .pmin) (rungs f) h in
         on (r .0) (r .1) (omega (arith, r .2, ok .pmax)) (r .3))
-        (reached (offValue f (valueAt f ends prices) c) (onBest f (valueAt f ends prices) c price (f .pmin) (rungs f)) (sym (value-turn price prices c) ∙ worth))
+        (reached (offValue f rest c) (onBest f rest c price (f .pmin) (rungs f)) (sym (value-turn price prices c) ∙ worth))
 
     -- off is the plan's output where it reaches the cell's value
-    pub off-turn : offValue f (valueAt f ends prices) c ≡ Profit best → OffTurn f ends price prices c
+    pub off-turn : offValue f rest c ≡ Profit best → OffTurn f ends price prices c
     off-turn h =
-        let t = leads-on (ltb (afterOff f (c .state)) (states f)) (pos 0) (offCell f c) (valueAt f ends prices) best h in
+        let t = leads-on (ltb (afterOff f (c .state)) (states f)) (pos 0) (offCell f c) rest best h in
         record { leads = ltb-true (afterOff f (c .state)) (states f) t; is = plan-off h ∙ (rw t) }
 
     -- where off does not, the first number of blocks that reaches it is the plan's
-    pub on-turn : (offValue f (valueAt f ends prices) c ≡ Profit best → ⊥) → (k : ℕ) → f .pmin ≤ k → k ≤ f .pmax
-        → ((j : ℕ) → f .pmin ≤ j → j < k → onValue f (valueAt f ends prices) c price j ≡ Profit best → ⊥) → onValue f (valueAt f ends prices) c price k ≡ Profit best
+    pub on-turn : (offValue f rest c ≡ Profit best → ⊥) → (k : ℕ) → f .pmin ≤ k → k ≤ f .pmax
+        → ((j : ℕ) → f .pmin ≤ j → j < k → onValue f rest c price j ≡ Profit best → ⊥) → onValue f rest c price k ≡ Profit best
         → OnTurn f ends price prices c k
     on-turn off k lo hi short h =
         let room = leb (k * f .perblock) (c .blocks) in
-        let t = leads-on (mayRun f c && room) (gain f price k -ℤ pos (startPays f (c .state))) (onCell f c k) (valueAt f ends prices) best h in
+        let t = leads-on (mayRun f c && room) (gain f price k -ℤ pos (startPays f (c .state))) (onCell f c k) rest best h in
         let all = both (mayRun f c) room t in
         let run = both _ (leb (f .peron) (c .ons)) (all .0) in
         let start = both (ltb (afterOn f (c .state)) (states f)) (leb (startTakes f (c .state)) (c .starts)) (run .0) in

@@ -83,13 +83,14 @@ module _ (State Input : Type 0) (step : State → Input → ℕ → Step State) 
   pub value-from : (is : List Input) (x : State) → profitOf (bestFrom State Input step ends outputs is x) ≡ valueFrom State Input step ends outputs is x
   value-from [] x = value-ended (ends x)
   value-from (i ∷ is) x =
-      value-most (λ m. along m (step x i m) (bestFrom State Input step ends outputs is)) (λ m. valueAlong (step x i m) (valueFrom State Input step ends outputs is))
-      (λ m. value-along m (step x i m) (bestFrom State Input step ends outputs is) (valueFrom State Input step ends outputs is) (λ y. value-from is y))
-      outputs
+      let f = bestFrom State Input step ends outputs is in
+      let v = valueFrom State Input step ends outputs is in
+      value-most (λ m. along m (step x i m) f) (λ m. valueAlong (step x i m) v) (λ m. value-along m (step x i m) f v (λ y. value-from is y)) outputs
 
   -- the first output that reaches the best remaining profit is the plan's
   pub first-reaching : (i : Input) (is : List Input) (x : State) (passed : List ℕ) (m : ℕ) (later : List ℕ) → outputs ≡ passed ++ (m ∷ later)
-      → ((n : ℕ) → List·Memᴰ n passed → valueAlong (step x i n) (valueFrom State Input step ends outputs is) ≡ valueFrom State Input step ends outputs (i ∷ is) x → ⊥)
+      → ((n : ℕ) → List·Memᴰ n passed
+      → valueAlong (step x i n) (valueFrom State Input step ends outputs is) ≡ valueFrom State Input step ends outputs (i ∷ is) x → ⊥)
       → valueAlong (step x i m) (valueFrom State Input step ends outputs is) ≡ valueFrom State Input step ends outputs (i ∷ is) x
       → bestFrom State Input step ends outputs (i ∷ is) x ≡ along m (step x i m) (bestFrom State Input step ends outputs is)
   first-reaching i is x passed m later e short h =

@@ -97,7 +97,8 @@ module _ (u : UnitRecord) (ok : Ranged u) (prices : List ℤ) (which : Limitatio
       (under-with (u .limits) which (At k) (At (suc k)) (omega arith)) ok
 
   gap-says : (n k : ℕ) → limitFor (u .limits) which ≡ At n → lowered n ≡ suc k
-      → (first lower : Plan) → best (run (suc k)) prices ≡ first → best (run k) prices ≡ lower → Says u prices which (gapBetween (profitOf first) (profitOf lower))
+      → (first lower : Plan) → best (run (suc k)) prices ≡ first → best (run k) prices ≡ lower
+      → Says u prices which (gapBetween (profitOf first) (profitOf lower))
   gap-says n k l h first nothing e i =
       record { figure = n; less = k; limited = l; nine-tenths = h; none-lower = no-plan (run k) prices ok i }
   gap-says n k l h nothing (plan t q) e i = absurd (let r = rises k t q i in not-plan (sym e ∙ r .2))

@@ -32,7 +32,8 @@ use Rattle.planner.proofs.Worked.{worked}
 
 module _ (u : UnitRecord) (prices : List ℤ) where
   pub lent-turn : (long : Bool) (scratch : ℕ)
-      → lentChecked u prices long scratch ≡ checkedThen (caseChecked u (pricesKept prices) (length prices)) (firstOf (slicesChecks u (length prices) long scratch))
+      → lentChecked u prices long scratch
+      ≡ checkedThen (caseChecked u (pricesKept prices) (length prices)) (firstOf (slicesChecks u (length prices) long scratch))
   unfolding lentChecked caseChecked
   lent-turn long scratch = in-turn (caseChecks u (pricesKept prices) (length prices)) (slicesChecks u (length prices) long scratch)
 
@@ -61,7 +62,9 @@ pub record Lent (u : UnitRecord) (prices : List ℤ) (long : Bool) (scratch : �
 
 pub lent : (u : UnitRecord) (prices : List ℤ) (long : Bool) (scratch : ℕ) → lentChecked u prices long scratch ≡ Passed → Lent u prices long scratch
 lent u prices long scratch e =
-    let a = then-passed (caseChecked u (pricesKept prices) (length prices)) (firstOf (slicesChecks u (length prices) long scratch)) (sym (lent-turn u prices long scratch) ∙ e) in
+    let case = caseChecked u (pricesKept prices) (length prices) in
+    let slices = firstOf (slicesChecks u (length prices) long scratch) in
+    let a = then-passed case slices (sym (lent-turn u prices long scratch) ∙ e) in
     let b = unless-passed long Length _ (a .1) in
     let c = unless-passed (leb (cellsNeeded u (length prices)) scratch) Scratch Passed (b .1) in
     record { case = passing u (pricesKept prices) (length prices) (a .0); entries = b .0; cells = leb-true (cellsNeeded u (length prices)) scratch (c .0) }
@@ -85,7 +88,8 @@ module _ (u : UnitRecord) (prices : List ℤ) (scratch : ℕ) (h : Lent u prices
   fitted w wide =
       let o = h .case .order in
       let layer : width f ≡ width (figuresOf u (length prices)) = ap width is in
-      let cells : (length prices + 1) * w ≡ cellsNeeded u (length prices) = ap (λ (n : ℕ). (length prices + 1) * n) (wide ∙ layer ∙ width-is u (length prices)) in
+      let cells : (length prices + 1) * w ≡ cellsNeeded u (length prices) =
+      ap (λ (n : ℕ). (length prices + 1) * n) (wide ∙ layer ∙ width-is u (length prices)) in
       let priced = prices-small prices (h .case .prices) in
       record {
         room = record { sound = lent-sound; short = o .short; fits = rw (is, width-is u (length prices)) (h .cells) };
@@ -96,7 +100,8 @@ module _ (u : UnitRecord) (prices : List ℤ) (scratch : ℕ) (h : Lent u prices
       }
 
 -- the scratch after all layers are cleared, of which the fill left what lies behind them
-pub cleared : (u : UnitRecord) (prices : List ℤ) (needed : ℕ) (was filled : List ℤ) → needed ≡ cellsNeeded u (length prices) → drop needed filled ≡ drop needed was
+pub cleared : (u : UnitRecord) (prices : List ℤ) (needed : ℕ) (was filled : List ℤ) → needed ≡ cellsNeeded u (length prices)
+    → drop needed filled ≡ drop needed was
     → replicate needed (pos 0) ++ drop needed filled ≡ scratchAfter Passed (cellsNeeded u (length prices)) was
 cleared u prices needed was filled e behind =
     ap (λ (rest : List ℤ). replicate needed (pos 0) ++ rest) behind ∙ ap (λ (n : ℕ). replicate n (pos 0) ++ drop n was) e

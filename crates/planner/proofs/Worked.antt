@@ -53,13 +53,15 @@ stored-small n (Profit p) r h k = omega (arith, k .1)
 pub worked : (u : UnitRecord) (prices cells : List ℤ) → InOrder u (length prices) → Priced prices → cellsNeeded u (length prices) ≤ length cells
     → Filled (figuresOf u (length prices)) anywhere prices cells → Worked u prices cells
 worked u prices cells order priced room filled =
+    let n = length prices in
+    let f = figuresOf u n in
     record {
       told =
           record {
             order = order;
-            wide = omega (arith, width-is u (length prices), room);
-            first = λ c i. first-told (figuresOf u (length prices)) anywhere prices cells c filled (order .short) i;
-            small = λ c i. stored-small (length prices) (valueAt (figuresOf u (length prices)) anywhere prices c) _ (order .short) (filled .layers 0 (omega arith) .holds c i);
+            wide = omega (arith, width-is u n, room);
+            first = λ c i. first-told f anywhere prices cells c filled (order .short) i;
+            small = λ c i. stored-small n (valueAt f anywhere prices c) _ (order .short) (filled .layers 0 (omega arith) .holds c i);
           };
       priced = priced;
       room = room;
@@ -78,7 +80,8 @@ module _ (u : UnitRecord) (prices cells : List ℤ) (t : Told u prices cells) wh
     run-inside = opening-in-table u unit-ranged (length prices) limits under
 
     -- the opening cell under smaller limitations tells their best profit
-    pub run-told : told (inFront (figuresOf u (length prices)) cells (openingCell (limited u limits) (length prices))) ≡ profitOf (best (limited u limits) prices)
+    pub run-told : told (inFront (figuresOf u (length prices)) cells (openingCell (limited u limits) (length prices)))
+        ≡ profitOf (best (limited u limits) prices)
     run-told = t .first (openingCell (limited u limits) (length prices)) run-inside ∙ sym (profit-under u unit-ranged prices limits under)
 
     pub run-small : natAbs (amount (profitOf (best (limited u limits) prices))) < mostAmount
@@ -100,7 +103,8 @@ module _ (u : UnitRecord) (prices cells : List ℤ) (w : Worked u prices cells) 
   opening-plan = sym (best-cell u (unit-ranged u prices cells (w .told)) prices)
 
   -- where there is a schedule, the opening cell has a best profit
-  pub opening-some : (p : ℤ) → profitOf (best u prices) ≡ Profit p → valueAt (figuresOf u (length prices)) anywhere prices (openingCell u (length prices)) ≡ Nothing → ⊥
+  pub opening-some : (p : ℤ) → profitOf (best u prices) ≡ Profit p
+      → valueAt (figuresOf u (length prices)) anywhere prices (openingCell u (length prices)) ≡ Nothing → ⊥
   opening-some p e n =
       let none : profitOf (best u prices) ≡ Nothing = profit-under u (unit-ranged u prices cells (w .told)) prices (u .limits) (under-itself (u .limits)) ∙ n in
       let z : _≡_ {A = ℕ} 0 1 = cc in

@@ -95,8 +95,10 @@ pub fn plan<'a>(
 ) -> &'a mut [u64]
     ensures { λ r. ⌜ now r ≡ partGiven unit (now (prices .entry)) (length (now (scratch .entry))) (length (now (schedule .entry))) ⌝ }
     ensures { λ r. ⌜ ptr r ≡ ptr (schedule .entry) ⌝ }
-    ensures { λ _. ⌜ now (number .exit) ≡ plannedNumber (planned unit (now (prices .entry)) (length (now (scratch .entry))) (length (now (schedule .entry)))) ⌝ }
-    ensures { λ _. ⌜ now (profit .exit) ≡ plannedProfit (planned unit (now (prices .entry)) (length (now (scratch .entry))) (length (now (schedule .entry)))) ⌝ }
+    ensures { λ _. ⌜ now (number .exit)
+        ≡ plannedNumber (planned unit (now (prices .entry)) (length (now (scratch .entry))) (length (now (schedule .entry)))) ⌝ }
+    ensures { λ _. ⌜ now (profit .exit)
+        ≡ plannedProfit (planned unit (now (prices .entry)) (length (now (scratch .entry))) (length (now (schedule .entry)))) ⌝ }
     ensures { λ _. ⌜ now (scratch .exit) ≡ scratchLeft unit (now (prices .entry)) (length (now (schedule .entry))) (now (scratch .entry)) ⌝ }
 {
     let answer = plan_into(unit, prices, scratch, &mut *schedule);

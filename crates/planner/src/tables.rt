@@ -31,7 +31,8 @@ pub fn report_case(
 ) -> Reported
     requires { ⌜ (lentChecked unit (now prices) true (length (now scratch)) ≡ Passed) × (length (now prices) ≤ length (now schedule)) ⌝ }
     ensures { λ r. ⌜ r ≡ reportedBy (scheduleChecked unit (now (prices .entry))) (best unit (now (prices .entry))) (outcomesOf unit (now (prices .entry))) ⌝ }
-    ensures { λ _. ⌜ now (schedule .exit) ≡ scheduleAfter (scheduleChecked unit (now (prices .entry))) (best unit (now (prices .entry))) (now (schedule .entry)) ⌝ }
+    ensures { λ _. ⌜ now (schedule .exit)
+        ≡ scheduleAfter (scheduleChecked unit (now (prices .entry))) (best unit (now (prices .entry))) (now (schedule .entry)) ⌝ }
     ensures { λ _. ⌜ now (scratch .exit) ≡ scratchAfter Passed (cellsNeeded unit (length (now (prices .entry)))) (now (scratch .entry)) ⌝ }
 {
     let n = prices.len();
@@ -68,7 +69,8 @@ fn read_report(
     requires { ⌜ Worked unit (now prices) (now cells) ⌝ }
     requires { ⌜ (f ≡ figuresOf unit (length (now prices))) × (w ≡ width f) × (length (now prices) ≤ length (now schedule)) ⌝ }
     ensures { λ r. ⌜ r ≡ reportedBy (scheduleChecked unit (now (prices .entry))) (best unit (now (prices .entry))) (outcomesOf unit (now (prices .entry))) ⌝ }
-    ensures { λ _. ⌜ now (schedule .exit) ≡ scheduleAfter (scheduleChecked unit (now (prices .entry))) (best unit (now (prices .entry))) (now (schedule .entry)) ⌝ }
+    ensures { λ _. ⌜ now (schedule .exit)
+        ≡ scheduleAfter (scheduleChecked unit (now (prices .entry))) (best unit (now (prices .entry))) (now (schedule .entry)) ⌝ }
 {
     match runs::whole_profit(unit, f, prices, cells) {
         BestProfit::Nothing => Reported::Refused(Cause::NoSchedule),

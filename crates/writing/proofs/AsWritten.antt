@@ -141,7 +141,15 @@ getD-map f [] i h = absurd (omega arith)
 getD-map f (row ∷ rows) zero h = refl
 getD-map f (row ∷ rows) (suc i) h = getD-map f rows i (omega arith)
 
-module _ (text : List ℕ) (form : formKept text ≡ true) (names-once : namesKept text ≡ true) (checks : caseChecked (unitIn text) (pricesKept (pricesIn text)) (length (pricesIn text)) ≡ Passed) where
+-- in the first table, under a name, and under the name at place k of the names
+abbrev Standing : List ℕ → List ℕ → Value → Type 0
+Standing text = StandsUnder (fieldsOf (unitHead text)) (fieldsOf (unitRow text))
+
+abbrev found : List ℕ → ℕ → Value
+found text k = under (getD unitNames k []) (fieldsOf (unitHead text)) (fieldsOf (unitRow text))
+
+module _ (text : List ℕ) (form : formKept text ≡ true) (names-once : namesKept text ≡ true)
+    (checks : caseChecked (unitIn text) (pricesKept (pricesIn text)) (length (pricesIn text)) ≡ Passed) where
   formed : Formed text
   formed = formed-is text form
 
@@ -149,22 +157,21 @@ module _ (text : List ℕ) (form : formKept text ≡ true) (names-once : namesKe
   unfolding namesKept
   both-named = both (named unitNames unitOptional (fieldsOf (unitHead text))) (named priceNames priceOptional (fieldsOf (priceHead text))) names-once
 
-  -- what stands under the name at place k of the table
-  under-name : (k : ℕ) → k < 13 → StandsUnder (fieldsOf (unitHead text)) (fieldsOf (unitRow text)) (getD unitNames k []) (under (getD unitNames k []) (fieldsOf (unitHead text)) (fieldsOf (unitRow text)))
+  under-name : (k : ℕ) → k < 13 → Standing text (getD unitNames k []) (found text k)
   under-name k h =
-      let row = both (valueLine (length (fieldsOf (unitHead text))) (unitRow text)) true (both (nameLine (unitHead text)) _ (formed .unit-table) .1) in
-      stands (getD unitNames k []) (fieldsOf (unitHead text)) (fieldsOf (unitRow text)) (names-are unitNames unitOptional (fieldsOf (unitHead text)) (both-named .0) .once k h)
+      let names = fieldsOf (unitHead text) in
+      let row = both (valueLine (length names) (unitRow text)) true (both (nameLine (unitHead text)) _ (formed .unit-table) .1) in
+      stands (getD unitNames k []) names (fieldsOf (unitRow text)) (names-are unitNames unitOptional names (both-named .0) .once k h)
       (row-length _ (unitRow text) (row .0))
 
-  as-value : {name : List ℕ} {v w : Value} → v ≡ w → StandsUnder (fieldsOf (unitHead text)) (fieldsOf (unitRow text)) name v → StandsUnder (fieldsOf (unitHead text)) (fieldsOf (unitRow text)) name w
+  as-value : {name : List ℕ} {v w : Value} → v ≡ w → Standing text name v → Standing text name w
   as-value e s = record { place = s .place; within = s .within; named = s .named; holds = s .holds ∙ e; only = s .only }
 
-  whole-at : (k : ℕ) → k < 13 → let v = under (getD unitNames k []) (fieldsOf (unitHead text)) (fieldsOf (unitRow text)) in
-      wholeOf v < beyond → StandsUnder (fieldsOf (unitHead text)) (fieldsOf (unitRow text)) (getD unitNames k []) (Number (pos (wholeOf v)))
+  whole-at : (k : ℕ) → k < 13 → wholeOf (found text k) < beyond → Standing text (getD unitNames k []) (Number (pos (wholeOf (found text k))))
   whole-at k h b = as-value (whole-is _ b) (under-name k h)
 
-  limit-at : (k : ℕ) → k < 13 → (most : ℕ) → most < beyond → let v = under (getD unitNames k []) (fieldsOf (unitHead text)) (fieldsOf (unitRow text)) in
-      limitKept most (limitOf v) ≡ true → StandsUnder (fieldsOf (unitHead text)) (fieldsOf (unitRow text)) (getD unitNames k []) (limitValue (limitOf v))
+  limit-at : (k : ℕ) → k < 13 → (most : ℕ) → most < beyond → limitKept most (limitOf (found text k)) ≡ true
+      → Standing text (getD unitNames k []) (limitValue (limitOf (found text k)))
   limit-at k h most m b = as-value (limit-is most _ m b) (under-name k h)
 
   head-is : priceHead text ≡ priceName
@@ -175,7 +182,8 @@ module _ (text : List ℕ) (form : formKept text ≡ true) (names-once : namesKe
   unfolding isOf
   price-at i h =
       let row = getD (priceRows text) i [] in
-      let v = every-at (valueLine (length (fieldsOf (priceHead text)))) [] (priceRows text) i (both (nameLine (priceHead text)) _ (formed .price-table) .1) h in
+      let lines = both (nameLine (priceHead text)) _ (formed .price-table) .1 in
+      let v = every-at (valueLine (length (fieldsOf (priceHead text)))) [] (priceRows text) i lines h in
       let n : length (fieldsOf (priceHead text)) ≡ 1 = ap (λ (l : List ℕ). length (fieldsOf l)) head-is in
       ap₂ (λ (fields values : List (List ℕ)). centsOf (under priceName fields values)) (ap fieldsOf head-is) (one-field row (row-length _ row v ∙ n))
 
@@ -192,16 +200,18 @@ module _ (text : List ℕ) (form : formKept text ≡ true) (names-once : namesKe
   price-written : (i : ℕ) → i < length (pricesIn text) → valueOf (getD (priceRows text) i []) ≡ Number (getD (pricesIn text) i (pos 0))
   unfolding pricesIn
   price-written i h =
+      let row = getD (priceRows text) i [] in
       let r : i < length (priceRows text) = omega (arith, prices-long) in
-      let e : getD (pricesIn text) i (pos 0) ≡ centsOf (valueOf (getD (priceRows text) i [])) = getD-map (priceOf (priceHead text)) (priceRows text) i r ∙ price-at i r in
-      cents-is (valueOf (getD (priceRows text) i [])) (omega (arith, prices-small _ (case-kept .prices) i h, ap natAbs e)) ∙ ap Number (sym e)
+      let e : getD (pricesIn text) i (pos 0) ≡ centsOf (valueOf row) = getD-map (priceOf (priceHead text)) (priceRows text) i r ∙ price-at i r in
+      cents-is (valueOf row) (omega (arith, prices-small _ (case-kept .prices) i h, ap natAbs e)) ∙ ap Number (sym e)
 
   text-as-written : AsWritten text (unitIn text) (pricesIn text)
   unfolding unitIn
   text-as-written =
       let r = in-ranges in
       record {
-        lines = lines-are (linesOf text) (formed .four) ∙ ap (λ (third : List ℕ). unitHead text ∷ unitRow text ∷ third ∷ priceHead text ∷ priceRows text) (formed .third-empty);
+        lines = lines-are (linesOf text) (formed .four)
+            ∙ ap (λ (third : List ℕ). unitHead text ∷ unitRow text ∷ third ∷ priceHead text ∷ priceRows text) (formed .third-empty);
         block = whole-at 0 (omega arith) (omega (arith, r .generator .block-most));
         pmin = whole-at 1 (omega arith) (omega (arith, r .generator .pmin-most));
         pmax = whole-at 2 (omega arith) (omega (arith, r .generator .pmax-most));
@@ -226,12 +236,14 @@ read-case : (k : Checked) (u v : UnitRecord) (m n : ℕ) → readBy k u m ≡ Ca
 read-case Passed u v m n e = (refl, (cc), (cc))
 read-case (Refused cause) u v m n e = let z : _≡_ {A = ℕ} 0 1 = cc in absurd (omega arith)
 
-pub read-as-written : (text : List ℕ) (slice : List ℤ) (u : UnitRecord) (count : ℕ) → readCase text (length slice) ≡ Case u count → AsWritten text u (take count (readPrices text slice))
+pub read-as-written : (text : List ℕ) (slice : List ℤ) (u : UnitRecord) (count : ℕ) → readCase text (length slice) ≡ Case u count
+    → AsWritten text u (take count (readPrices text slice))
 unfolding readCase
 read-as-written text slice u count e =
     let a = read-case (textChecked text (length slice)) (unitIn text) u (length (pricesIn text)) count e in
     let p = text-passed text (length slice) (a .0) in
     let w = text-as-written text (p .form) (p .names) (p .checks) in
     let front : take count (readPrices text slice) ≡ pricesIn text =
-    ap₂ (λ (n : ℕ) (l : List ℤ). take n l) (sym (a .2)) (sym (answer-read text slice (a .0) .1)) ∙ take-append-seam (pricesIn text) (drop (length (pricesIn text)) slice) in
+    ap₂ (λ (n : ℕ) (l : List ℤ). take n l) (sym (a .2)) (sym (answer-read text slice (a .0) .1))
+    ∙ take-append-seam (pricesIn text) (drop (length (pricesIn text)) slice) in
     rw (front, ← a .1) w

@@ -61,7 +61,8 @@ under-back : (rule : List ℕ → List ℕ) (name : List ℕ) (names : List (Lis
 under-back rule name [] h = absurd (omega arith)
 under-back rule name (field ∷ fields) h = go (same field name) refl (under-back rule name fields)
   where
-    go : (t : Bool) → same field name ≡ t → (0 < occurs name fields → under name fields (map rule fields) ≡ valueOf (rule name)) → under name (field ∷ fields) (map rule (field ∷ fields)) ≡ valueOf (rule name)
+    go : (t : Bool) → same field name ≡ t → (0 < occurs name fields → under name fields (map rule fields) ≡ valueOf (rule name))
+        → under name (field ∷ fields) (map rule (field ∷ fields)) ≡ valueOf (rule name)
     go true e below = rw e (ap (λ (n : List ℕ). valueOf (rule n)) (same-eq field name e))
     go false e below = rw e (below (omega (arith, rw e at h)))
 
@@ -139,7 +140,9 @@ module _ (u : UnitRecord) (prices : List ℤ) (names : List (List ℕ))
       (conj (limit (u .limits .mwh) (limit-small mostMwh (u .limits .mwh) (omega arith) (r .limits .mwh-kept))) refl))))))))))))
 
   values-pass : (test : List ℕ → Bool) → every (λ name. test (shownField u name)) unitNames ≡ true → every test values ≡ true
-  values-pass test h = sym (every-map test (shownField u) names) ∙ of-names (λ name. test (shownField u name)) unitNames unitOptional h refl names (names-kept .no-other)
+  values-pass test h =
+      sym (every-map test (shownField u) names)
+      ∙ of-names (λ name. test (shownField u name)) unitNames unitOptional h refl names (names-kept .no-other)
 
   rows-pass : (test : List ℕ → Bool) → ((z : ℤ) → natAbs z < 10 ^ 10 → test (shownPrice z) ≡ true) → every test rows ≡ true
   rows-pass test price =
@@ -164,7 +167,9 @@ module _ (u : UnitRecord) (prices : List ℤ) (names : List (List ℕ))
   unfolding isOf
   parts-free =
       conj (joined-line names (of-names (free LineEnd) unitNames unitOptional refl refl names (names-kept .no-other)))
-      (conj (joined-line values (values-pass (free LineEnd) (fields-pass (free LineEnd) (λ n h. whole-unparted n h .no-end) (λ l h. limit-unparted l h .no-end))))
+      (conj
+      (joined-line values
+      (values-pass (free LineEnd) (fields-pass (free LineEnd) (λ n h. whole-unparted n h .no-end) (λ l h. limit-unparted l h .no-end))))
       (rows-pass (free LineEnd) (λ z h. price-unparted z h .no-end)))
 
   abbrev text : List ℕ
@@ -196,15 +201,20 @@ module _ (u : UnitRecord) (prices : List ℤ) (names : List (List ℕ))
   limit-value None = refl
   limit-value (At n) = refl
 
+  as-many : length (fieldsOf (joined values)) ≡ length (fieldsOf (joined names))
+  as-many = rw (values-back, names-back) (length-map names (shownField u))
+
+  values-kept : every isValue values ≡ true
+  values-kept =
+      values-pass isValue
+      (fields-pass isValue (λ n h. value-is (shownWhole n) (Number (pos n)) (whole-back n h) refl)
+      (λ l h. value-is (shownLimit l) (limitValue l) (limit-back l h) (limit-value l)))
+
   unit-table : tableFormed (joined names) (joined values ∷ []) ≡ true
   unfolding isName isOf
   unit-table =
       conj (ap (every isName) names-back ∙ of-names isName unitNames unitOptional refl refl names (names-kept .no-other))
-      (conj
-      (conj (eq-eqb (length (fieldsOf (joined values))) (length (fieldsOf (joined names))) (ap (λ (l : List (List ℕ)). length l) values-back ∙ length-map names (shownField u) ∙ ap (λ (l : List (List ℕ)). length l) (sym names-back)))
-      (ap (every isValue) values-back
-      ∙ values-pass isValue (fields-pass isValue (λ n h. value-is (shownWhole n) (Number (pos n)) (whole-back n h) refl) (λ l h. value-is (shownLimit l) (limitValue l) (limit-back l h) (limit-value l)))))
-      refl)
+      (conj (conj (eq-eqb _ _ as-many) (ap (every isValue) values-back ∙ values-kept)) refl)
 
   price-line : (z : ℤ) → natAbs z < 10 ^ 10 → valueLine 1 (shownPrice z) ≡ true
   price-line z h =
@@ -238,10 +248,12 @@ module _ (u : UnitRecord) (prices : List ℤ) (names : List (List ℕ))
     under-name k h =
         under-back (shownField u) (getD unitNames k []) names (omega (arith, names-kept .once k h))
 
-    whole-field : (k : ℕ) → k < 13 → (n : ℕ) → n < 10 ^ 10 → shownField u (getD unitNames k []) ≡ shownWhole n → wholeOf (under (getD unitNames k []) names values) ≡ n
+    whole-field : (k : ℕ) → k < 13 → (n : ℕ) → n < 10 ^ 10 → shownField u (getD unitNames k []) ≡ shownWhole n
+        → wholeOf (under (getD unitNames k []) names values) ≡ n
     whole-field k h n b e = ap wholeOf (under-name k h ∙ ap valueOf e ∙ whole-back n b)
 
-    limit-field : (k : ℕ) → k < 13 → (most : ℕ) → most < 10 ^ 10 → (l : Limit) → limitKept most l ≡ true → shownField u (getD unitNames k []) ≡ shownLimit l → limitOf (under (getD unitNames k []) names values) ≡ l
+    limit-field : (k : ℕ) → k < 13 → (most : ℕ) → most < 10 ^ 10 → (l : Limit) → limitKept most l ≡ true
+        → shownField u (getD unitNames k []) ≡ shownLimit l → limitOf (under (getD unitNames k []) names values) ≡ l
     limit-field k h most m l b e = ap limitOf (under-name k h ∙ ap valueOf e ∙ limit-back l (limit-small most l m b)) ∙ limit-of-value l
 
     fields-are : unitOf names values ≡ u
@@ -296,7 +308,8 @@ module _ (u : UnitRecord) (prices : List ℤ) (names : List (List ℕ))
 -- what is written is read: the answer is the record, and the slice has the prices in front and behind them what was there
 pub written-read : (u : UnitRecord) (prices : List ℤ) (names : List (List ℕ)) (slice : List ℤ) → caseChecked u (pricesKept prices) (length prices) ≡ Passed
     → named unitNames unitOptional names ≡ true → length (written names u prices) ≤ mostBytes → length prices ≤ length slice
-    → (readCase (written names u prices) (length slice) ≡ Case u (length prices)) × (readPrices (written names u prices) slice ≡ prices ++ drop (length prices) slice)
+    → (readCase (written names u prices) (length slice) ≡ Case u (length prices))
+    × (readPrices (written names u prices) slice ≡ prices ++ drop (length prices) slice)
 written-read u prices names slice kept each short fits =
     let room = length slice in (
       case-read u prices names kept each room short fits,

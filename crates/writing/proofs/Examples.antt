@@ -79,7 +79,7 @@ texts =
     -- 1: a capital letter in a name
     ∷ (closing (bytes "block,pmin,pmax,mot,mdt,was,held,vec,mlc,suc,starts,hours,mWh" ∷ values ∷ [] ∷ head ∷ prices))
     -- 1: an empty name
-    ∷ (closing (bytes "block,pmin,pmax,mot,mdt,was,held,vec,mlc,suc,starts,hours,mwh," ∷ bytes "10,1,2,2,2,0,2,3000,30000,5000,2,2,none,1" ∷ [] ∷ head ∷ prices))
+    ∷ (closing ((names ++ bytes ",") ∷ bytes "10,1,2,2,2,0,2,3000,30000,5000,2,2,none,1" ∷ [] ∷ head ∷ prices))
     -- 1: eleven digits
     ∷ (closing (names ∷ values ∷ [] ∷ head ∷ bytes "12345678901" ∷ []))
     -- 1: -0
@@ -107,7 +107,7 @@ texts =
     -- 2: a missing name
     ∷ (closing (bytes "block,pmin,pmax,mot,mdt,was,held,vec,mlc,suc,starts,hours" ∷ bytes "10,1,2,2,2,0,2,3000,30000,5000,2,2" ∷ [] ∷ head ∷ prices))
     -- 2: a name more
-    ∷ (closing (bytes "block,pmin,pmax,mot,mdt,was,held,vec,mlc,suc,starts,hours,mwh,none" ∷ bytes "10,1,2,2,2,0,2,3000,30000,5000,2,2,none,1" ∷ [] ∷ head ∷ prices))
+    ∷ (closing ((names ++ bytes ",none") ∷ bytes "10,1,2,2,2,0,2,3000,30000,5000,2,2,none,1" ∷ [] ∷ head ∷ prices))
     -- 2: another name where `price` belongs
     ∷ (closing (names ∷ values ∷ [] ∷ bytes "cost" ∷ prices))
     -- 2: `price` twice over two values
@@ -137,6 +137,7 @@ texts =
     ∷ []
 
 pub numbers : map (λ text. checkedNumber (textChecked text 6144)) texts
-    ≡ 0 ∷ 0 ∷ 1 ∷ 1 ∷ 1 ∷ 1 ∷ 1 ∷ 1 ∷ 1 ∷ 1 ∷ 1 ∷ 1 ∷ 1 ∷ 1 ∷ 1 ∷ 1 ∷ 1 ∷ 1 ∷ 1 ∷ 1 ∷ 1 ∷ 1 ∷ 1 ∷ 1 ∷ 2 ∷ 2 ∷ 2 ∷ 2 ∷ 2 ∷ 2 ∷ 3 ∷ 3 ∷ 3 ∷ 3 ∷ 3 ∷ 3 ∷ 4 ∷ 4 ∷ 5 ∷ 5 ∷ 3 ∷ []
+    ≡ 0 ∷ 0 ∷ 1 ∷ 1 ∷ 1 ∷ 1 ∷ 1 ∷ 1 ∷ 1 ∷ 1 ∷ 1 ∷ 1 ∷ 1 ∷ 1 ∷ 1 ∷ 1 ∷ 1 ∷ 1 ∷ 1 ∷ 1 ∷ 1 ∷ 1 ∷ 1 ∷ 1
+    ∷ 2 ∷ 2 ∷ 2 ∷ 2 ∷ 2 ∷ 2 ∷ 3 ∷ 3 ∷ 3 ∷ 3 ∷ 3 ∷ 3 ∷ 4 ∷ 4 ∷ 5 ∷ 5 ∷ 3 ∷ []
 unfolding isOf isName numeral valueOf isValue rangesKept pricesKept formKept namesKept unitIn pricesIn textChecked
 numbers = refl

@@ -22,7 +22,8 @@ nowhere name (field ∷ fields) zero z h e = omega (arith, ap weight (alike fiel
 nowhere name (field ∷ fields) (suc i) z h e = nowhere name fields i (omega (arith, z)) (omega arith) e
 
 -- a name that occurs once has its value under it
-pub stands : (name : List ℕ) (names values : List (List ℕ)) → occurs name names ≡ 1 → length values ≡ length names → StandsUnder names values name (under name names values)
+pub stands : (name : List ℕ) (names values : List (List ℕ)) → occurs name names ≡ 1 → length values ≡ length names
+    → StandsUnder names values name (under name names values)
 stands name [] values o l = absurd (omega (arith, o))
 stands name (field ∷ fields) [] o l = absurd (omega (arith, l))
 stands name (field ∷ fields) (value ∷ values) o l = go (same field name) refl (stands name fields values)
@@ -52,6 +53,7 @@ stands name (field ∷ fields) (value ∷ values) o l = go (same field name) ref
           only = later w;
         }
       where
-        later : (w : StandsUnder fields values name (under name fields values)) (i : ℕ) → i < suc (length fields) → getD (field ∷ fields) i [] ≡ name → i ≡ suc (w .place)
+        later : (w : StandsUnder fields values name (under name fields values)) (i : ℕ) → i < suc (length fields)
+            → getD (field ∷ fields) i [] ≡ name → i ≡ suc (w .place)
         later w zero h e = absurd (false≢true (sym q ∙ alike field name e))
         later w (suc i) h e = ap suc (w .only i (omega arith) e)

@@ -18,26 +18,17 @@ case-is : (c : tie.After-check-case) →
 case-is c = rw (c .before .prices-kept .ensures) at (c .check-case .ensures)
 
 -- by what it comes to, the answer
-found : (c : tie.Start) {r k : Checked} → r ≡ caseChecked (c .args .unit) (pricesKept (c .args .prices .now)) (length (c .args .prices .now)) → r ≡ k
-    → assessedBy (checkedThen k (handedIn (c .args .unit) (c .args .prices .now) (c .args .schedule .now))) (profit (c .args .unit) (c .args .prices .now) (c .args .schedule .now))
-    ≡ assessed (c .args .unit) (c .args .prices .now) (c .args .schedule .now)
+found : (c : tie.Start) {r k : Checked} →
+    let a = c .args in
+    r ≡ caseChecked (a .unit) (pricesKept (a .prices .now)) (length (a .prices .now))
+    → r ≡ k
+    → assessedBy (checkedThen k (handedIn (a .unit) (a .prices .now) (a .schedule .now))) (profit (a .unit) (a .prices .now) (a .schedule .now))
+    ≡ assessed (a .unit) (a .prices .now) (a .schedule .now)
 found c e i =
     let a = c .args in
     ap (λ (k : Checked). assessedBy k (profit (a .unit) (a .prices .now) (a .schedule .now)))
     (ap (λ (k : Checked). checkedThen k (handedIn (a .unit) (a .prices .now) (a .schedule .now))) (sym i ∙ e)
     ∙ sym (hand-in-turn (a .unit) (a .prices .now) (a .schedule .now)))
-
-prices-kept-requires : tie.Need-prices-kept-requires
-prices-kept-requires c κs = search needs
-
-check-case-requires : tie.Need-check-case-requires
-check-case-requires c κs = search needs
-
-enum-known-cause : tie.Need-enum-known-cause
-enum-known-cause c = search needs
-
-enum-told : tie.Need-enum-told
-enum-told c = search needs
 
 of-case-requires : tie.Need-of-case-requires
 of-case-requires c κs = let case = c .before .before in sym (case-is case) ∙ c .enum-told .given .1
@@ -53,4 +44,11 @@ returns-2 c =
 pub assess-spec : {M : Type 1} → statement M
 assess-spec =
     tie.close
-    (tie.spec prices-kept-requires check-case-requires enum-known-cause enum-told of-case-requires returns returns-2)
+    (tie.spec
+    (λ c κs. search needs)
+    (λ c κs. search needs)
+    (λ c. search needs)
+    (λ c. search needs)
+    of-case-requires
+    returns
+    returns-2)

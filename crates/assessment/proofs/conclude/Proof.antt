@@ -5,17 +5,6 @@ use Rattle.assessment.specs.Walking.{concluded}
 use Rattle.assessment.proofs.conclude.Statement.{statement}
 use Rattle.assessment.proofs.conclude.Tie as tie
 
--- By cases on how the walk ended.
-
-enum-known-walked : tie.Need-enum-known-walked
-enum-known-walked c = search needs
-
-settle-requires : tie.Need-settle-requires
-settle-requires c κs = search needs
-
-enum-told : tie.Need-enum-told
-enum-told c = search needs
-
 returns : tie.Need-returns
 returns c = c .settle .ensures ∙ ap (concluded (c .before .before .before .before .args .unit)) (sym (c .before .before .walked .given .1))
 
@@ -23,4 +12,4 @@ returns-2 : tie.Need-returns-2
 returns-2 c = ap (concluded (c .before .before .args .unit)) (sym (c .enum-told .given .1))
 
 pub conclude-spec : {M : Type 1} → statement M
-conclude-spec = tie.close (tie.spec enum-known-walked settle-requires enum-told returns returns-2)
+conclude-spec = tie.close (tie.spec (λ c. search needs) (λ c κs. search needs) (λ c. search needs) returns returns-2)

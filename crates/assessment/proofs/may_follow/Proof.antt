@@ -8,12 +8,9 @@ use Rattle.assessment.proofs.may_follow.Tie as tie
 is-output-requires : tie.Need-is-output-requires
 is-output-requires c κs = let s = c .before in generator-kept (s .args .unit) (s .pre)
 
-spell-kept-requires : tie.Need-spell-kept-requires
-spell-kept-requires c κs = search needs
-
 returns : tie.Need-returns
 unfolding mayFollow
 returns c = cc
 
 pub may-follow-spec : {M : Type 1} → statement M
-may-follow-spec = tie.close (tie.spec is-output-requires spell-kept-requires returns)
+may-follow-spec = tie.close (tie.spec is-output-requires (λ c κs. search needs) returns)

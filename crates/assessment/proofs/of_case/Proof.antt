@@ -13,13 +13,15 @@ length-is : (c : tie.Else1) → length (c .before .before .args .schedule .now) 
 length-is c = c .if1 .left
 
 returns : tie.Need-returns
-returns c = simp (ne-eqb (length (c .before .before .args .schedule .now)) (length (c .before .before .args .prices .now)) (c .if1 .taken))
+returns c = let a = c .before .before .args in simp (ne-eqb (length (a .schedule .now)) (length (a .prices .now)) (c .if1 .taken))
 
 walk-whole-requires : tie.Need-walk-whole-requires
 walk-whole-requires c κs = (c .before .before .pre, length-is c)
 
 conclude-requires : tie.Need-conclude-requires
-conclude-requires c κs = let s = c .before .before .before in passing (s .args .unit) (pricesKept (s .args .prices .now)) (length (s .args .prices .now)) (s .pre) .order .ranges
+conclude-requires c κs =
+    let s = c .before .before .before in
+    passing (s .args .unit) (pricesKept (s .args .prices .now)) (length (s .args .prices .now)) (s .pre) .order .ranges
 
 returns-2 : tie.Need-returns-2
 returns-2 c =

@@ -6,14 +6,6 @@ use Rattle.assessment.specs.Assessed.{assessedProfit}
 use Rattle.assessment.proofs.profit_of.Statement.{statement}
 use Rattle.assessment.proofs.profit_of.Tie as tie
 
--- By cases on the answer.
-
-enum-known-answer : tie.Need-enum-known-answer
-enum-known-answer c = search needs
-
-enum-told : tie.Need-enum-told
-enum-told c = search needs
-
 returns : tie.Need-returns
 returns c = plain-fits (record { sfits = c .known-told .given .0 .1 }) ∙ ap assessedProfit (sym (c .before .answer .given .1))
 
@@ -21,4 +13,4 @@ returns-2 : tie.Need-returns-2
 returns-2 c = ap assessedProfit (sym (c .enum-told .given .1))
 
 pub profit-of-spec : {M : Type 1} → statement M
-profit-of-spec = tie.close (tie.spec enum-known-answer enum-told returns returns-2)
+profit-of-spec = tie.close (tie.spec (λ c. search needs) (λ c. search needs) returns returns-2)

@@ -25,17 +25,16 @@ fits-profit c = within-fits (profit-within c) (lit< tt)
 fits-gain : (c : tie.Start) → SFits w64 (c .args .gain)
 fits-gain c = within-fits (gain-within c) (lit< tt)
 
-add-t6 : tie.Need-add-t6
-add-t6 c = search needs
-
-add-t7 : tie.Need-add-t7
-add-t7 c = search needs
+fits-whole : (c : tie.Start) → SFits w64 (c .args .at .profit +ℤ c .args .gain)
+fits-whole c = within-fits (whole c) (lit< tt)
 
 add-t8 : tie.Need-add-t8
-add-t8 c = simp (plain-fits (fits-profit (c .before .before .before .before)), plain-fits (fits-gain (c .before .before .before .before))) (within-fits (whole (c .before .before .before .before)) (lit< tt))
+add-t8 c = let s = c .before .before .before .before in simp (plain-fits (fits-profit s), plain-fits (fits-gain s)) (fits-whole s)
 
 returns : tie.Need-returns
-returns c = simp (plain-fits (fits-profit (c .before .before .before .before)), plain-fits (fits-gain (c .before .before .before .before)), plain-fits (within-fits (whole (c .before .before .before .before)) (lit< tt)))
+returns c =
+    let s = c .before .before .before .before in
+    simp (plain-fits (fits-profit s), plain-fits (fits-gain s), plain-fits (fits-whole s))
 
 pub ran-spec : {M : Type 1} → statement M
-ran-spec = tie.close (tie.spec add-t6 add-t7 add-t8 returns)
+ran-spec = tie.close (tie.spec (λ c. search needs) (λ c. search needs) add-t8 returns)

@@ -2,10 +2,10 @@
 use borrow.Author.Needs.{needs}
 use mathlib.Core.Bool.{true}
 use mathlib.Core.Path.{_≡_, refl, sym, _∙_}
-use Prim.Native.Nat.{_≤_, _<_, _-_}
+use Prim.Native.Nat.{ℕ, _≤_, _<_, _-_}
 use native.Mathlib.Omega.{arith}
 use borrow.Author.Tests.{not-true, not-false}
-use lib.IntN.{pos, natAbs}
+use lib.IntN.{ℤ, pos, natAbs}
 use lib.ListN.{length, drop, getD}
 use mir.Syntax.{w64}
 use mir.Val.{toZ, ofZ}
@@ -23,55 +23,63 @@ use Rattle.assessment.proofs.walk_whole.Tie as tie
 
 abbrev Inv-loop : tie.InvT-loop
 Inv-loop unit prices schedule at₀ i₀ at i =
-    (i ≤ length prices) × Bounded i at × (walkFrom unit at (drop i prices) (drop i schedule) ≡ walkFrom unit (openingWalk (unit .opening)) prices schedule)
+    (i ≤ length prices)
+    × Bounded i at
+    × (walkFrom unit at (drop i prices) (drop i schedule) ≡ walkFrom unit (openingWalk (unit .opening)) prices schedule)
 
 abbrev μ-loop : tie.MeasureT-loop
 μ-loop unit prices schedule at₀ i₀ at i = length prices - i
 
+-- the interval that a turn is about
+abbrev price-here : tie.At-loop Inv-loop μ-loop → ℤ
+price-here c = getD (c .before .before .before .args .prices .now) (c .loop .i) (pos 0)
+
+abbrev output-here : tie.At-loop Inv-loop μ-loop → ℕ
+output-here c = getD (c .before .before .before .args .schedule .now) (c .loop .i) 0
+
 -- the case is in order, and an interval of it has an output
-in-order : (c : tie.At-loop Inv-loop μ-loop) → Passing (c .before .before .before .args .unit) (pricesKept (c .before .before .before .args .prices .now)) (length (c .before .before .before .args .prices .now))
-in-order c = passing (c .before .before .before .args .unit) (pricesKept (c .before .before .before .args .prices .now)) (length (c .before .before .before .args .prices .now)) (c .before .before .before .pre .0)
+in-order : (c : tie.At-loop Inv-loop μ-loop) →
+    let a = c .before .before .before .args in
+    Passing (a .unit) (pricesKept (a .prices .now)) (length (a .prices .now))
+in-order c =
+    let s = c .before .before .before in
+    passing (s .args .unit) (pricesKept (s .args .prices .now)) (length (s .args .prices .now)) (s .pre .0)
 
 output-there : (c : tie.In-loop Inv-loop μ-loop) → c .before .loop .i < length (c .before .before .before .before .args .schedule .now)
 output-there c = omega (arith, c .before .before .before .before .pre .1)
 
 -- in a turn that goes on: the output follows, and is small
-follows : (c : tie.Else1 Inv-loop μ-loop)
-    → mayFollow (c .before .before .before .before .before .before .before .args .unit) (c .before .before .before .before .loop .at)
-    (getD (c .before .before .before .before .before .before .before .args .schedule .now) (c .before .before .before .before .loop .i) 0)
-    ≡ true
+follows : (c : tie.Else1 Inv-loop μ-loop) →
+    let turn = c .before .before .before .before in
+    mayFollow (turn .before .before .before .args .unit) (turn .loop .at) (output-here turn) ≡ true
 follows c = sym (c .before .may-follow .ensures) ∙ not-false (c .before .may-follow .result) (c .if1 .left)
 
-small-output : (c : tie.Else1 Inv-loop μ-loop)
-    → getD (c .before .before .before .before .before .before .before .args .schedule .now) (c .before .before .before .before .loop .i) 0 ≤ mostMw
+small-output : (c : tie.Else1 Inv-loop μ-loop) → output-here (c .before .before .before .before) ≤ mostMw
 unfolding mayFollow
 small-output c =
-    let s = c .before .before .before .before .before .before .before in
-    let at = c .before .before .before .before .loop .at in
-    let m = getD (s .args .schedule .now) (c .before .before .before .before .loop .i) 0 in
-    let h = in-order (c .before .before .before .before) in
-    output-most (s .args .unit) (h .order .ranges) (h .order .shape) m (both (isOutput (s .args .unit .generator) m) (spellKept (s .args .unit .generator) (at .on) (at .spent) m) (follows c) .0)
+    let turn = c .before .before .before .before in
+    let u = turn .before .before .before .args .unit in
+    let at = turn .loop .at in
+    let m = output-here turn in
+    let h = in-order turn in
+    output-most u (h .order .ranges) (h .order .shape) m
+    (both (isOutput (u .generator) m) (spellKept (u .generator) (at .on) (at .spent) m) (follows c) .0)
 
-price-plain : (c : tie.After-step-arg Inv-loop μ-loop)
-    → toZ w64 (ofZ w64 (getD (c .before .before .before .before .before .before .before .before .args .prices .now) (c .before .before .before .before .before .loop .i) (pos 0)))
-    ≡ getD (c .before .before .before .before .before .before .before .before .args .prices .now) (c .before .before .before .before .before .loop .i) (pos 0)
+price-plain : (c : tie.After-step-arg Inv-loop μ-loop) →
+    let price = price-here (c .before .before .before .before .before) in
+    toZ w64 (ofZ w64 price) ≡ price
 price-plain c = plain-fits (record { sfits = c .step-arg .given })
 
-small-price : (c : tie.After-step-arg Inv-loop μ-loop)
-    → natAbs (getD (c .before .before .before .before .before .before .before .before .args .prices .now) (c .before .before .before .before .before .loop .i) (pos 0)) ≤ mostPrice
-small-price c = prices-small (c .before .before .before .before .before .before .before .before .args .prices .now) (in-order (c .before .before .before .before .before) .prices) (c .before .before .before .before .before .loop .i) (omega arith)
-
-open-requires : tie.Need-open-requires Inv-loop μ-loop
-open-requires c κs = search needs
+small-price : (c : tie.After-step-arg Inv-loop μ-loop) → natAbs (price-here (c .before .before .before .before .before)) ≤ mostPrice
+small-price c =
+    let turn = c .before .before .before .before .before in
+    prices-small (turn .before .before .before .args .prices .now) (in-order turn .prices) (turn .loop .i) (omega arith)
 
 loop-holds : tie.Need-loop-holds Inv-loop μ-loop
 loop-holds c =
     let s = c .before .before in
     let h = passing (s .args .unit) (pricesKept (s .args .prices .now)) (length (s .args .prices .now)) (s .pre .0) in
     rw (c .«open» .ensures) (omega arith, opening-bounded (s .args .unit) (h .order .ranges) (h .order .shape), refl)
-
-mul-output : tie.Need-mul-output Inv-loop μ-loop
-mul-output c = search needs
 
 shared-slice-read-output : tie.Need-shared-slice-read-output Inv-loop μ-loop
 shared-slice-read-output c = output-there (c .before)
@@ -88,12 +96,6 @@ returns c =
     (sym (c .before .may-follow .ensures) ∙ not-true (c .before .may-follow .result) (c .if1 .taken)))
     ∙ l .inv .2
 
-mul-step : tie.Need-mul-step Inv-loop μ-loop
-mul-step c = search needs
-
-shared-slice-copy-out-step : tie.Need-shared-slice-copy-out-step Inv-loop μ-loop
-shared-slice-copy-out-step c = omega arith
-
 step-requires : tie.Need-step-requires Inv-loop μ-loop
 step-requires c κs =
     let h = in-order (c .before .before .before .before .before) in
@@ -102,24 +104,20 @@ step-requires c κs =
       ((rw (price-plain c) (small-price c), small-output (c .before)), bounded-small (l .i) (l .at) (omega (arith, l .inv .0, h .order .short)) (l .inv .1)),
     )
 
-add-i : tie.Need-add-i Inv-loop μ-loop
-add-i c = omega arith
-
-loop-less : tie.Need-loop-less Inv-loop μ-loop
-loop-less c = omega arith
-
 loop-again : tie.Need-loop-again Inv-loop μ-loop
 loop-again c =
-    let s = c .before .before .before .before .before .before .before .before .before in
-    let l = c .before .before .before .before .before .before .loop in
-    let h = in-order (c .before .before .before .before .before .before) in
-    let p = getD (s .args .prices .now) (l .i) (pos 0) in
-    let m = getD (s .args .schedule .now) (l .i) 0 in
-    let e : c .step .result ≡ stepped (s .args .unit) (l .at) p m = rw (price-plain (c .before)) at (c .step .ensures) in
+    let turn = c .before .before .before .before .before .before in
+    let a = turn .before .before .before .args in
+    let l = turn .loop in
+    let h = in-order turn in
+    let p = price-here turn in
+    let m = output-here turn in
+    let e : c .step .result ≡ stepped (a .unit) (l .at) p m = rw (price-plain (c .before)) at (c .step .ensures) in
+    let there = output-there (c .before .before .before .before .before) in
     rw e (
       omega arith,
-      step-bounded (s .args .unit) (h .order .ranges) (h .order .shape) (l .i) (l .at) p m (small-price (c .before)) (small-output (c .before .before)) (l .inv .1),
-      walk-on (s .args .unit) (l .at) (s .args .prices .now) (s .args .schedule .now) (l .i) (omega arith) (output-there (c .before .before .before .before .before)) (follows (c .before .before)) ∙ l .inv .2,
+      step-bounded (a .unit) (h .order .ranges) (h .order .shape) (l .i) (l .at) p m (small-price (c .before)) (small-output (c .before .before)) (l .inv .1),
+      walk-on (a .unit) (l .at) (a .prices .now) (a .schedule .now) (l .i) (omega arith) there (follows (c .before .before)) ∙ l .inv .2,
     )
 
 returns-2 : tie.Need-returns-2 Inv-loop μ-loop
@@ -134,16 +132,16 @@ walk-whole-spec =
     (tie.spec
     Inv-loop
     μ-loop
-    open-requires
+    (λ c κs. search needs)
     loop-holds
-    mul-output
+    (λ c. search needs)
     shared-slice-read-output
     may-follow-requires
     returns
-    mul-step
-    shared-slice-copy-out-step
+    (λ c. search needs)
+    (λ c. omega arith)
     step-requires
-    add-i
-    loop-less
+    (λ c. omega arith)
+    (λ c. omega arith)
     loop-again
     returns-2)

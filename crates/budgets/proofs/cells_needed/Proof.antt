@@ -1,5 +1,5 @@
 -- A table of the figures has the cells that the specification counts.
-use mathlib.Core.Path.{_≡_, ap, _∙_}
+use mathlib.Core.Path.{ap, _∙_}
 use Prim.Native.Nat.{ℕ, _+_, _*_}
 use Rattle.optimality.specs.declared.Figures.{Figures}
 use Rattle.optimality.proofs.Opening.{figures-sound}
@@ -10,13 +10,11 @@ use borrow.Author.Needs.{needs}
 use Rattle.budgets.proofs.cells_needed.Statement.{statement}
 use Rattle.budgets.proofs.cells_needed.Tie as tie
 
-figures-of-requires : tie.Need-figures-of-requires
-figures-of-requires c κs = search needs
-
 table-cells-requires : tie.Need-table-cells-requires
 table-cells-requires c κs =
     let s = c .before in
-    (rw (c .figures-of .ensures) (figures-sound (s .args .unit) (ranged (s .args .unit) (s .pre .ranges) (s .pre .shape)) (s .args .n) (s .pre .short)), s .pre .short)
+    let u = s .args .unit in
+    (rw (c .figures-of .ensures) (figures-sound u (ranged u (s .pre .ranges) (s .pre .shape)) (s .args .n) (s .pre .short)), s .pre .short)
 
 returns : tie.Need-returns
 returns c =
@@ -26,4 +24,4 @@ returns c =
     ∙ ap (λ (w : ℕ). (s .args .n + 1) * w) (width-is (s .args .unit) (s .args .n))
 
 pub cells-needed-spec : {M : Type 1} → statement M
-cells-needed-spec = tie.close (tie.spec figures-of-requires table-cells-requires returns)
+cells-needed-spec = tie.close (tie.spec (λ c κs. search needs) table-cells-requires returns)

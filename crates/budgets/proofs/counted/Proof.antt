@@ -9,25 +9,10 @@ use borrow.Author.Needs.{needs}
 use Rattle.budgets.proofs.counted.Statement.{statement}
 use Rattle.budgets.proofs.counted.Tie as tie
 
-enum-told : tie.Need-enum-told
-enum-told c = search needs
-
-enum-known-limit : tie.Need-enum-known-limit
-enum-known-limit c = search needs
-
 in-counts-requires : tie.Need-in-counts-requires
 in-counts-requires c κs =
     let s = c .before .before .before in
     (s .pre .0, leb-true (c .before .limit .given .0 .0) mostMwh (sym (ap (limitKept mostMwh) (c .before .limit .given .1)) ∙ s .pre .2))
-
-most-counts-requires : tie.Need-most-counts-requires
-most-counts-requires c κs = search needs
-
-smaller-requires : tie.Need-smaller-requires
-smaller-requires c κs = search needs
-
-returns : tie.Need-returns
-returns c = search needs
 
 returns-2 : tie.Need-returns-2
 returns-2 c =
@@ -41,10 +26,10 @@ pub counted-spec : {M : Type 1} → statement M
 counted-spec =
     tie.close
     (tie.spec
-    enum-told
-    enum-known-limit
+    (λ c. search needs)
+    (λ c. search needs)
     in-counts-requires
-    most-counts-requires
-    smaller-requires
-    returns
+    (λ c κs. search needs)
+    (λ c κs. search needs)
+    (λ c. search needs)
     returns-2)

@@ -18,15 +18,6 @@ asked : (c : tie.Start) (which : Limitation) →
     (generatorKept (c .args .unit .generator) ≡ true) × (c .args .n ≤ mostIntervals) × (limitKept mostMwh (limitFor (c .args .unit .limits) which) ≡ true)
 asked c which = (generator-kept (c .args .unit) (c .pre .ranges), c .pre .short, limit-small (c .args .unit) (c .pre .ranges) which)
 
-taken-requires : tie.Need-taken-requires
-taken-requires c κs = search needs
-
-taken-requires-2 : tie.Need-taken-requires-2
-taken-requires-2 c κs = search needs
-
-taken-requires-3 : tie.Need-taken-requires-3
-taken-requires-3 c κs = search needs
-
 counted-requires : tie.Need-counted-requires
 counted-requires c κs = asked (c .before .before .before .before .before .before) Starts
 
@@ -44,9 +35,9 @@ pub figures-of-spec : {M : Type 1} → statement M
 figures-of-spec =
     tie.close
     (tie.spec
-    taken-requires
-    taken-requires-2
-    taken-requires-3
+    (λ c κs. search needs)
+    (λ c κs. search needs)
+    (λ c κs. search needs)
     counted-requires
     counted-requires-2
     counted-requires-3

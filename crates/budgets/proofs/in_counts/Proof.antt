@@ -12,26 +12,8 @@ use Rattle.budgets.proofs.in_counts.Tie as tie
 counts-of : (c : tie.Start) {a b : Limitation} → a ≡ b → inCounts (c .args .g) b (c .args .figure) ≡ inCounts (c .args .g) a (c .args .figure)
 counts-of c e = ap (λ (w : Limitation). inCounts (c .args .g) w (c .args .figure)) (sym e)
 
-enum-told : tie.Need-enum-told
-enum-told c = search needs
-
-enum-told-2 : tie.Need-enum-told-2
-enum-told-2 c = search needs
-
-mul-result : tie.Need-mul-result
-mul-result c = search needs
-
-enum-told-3 : tie.Need-enum-told-3
-enum-told-3 c = search needs
-
-mul-result-2 : tie.Need-mul-result-2
-mul-result-2 c = search needs
-
 div-result : tie.Need-div-result
 div-result c = let s = c .before .before .before in omega (arith, generator-ranges (s .args .g) (s .pre .0) .block-least)
-
-returns : tie.Need-returns
-returns c = search needs
 
 returns-2 : tie.Need-returns-2
 returns-2 c = counts-of (c .before .before) (c .enum-told2 .given .1)
@@ -43,12 +25,12 @@ pub in-counts-spec : {M : Type 1} → statement M
 in-counts-spec =
     tie.close
     (tie.spec
-    enum-told
-    enum-told-2
-    mul-result
-    enum-told-3
-    mul-result-2
+    (λ c. search needs)
+    (λ c. search needs)
+    (λ c. search needs)
+    (λ c. search needs)
+    (λ c. search needs)
     div-result
-    returns
+    (λ c. search needs)
     returns-2
     returns-3)

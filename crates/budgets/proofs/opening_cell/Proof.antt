@@ -18,9 +18,6 @@ asked : (c : tie.Start) (which : Limitation) →
     (generatorKept (c .args .unit .generator) ≡ true) × (c .args .n ≤ mostIntervals) × (limitKept mostMwh (limitFor (c .args .unit .limits) which) ≡ true)
 asked c which = (generator-kept (c .args .unit) (c .pre .ranges), c .pre .short, limit-small (c .args .unit) (c .pre .ranges) which)
 
-opening-state-requires : tie.Need-opening-state-requires
-opening-state-requires c κs = search needs
-
 counted-requires : tie.Need-counted-requires
 counted-requires c κs = asked (c .before .before .before) Starts
 
@@ -38,7 +35,7 @@ pub opening-cell-spec : {M : Type 1} → statement M
 opening-cell-spec =
     tie.close
     (tie.spec
-    opening-state-requires
+    (λ c κs. search needs)
     counted-requires
     counted-requires-2
     counted-requires-3

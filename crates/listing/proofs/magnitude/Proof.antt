@@ -20,8 +20,6 @@ lower c = below (c .before .args .value) (c .before .fits .value) (rw (value-pla
 turned-fits : (c : tie.Then1) → SFits w64 (pos (natAbs (c .before .args .value) - 1))
 turned-fits c = record { sfits = omega (arith, lower c .least, lower c .most) }
 
--- Below zero the number is raised by one first, so that the smallest i64 has a magnitude too.
-
 add-result : tie.Need-add-result
 add-result c = rw (value-plain (c .before)) (lower c .raised)
 
@@ -29,21 +27,25 @@ sub-result : tie.Need-sub-result
 sub-result c = simp (value-plain (c .before), plain-fits (lower c .raised), lower c .turned) (turned-fits c)
 
 cast-result : tie.Need-cast-result
-cast-result c = simp (value-plain (c .before), plain-fits (lower c .raised), lower c .turned, plain-fits (turned-fits c)) (tt, record { fits = omega (arith, lower c .most) })
+cast-result c =
+    simp (value-plain (c .before), plain-fits (lower c .raised), lower c .turned, plain-fits (turned-fits c))
+    (tt, record { fits = omega (arith, lower c .most) })
 
 add-result-2 : tie.Need-add-result-2
-add-result-2 c = simp (value-plain (c .before), plain-fits (lower c .raised), lower c .turned, plain-fits (turned-fits c)) (record { fits = omega (arith, lower c .most) })
+add-result-2 c =
+    simp (value-plain (c .before), plain-fits (lower c .raised), lower c .turned, plain-fits (turned-fits c))
+    (record { fits = omega (arith, lower c .most) })
 
 returns : tie.Need-returns
 returns c = simp (value-plain (c .before), plain-fits (lower c .raised), lower c .turned, plain-fits (turned-fits c)) (omega (arith, lower c .least))
 
 cast-result-2 : tie.Need-cast-result-2
-cast-result-2 c = rw (value-plain (c .before)) (not-below (c .before .args .value) (rw (value-plain (c .before)) at (c .if1 .left)), record { fits = omega (arith, magnitude-fits (c .before .args .value) (c .before .fits .value)) })
-
-returns-2 : tie.Need-returns-2
-returns-2 c = search needs
+cast-result-2 c =
+    let s = c .before in
+    let z = s .args .value in
+    rw (value-plain s) (not-below z (rw (value-plain s) at (c .if1 .left)), record { fits = omega (arith, magnitude-fits z (s .fits .value)) })
 
 pub magnitude-spec : {M : Type 1} → statement M
 magnitude-spec =
     tie.close
-    (tie.spec add-result sub-result cast-result add-result-2 returns cast-result-2 returns-2)
+    (tie.spec add-result sub-result cast-result add-result-2 returns cast-result-2 (λ c. search needs))

@@ -20,15 +20,14 @@ loop-holds c = (omega arith, c .fits .n .fits)
 add-digits : tie.Need-add-digits Inv-loop μ-loop
 add-digits c = omega (arith, c .before .loop .inv .0, number-short (c .before .before .args .n))
 
-loop-less : tie.Need-loop-less Inv-loop μ-loop
-loop-less c = omega arith
-
 loop-again : tie.Need-loop-again Inv-loop μ-loop
-loop-again c = (omega (arith, c .before .loop .inv .0, length-large (c .before .loop .rest) (c .loop-test .taken) (c .before .loop .inv .1)), omega (arith, c .before .loop .inv .1))
+loop-again c =
+    let l = c .before .loop in
+    (omega (arith, l .inv .0, length-large (l .rest) (c .loop-test .taken) (l .inv .1)), omega (arith, l .inv .1))
 
 returns : tie.Need-returns Inv-loop μ-loop
 returns c = omega (arith, c .before .loop .inv .0, length-small (c .before .loop .rest) (c .loop-test .left))
 
 pub number-length-spec : {M : Type 1} → statement M
 number-length-spec =
-    tie.close (tie.spec Inv-loop μ-loop loop-holds add-digits loop-less loop-again returns)
+    tie.close (tie.spec Inv-loop μ-loop loop-holds add-digits (λ c. omega arith) loop-again returns)

@@ -10,32 +10,6 @@ use borrow.Author.Needs.{needs}
 use Rattle.listing.proofs.outcome_length.Statement.{statement}
 use Rattle.listing.proofs.outcome_length.Tie as tie
 
--- By cases on the outcome.
-
-enum-told : tie.Need-enum-told
-enum-told c = search needs
-
-enum-told-2 : tie.Need-enum-told-2
-enum-told-2 c = search needs
-
-enum-told-3 : tie.Need-enum-told-3
-enum-told-3 c = search needs
-
-enum-known-outcome : tie.Need-enum-known-outcome
-enum-known-outcome c = search needs
-
-signed-length-requires : tie.Need-signed-length-requires
-signed-length-requires c κs = search needs
-
-returns : tie.Need-returns
-returns c = search needs
-
-returns-2 : tie.Need-returns-2
-returns-2 c = search needs
-
-returns-3 : tie.Need-returns-3
-returns-3 c = search needs
-
 returns-4 : tie.Need-returns-4
 returns-4 c =
     let z = c .before .before .outcome .given in
@@ -47,12 +21,12 @@ pub outcome-length-spec : {M : Type 1} → statement M
 outcome-length-spec =
     tie.close
     (tie.spec
-    enum-told
-    enum-told-2
-    enum-told-3
-    enum-known-outcome
-    signed-length-requires
-    returns
-    returns-2
-    returns-3
+    (λ c. search needs)
+    (λ c. search needs)
+    (λ c. search needs)
+    (λ c. search needs)
+    (λ c κs. search needs)
+    (λ c. search needs)
+    (λ c. search needs)
+    (λ c. search needs)
     returns-4)

@@ -19,27 +19,35 @@ put-number-requires : tie.Need-put-number-requires
 put-number-requires c κs = omega (arith, parts (c .before .before))
 
 put-byte-requires : tie.Need-put-byte-requires
-put-byte-requires c κs = omega (arith, parts (c .before .before .before .before .before .before), c .before .before .before .put-number .ensures .place, c .before .before .before .put-number .kept .0)
+put-byte-requires c κs =
+    let first = c .before .before .before in
+    let s = first .before .before .before in
+    omega (arith, parts s)
 
 put-number-requires-2 : tie.Need-put-number-requires-2
-put-number-requires-2 c κs = omega (arith, parts (c .before .before .before .before .before .before .before .before .before .before), c .before .before .before .before .before .before .before .put-number .ensures .place, c .before .before .before .before .before .before .before .put-number .kept .0, c .before .before .before .put-byte .ensures .place, c .before .before .before .put-byte .kept .0)
+put-number-requires-2 c κs =
+    let comma = c .before .before .before in
+    let first = comma .before .before .before .before in
+    let s = first .before .before .before in
+    omega (arith, parts s)
 
 put-byte-requires-2 : tie.Need-put-byte-requires-2
-put-byte-requires-2 c κs = omega (arith, parts (c .before .before .before .before .before .before .before .before .before .before .before .before .before .before), c .before .before .before .before .before .before .before .before .before .before .before .put-number .ensures .place, c .before .before .before .before .before .before .before .before .before .before .before .put-number .kept .0, c .before .before .before .before .before .before .before .put-byte .ensures .place, c .before .before .before .before .before .before .before .put-byte .kept .0, c .before .before .before .put-number2 .ensures .place, c .before .before .before .put-number2 .kept .0)
-
-same-length : tie.Need-same-length
-same-length c = search needs
+put-byte-requires-2 c κs =
+    let second = c .before .before .before in
+    let comma = second .before .before .before .before in
+    let first = comma .before .before .before .before in
+    let s = first .before .before .before in
+    omega (arith, parts s)
 
 returns : tie.Need-returns
 returns c =
-    let s = c .before .before .before .before .before .before .before .before .before .before .before .before .before .before .before .before .before in
-    let first = c .before .before .before .before .before .before .before .before .before .before .before .before .before .before .put-number in
-    let comma = c .before .before .before .before .before .before .before .before .before .before .put-byte in
-    let second = c .before .before .before .before .before .before .put-number2 in
+    let second = c .before .before .before .before .before .before in
+    let comma = second .before .before .before .before in
+    let first = comma .before .before .before .before in
+    let s = first .before .before .before in
     let line = parts s in
-    let room = s .pre in
     put-then (omega (arith, length-append (number (s .args .interval)) (44 ∷ number (s .args .mw))))
-    (put-then (omega arith) (first .ensures) (put-then (omega (arith, first .ensures .place, first .kept .0)) (comma .ensures) (second .ensures)))
+    (put-then (omega arith) (first .put-number .ensures) (put-then (omega arith) (comma .put-byte .ensures) (second .put-number2 .ensures)))
     (c .before .before .put-byte2 .ensures)
 
 pub put-interval-spec : {M : Type 1} → statement M
@@ -50,5 +58,5 @@ put-interval-spec =
     put-byte-requires
     put-number-requires-2
     put-byte-requires-2
-    same-length
+    (λ c. search needs)
     returns)

@@ -24,50 +24,39 @@ out-length c =
     let s = c .before .before .before in
     put-length (omega (arith, s .pre, lines-short (s .args .schedule .now) (c .loop .i))) (c .loop .inv .1)
 
-line-room : (c : tie.In-loop Inv-loop μ-loop)
-    → c .before .before .before .before .args .at + length (intervalLines 1 (take (c .before .loop .i) (c .before .before .before .before .args .schedule .now)))
-    + length (intervalLine (c .before .loop .i + 1) (getD (c .before .before .before .before .args .schedule .now) (c .before .loop .i) 0))
-    ≤ length (c .before .before .before .before .args .out .now)
+line-room : (c : tie.In-loop Inv-loop μ-loop) →
+    let a = c .before .before .before .before .args in
+    let i = c .before .loop .i in
+    a .at + length (intervalLines 1 (take i (a .schedule .now))) + length (intervalLine (i + 1) (getD (a .schedule .now) i 0)) ≤ length (a .out .now)
 line-room c =
     let s = c .before .before .before .before in
     let sched = s .args .schedule .now in
     let i = c .before .loop .i in
-    omega
-    (arith, s .pre, lines-short sched (i + 1), ap length (lines-next sched i (omega arith)), length-append (intervalLines 1 (take i sched)) (intervalLine (i + 1) (getD sched i 0)))
+    let line = length-append (intervalLines 1 (take i sched)) (intervalLine (i + 1) (getD sched i 0)) in
+    omega (arith, s .pre, lines-short sched (i + 1), ap length (lines-next sched i (omega arith)))
 
 loop-holds : tie.Need-loop-holds Inv-loop μ-loop
 loop-holds c = (omega arith, put-none (c .before .before .args .out .now) (c .before .before .args .at))
-
-mul-mw : tie.Need-mul-mw Inv-loop μ-loop
-mul-mw c = search needs
-
-shared-slice-read-mw : tie.Need-shared-slice-read-mw Inv-loop μ-loop
-shared-slice-read-mw c = omega arith
-
-add-i : tie.Need-add-i Inv-loop μ-loop
-add-i c = omega arith
 
 put-interval-requires : tie.Need-put-interval-requires Inv-loop μ-loop
 put-interval-requires c κs =
     let l = c .before .before .before .loop in
     omega (arith, line-room (c .before .before), l .inv .1 .place, out-length (c .before .before .before))
 
-loop-less : tie.Need-loop-less Inv-loop μ-loop
-loop-less c = omega arith
-
 loop-again : tie.Need-loop-again Inv-loop μ-loop
 loop-again c =
-    let s = c .before .before .before .before .before .before .before .before .before in
-    let l = c .before .before .before .before .before .before .loop in (
-      omega arith,
-      put-as (sym (lines-next (s .args .schedule .now) (l .i) (omega arith))) (put-then (line-room (c .before .before .before .before .before)) (l .inv .1) (c .before .before .put-interval .ensures)),
-    )
+    let turn = c .before .before .before .before .before in
+    let l = turn .before .loop in
+    let lines = put-then (line-room turn) (l .inv .1) (c .before .before .put-interval .ensures) in
+    (omega arith, put-as (sym (lines-next (turn .before .before .before .before .args .schedule .now) (l .i) (omega arith))) lines)
 
 same-length : tie.Need-same-length Inv-loop μ-loop
 same-length c = out-length (c .before)
 
 returns : tie.Need-returns Inv-loop μ-loop
-returns c = put-as (ap (intervalLines 1) (take-all (c .before .loop .i) (c .before .before .before .before .args .schedule .now) (omega arith))) (c .before .loop .inv .1)
+returns c =
+    let l = c .before .loop in
+    put-as (ap (intervalLines 1) (take-all (l .i) (c .before .before .before .before .args .schedule .now) (omega arith))) (l .inv .1)
 
 pub put-intervals-spec : {M : Type 1} → statement M
 put-intervals-spec =
@@ -76,11 +65,11 @@ put-intervals-spec =
     Inv-loop
     μ-loop
     loop-holds
-    mul-mw
-    shared-slice-read-mw
-    add-i
+    (λ c. search needs)
+    (λ c. omega arith)
+    (λ c. omega arith)
     put-interval-requires
-    loop-less
+    (λ c. omega arith)
     loop-again
     same-length
     returns)

@@ -1,70 +1,60 @@
 -- Three lines, one after the other.
 use mathlib.Core.Path.{_≡_}
-use Prim.Native.Nat.{_+_}
+use Prim.Native.Nat.{ℕ, _+_}
 use native.Mathlib.Omega.{arith}
 use lib.ListN.{length, length-append}
-use mathlib.Core.List.{_++_}
+use mathlib.Core.List.{List, _++_}
+use Rattle.commitment.specs.declared.Outcome.{Outcome}
 use Rattle.listing.specs.Listing.{outcomeText, closed, startsLead, hoursLead, mwhLead, outcomeLines}
 use borrow.Author.Needs.{needs}
 use Rattle.listing.proofs.Writing.{put-then}
 use Rattle.listing.proofs.put_outcomes.Statement.{statement}
 use Rattle.listing.proofs.put_outcomes.Tie as tie
 
-parts : (c : tie.Start)
-    → length (outcomeLines (c .args .outcomes))
-    ≡ length (closed (startsLead ++ outcomeText (c .args .outcomes .starts)))
-    + (length (closed (hoursLead ++ outcomeText (c .args .outcomes .hours))) + length (closed (mwhLead ++ outcomeText (c .args .outcomes .mwh))))
+-- a line of the outcomes, and their length by its parts
+abbrev line : List ℕ → Outcome → List ℕ
+line name outcome = closed (name ++ outcomeText outcome)
+
+parts : (c : tie.Start) →
+    let o = c .args .outcomes in
+    length (outcomeLines o) ≡ length (line startsLead (o .starts)) + (length (line hoursLead (o .hours)) + length (line mwhLead (o .mwh)))
 parts c =
-    omega
-    (arith, length-append (closed (startsLead ++ outcomeText (c .args .outcomes .starts))) (closed (hoursLead ++ outcomeText (c .args .outcomes .hours)) ++ closed (mwhLead ++ outcomeText (c .args .outcomes .mwh))), length-append (closed (hoursLead ++ outcomeText (c .args .outcomes .hours))) (closed (mwhLead ++ outcomeText (c .args .outcomes .mwh))))
-
-slice-aggregate-put-outcome-line : tie.Need-slice-aggregate-put-outcome-line
-slice-aggregate-put-outcome-line c = search needs
-
-put-outcome-line-requires : tie.Need-put-outcome-line-requires
-put-outcome-line-requires c κs = omega (arith, parts (c .before .before .before), c .before .before .before .pre)
-
-slice-aggregate-put-outcome-line-2 : tie.Need-slice-aggregate-put-outcome-line-2
-slice-aggregate-put-outcome-line-2 c = search needs
+    let o = c .args .outcomes in
+    let rest = line hoursLead (o .hours) ++ line mwhLead (o .mwh) in
+    omega (arith, length-append (line startsLead (o .starts)) rest, length-append (line hoursLead (o .hours)) (line mwhLead (o .mwh)))
 
 put-outcome-line-requires-2 : tie.Need-put-outcome-line-requires-2
 put-outcome-line-requires-2 c κs =
-    let s = c .before .before .before .before .before .before .before .before in
-    let first = c .before .before .before .before .put-outcome-line in
-    omega (arith, parts s, s .pre, first .ensures .place, first .kept .0)
-
-slice-aggregate-put-outcome-line-3 : tie.Need-slice-aggregate-put-outcome-line-3
-slice-aggregate-put-outcome-line-3 c = search needs
+    let first = c .before .before .before .before in
+    let s = first .before .before .before .before in
+    omega (arith, parts s)
 
 put-outcome-line-requires-3 : tie.Need-put-outcome-line-requires-3
 put-outcome-line-requires-3 c κs =
-    let s = c .before .before .before .before .before .before .before .before .before .before .before .before .before in
-    let first = c .before .before .before .before .before .before .before .before .before .put-outcome-line in
-    let second = c .before .before .before .before .put-outcome-line2 in
-    omega (arith, parts s, s .pre, first .ensures .place, first .kept .0, second .ensures .place, second .kept .0)
-
-same-length : tie.Need-same-length
-same-length c = search needs
+    let second = c .before .before .before .before in
+    let first = second .before .before .before .before .before in
+    let s = first .before .before .before .before in
+    omega (arith, parts s)
 
 returns : tie.Need-returns
 returns c =
-    let s = c .before .before .before .before .before .before .before .before .before .before .before .before .before .before .before .before in
-    let first = c .before .before .before .before .before .before .before .before .before .before .before .before .put-outcome-line in
-    let second = c .before .before .before .before .before .before .before .put-outcome-line2 in
+    let second = c .before .before .before .before .before .before .before in
+    let first = second .before .before .before .before .before in
+    let s = first .before .before .before .before in
     let lines = parts s in
-    let rest = length-append (closed (hoursLead ++ outcomeText (s .args .outcomes .hours))) (closed (mwhLead ++ outcomeText (s .args .outcomes .mwh))) in
-    put-then (omega (arith, s .pre)) (first .ensures)
-    (put-then (omega (arith, s .pre, first .ensures .place, first .kept .0)) (second .ensures) (c .before .before .put-outcome-line3 .ensures))
+    let rest = length-append (line hoursLead (s .args .outcomes .hours)) (line mwhLead (s .args .outcomes .mwh)) in
+    put-then (omega arith) (first .put-outcome-line .ensures)
+    (put-then (omega arith) (second .put-outcome-line2 .ensures) (c .before .before .put-outcome-line3 .ensures))
 
 pub put-outcomes-spec : {M : Type 1} → statement M
 put-outcomes-spec =
     tie.close
     (tie.spec
-    slice-aggregate-put-outcome-line
-    put-outcome-line-requires
-    slice-aggregate-put-outcome-line-2
+    (λ c. search needs)
+    (λ c κs. omega (arith, parts (c .before .before .before)))
+    (λ c. search needs)
     put-outcome-line-requires-2
-    slice-aggregate-put-outcome-line-3
+    (λ c. search needs)
     put-outcome-line-requires-3
-    same-length
+    (λ c. search needs)
     returns)

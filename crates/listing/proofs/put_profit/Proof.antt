@@ -19,45 +19,36 @@ profit-plain c = plain-fits (c .fits .profit)
 parts : (c : tie.Start) → length (profitLine (c .args .profit)) ≡ 7 + length (signedNumber (c .args .profit)) + 1
 parts c = simp length-append (omega arith)
 
-slice-aggregate-put-text : tie.Need-slice-aggregate-put-text
-slice-aggregate-put-text c = search needs
-
-put-text-requires : tie.Need-put-text-requires
-put-text-requires c κs = search needs
-
 put-signed-requires : tie.Need-put-signed-requires
 put-signed-requires c κs =
-    let s = c .before .before .before .before .before .before .before in
-    let name = c .before .before .before .put-text in
-    rw (profit-plain s) (omega (arith, parts s, s .pre, name .ensures .place, name .kept .0))
+    let name = c .before .before .before in
+    let s = name .before .before .before .before in
+    rw (profit-plain s) (omega (arith, parts s))
 
 put-byte-requires : tie.Need-put-byte-requires
 put-byte-requires c κs =
-    let s = c .before .before .before .before .before .before .before .before .before .before .before in
-    let name = c .before .before .before .before .before .before .before .put-text in
-    let number = c .before .before .before .put-signed in
-    let placed = rw (profit-plain s) at (number .ensures .place) in
-    omega (arith, parts s, s .pre, name .ensures .place, name .kept .0, placed, number .kept .0)
-
-same-length : tie.Need-same-length
-same-length c = search needs
+    let number = c .before .before .before in
+    let name = number .before .before .before .before in
+    let s = name .before .before .before .before in
+    omega (arith, parts s, rw (profit-plain s) at (number .put-signed .ensures .place))
 
 returns : tie.Need-returns
 returns c =
-    let s = c .before .before .before .before .before .before .before .before .before .before .before .before .before .before in
+    let number = c .before .before .before .before .before .before in
+    let name = number .before .before .before .before in
+    let s = name .before .before .before .before in
     let line = parts s in
-    let room = s .pre in
     put-then (omega (arith, length-append profitLead (signedNumber (s .args .profit))))
-    (put-then (omega arith) (c .before .before .before .before .before .before .before .before .before .before .put-text .ensures) (put-as (ap signedNumber (profit-plain s)) (c .before .before .before .before .before .before .put-signed .ensures)))
+    (put-then (omega arith) (name .put-text .ensures) (put-as (ap signedNumber (profit-plain s)) (number .put-signed .ensures)))
     (c .before .before .put-byte .ensures)
 
 pub put-profit-spec : {M : Type 1} → statement M
 put-profit-spec =
     tie.close
     (tie.spec
-    slice-aggregate-put-text
-    put-text-requires
+    (λ c. search needs)
+    (λ c κs. search needs)
     put-signed-requires
     put-byte-requires
-    same-length
+    (λ c. search needs)
     returns)

@@ -18,35 +18,30 @@ abbrev μ-loop : tie.MeasureT-loop
 
 out-length : (c : tie.At-loop Inv-loop μ-loop) → length (c .loop .out) ≡ length (c .before .args .out .now)
 out-length c =
-    let text = c .before .args .text .now in
-    ap length (c .loop .inv .1) ∙ written-length (c .before .args .out .now) (c .before .args .at) (take (c .loop .i) text) (omega (arith, c .before .pre, length-take-le (c .loop .i) text (c .loop .inv .0)))
+    let a = c .before .args in
+    let first = take (c .loop .i) (a .text .now) in
+    ap length (c .loop .inv .1)
+    ∙ written-length (a .out .now) (a .at) first (omega (arith, c .before .pre, length-take-le (c .loop .i) (a .text .now) (c .loop .inv .0)))
 
 loop-holds : tie.Need-loop-holds Inv-loop μ-loop
 loop-holds c = (omega arith, copied-none (c .args .out .now) (c .args .at) (c .args .text .now) (c .pre))
 
-shared-slice-read-out : tie.Need-shared-slice-read-out Inv-loop μ-loop
-shared-slice-read-out c = omega arith
-
 add-out : tie.Need-add-out Inv-loop μ-loop
-add-out c = omega (arith, c .before .before .before .pre, c .before .before .before .good .0 .0)
+add-out c = let s = c .before .before .before in omega (arith, s .pre, s .good .0 .0)
 
 slice-write-out : tie.Need-slice-write-out Inv-loop μ-loop
 slice-write-out c = omega (arith, c .before .before .before .pre, out-length (c .before .before))
 
-add-i : tie.Need-add-i Inv-loop μ-loop
-add-i c = omega arith
-
-loop-less : tie.Need-loop-less Inv-loop μ-loop
-loop-less c = omega arith
-
 loop-again : tie.Need-loop-again Inv-loop μ-loop
 loop-again c =
     let s = c .before .before .before in
+    let text = s .args .text .now in
     let l = c .before .before .loop in
-    (omega arith, ap (λ (b : List ℕ). set b (s .args .at + l .i) (getD (s .args .text .now) (l .i) 0)) (l .inv .1) ∙ copied-next (s .args .out .now) (s .args .at) (s .args .text .now) (s .pre) (l .i) (omega arith))
+    let one = ap (λ (b : List ℕ). set b (s .args .at + l .i) (getD text (l .i) 0)) (l .inv .1) in
+    (omega arith, one ∙ copied-next (s .args .out .now) (s .args .at) text (s .pre) (l .i) (omega arith))
 
 add-result : tie.Need-add-result Inv-loop μ-loop
-add-result c = omega (arith, c .before .before .pre, c .before .before .good .0 .0)
+add-result c = let s = c .before .before in omega (arith, s .pre, s .good .0 .0)
 
 same-length : tie.Need-same-length Inv-loop μ-loop
 same-length c = out-length (c .before)
@@ -67,11 +62,11 @@ put-text-spec =
     Inv-loop
     μ-loop
     loop-holds
-    shared-slice-read-out
+    (λ c. omega arith)
     add-out
     slice-write-out
-    add-i
-    loop-less
+    (λ c. omega arith)
+    (λ c. omega arith)
     loop-again
     add-result
     same-length

@@ -20,12 +20,6 @@ value-plain c = plain-fits (c .fits .value)
 digits : (c : tie.After-number-length) → c .number-length .result ≡ length (number (natAbs (c .before .before .args .value)))
 digits c = c .number-length .ensures ∙ ap (λ (n : ℕ). length (number n)) (c .before .magnitude .ensures ∙ ap natAbs (value-plain (c .before .before)))
 
-magnitude-requires : tie.Need-magnitude-requires
-magnitude-requires c κs = search needs
-
-number-length-requires : tie.Need-number-length-requires
-number-length-requires c κs = search needs
-
 add-result : tie.Need-add-result
 add-result c = omega (arith, digits (c .before), number-short (natAbs (c .before .before .before .args .value)))
 
@@ -41,4 +35,4 @@ returns-2 c =
 
 pub signed-length-spec : {M : Type 1} → statement M
 signed-length-spec =
-    tie.close (tie.spec magnitude-requires number-length-requires add-result returns returns-2)
+    tie.close (tie.spec (λ c κs. search needs) (λ c κs. search needs) add-result returns returns-2)

@@ -1,5 +1,6 @@
 -- Each text by its own length, of which none is longer than 21 bytes.
 use mathlib.Core.Path.{_≡_, ap, _∙_}
+use Prim.Native.Nat.{_≤_}
 use native.Mathlib.Omega.{arith}
 use lib.IntN.{ℤ}
 use lib.ListN.{length}
@@ -13,61 +14,41 @@ use Rattle.listing.proofs.totals_length.Tie as tie
 profit-digits : (c : tie.After-signed-length) → c .signed-length .result ≡ length (signedNumber (c .before .args .profit))
 profit-digits c = c .signed-length .ensures ∙ ap (λ (x : ℤ). length (signedNumber x)) (plain-fits (c .before .fits .profit))
 
--- Each text by its own length.
+short-profit : (c : tie.After-signed-length) → c .signed-length .result ≤ 21
+short-profit c = rw (profit-digits c) (signed-short (c .before .args .profit))
 
-add-result : tie.Need-add-result
-add-result c = search needs
+short-starts : (c : tie.After-outcome-length) → c .outcome-length .result ≤ 21
+short-starts c = rw (c .outcome-length .ensures) (outcome-short (c .before .before .args .outcomes .starts))
 
-signed-length-requires : tie.Need-signed-length-requires
-signed-length-requires c κs = search needs
+short-hours : (c : tie.After-outcome-length2) → c .outcome-length2 .result ≤ 21
+short-hours c = rw (c .outcome-length2 .ensures) (outcome-short (c .before .before .before .args .outcomes .hours))
 
-add-result-2 : tie.Need-add-result-2
-add-result-2 c = omega (arith, profit-digits c, signed-short (c .before .args .profit))
-
-add-result-3 : tie.Need-add-result-3
-add-result-3 c = omega (arith, profit-digits c, signed-short (c .before .args .profit))
-
-outcome-length-requires : tie.Need-outcome-length-requires
-outcome-length-requires c κs = search needs
-
-add-result-4 : tie.Need-add-result-4
-add-result-4 c = omega (arith, profit-digits (c .before), c .outcome-length .ensures, outcome-short (c .before .before .args .outcomes .starts), signed-short (c .before .before .args .profit))
-
-add-result-5 : tie.Need-add-result-5
-add-result-5 c = omega (arith, profit-digits (c .before), c .outcome-length .ensures, outcome-short (c .before .before .args .outcomes .starts), signed-short (c .before .before .args .profit))
-
-outcome-length-requires-2 : tie.Need-outcome-length-requires-2
-outcome-length-requires-2 c κs = search needs
-
-add-result-6 : tie.Need-add-result-6
-add-result-6 c = omega (arith, profit-digits (c .before .before), c .before .outcome-length .ensures, outcome-short (c .before .before .before .args .outcomes .starts), c .outcome-length2 .ensures, outcome-short (c .before .before .before .args .outcomes .hours), signed-short (c .before .before .before .args .profit))
-
-add-result-7 : tie.Need-add-result-7
-add-result-7 c = omega (arith, profit-digits (c .before .before), c .before .outcome-length .ensures, outcome-short (c .before .before .before .args .outcomes .starts), c .outcome-length2 .ensures, outcome-short (c .before .before .before .args .outcomes .hours), signed-short (c .before .before .before .args .profit))
-
-outcome-length-requires-3 : tie.Need-outcome-length-requires-3
-outcome-length-requires-3 c κs = search needs
+short-mwh : (c : tie.After-outcome-length3) → c .outcome-length3 .result ≤ 21
+short-mwh c = rw (c .outcome-length3 .ensures) (outcome-short (c .before .before .before .before .args .outcomes .mwh))
 
 add-result-8 : tie.Need-add-result-8
-add-result-8 c = omega (arith, profit-digits (c .before .before .before), c .before .before .outcome-length .ensures, outcome-short (c .before .before .before .before .args .outcomes .starts), c .before .outcome-length2 .ensures, outcome-short (c .before .before .before .before .args .outcomes .hours), c .outcome-length3 .ensures, outcome-short (c .before .before .before .before .args .outcomes .mwh), signed-short (c .before .before .before .before .args .profit))
+add-result-8 c =
+    omega (arith, short-profit (c .before .before .before), short-starts (c .before .before), short-hours (c .before), short-mwh c)
 
 returns : tie.Need-returns
-returns c = omega (arith, profit-digits (c .before .before .before), c .before .before .outcome-length .ensures, outcome-short (c .before .before .before .before .args .outcomes .starts), c .before .outcome-length2 .ensures, outcome-short (c .before .before .before .before .args .outcomes .hours), c .outcome-length3 .ensures, outcome-short (c .before .before .before .before .args .outcomes .mwh), signed-short (c .before .before .before .before .args .profit), profit-length (c .before .before .before .before .args .profit), outcomes-length (c .before .before .before .before .args .outcomes))
+returns c =
+    let a = c .before .before .before .before .args in
+    omega (arith, profit-digits (c .before .before .before), profit-length (a .profit), outcomes-length (a .outcomes))
 
 pub totals-length-spec : {M : Type 1} → statement M
 totals-length-spec =
     tie.close
     (tie.spec
-    add-result
-    signed-length-requires
-    add-result-2
-    add-result-3
-    outcome-length-requires
-    add-result-4
-    add-result-5
-    outcome-length-requires-2
-    add-result-6
-    add-result-7
-    outcome-length-requires-3
+    (λ c. search needs)
+    (λ c κs. search needs)
+    (λ c. omega (arith, short-profit c))
+    (λ c. omega (arith, short-profit c))
+    (λ c κs. search needs)
+    (λ c. omega (arith, short-profit (c .before), short-starts c))
+    (λ c. omega (arith, short-profit (c .before), short-starts c))
+    (λ c κs. search needs)
+    (λ c. omega (arith, short-profit (c .before .before), short-starts (c .before), short-hours c))
+    (λ c. omega (arith, short-profit (c .before .before), short-starts (c .before), short-hours c))
+    (λ c κs. search needs)
     add-result-8
     returns)

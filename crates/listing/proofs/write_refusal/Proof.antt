@@ -14,54 +14,45 @@ use Rattle.listing.proofs.Writing.{put-then}
 use Rattle.listing.proofs.write_refusal.Statement.{statement}
 use Rattle.listing.proofs.write_refusal.Tie as tie
 
-number-length-requires : tie.Need-number-length-requires
-number-length-requires c κs = search needs
-
 add-bytes : tie.Need-add-bytes
 add-bytes c = omega (arith, c .number-length .ensures, number-short (c .before .before .args .number))
 
 returns : tie.Need-returns
 returns c =
-    let s = c .before .before .before in
-    let long : length (s .args .out .now) < length (refusal (s .args .number)) = omega (arith, refusal-length (s .args .number), c .before .number-length .ensures, c .if1 .taken) in
-    (simp (lt-leb (length (refusal (s .args .number))) (length (s .args .out .now)) long), after-refused (refusal (s .args .number)) (s .args .out .now) long)
-
-slice-aggregate-put-text : tie.Need-slice-aggregate-put-text
-slice-aggregate-put-text c = search needs
-
-put-text-requires : tie.Need-put-text-requires
-put-text-requires c κs = search needs
-
-put-number-requires : tie.Need-put-number-requires
-put-number-requires c κs = search needs
-
-put-byte-requires : tie.Need-put-byte-requires
-put-byte-requires c κs = search needs
-
-same-length : tie.Need-same-length
-same-length c = search needs
+    let counted = c .before in
+    let a = counted .before .before .args in
+    let text = refusal (a .number) in
+    let long : length (a .out .now) < length text = omega (arith, refusal-length (a .number), counted .number-length .ensures, c .if1 .taken) in
+    (simp (lt-leb (length text) (length (a .out .now)) long), after-refused text (a .out .now) long)
 
 returns-2 : tie.Need-returns-2
 unfolding refusal
 returns-2 c =
-    let s = c .before .before .before .before .before .before .before .before .before .before .before .before .before .before .before .before in
-    let digits = c .before .before .before .before .before .before .before .before .before .before .before .before .before .before .number-length .ensures in
-    let all = refusal-length (s .args .number) in
-    let short : length (refusal (s .args .number)) ≤ length (s .args .out .now) = omega (arith, all, digits, c .before .before .before .before .before .before .before .before .before .before .before .before .before .if1 .left) in
-    let is : 9 + c .before .before .before .before .before .before .before .before .before .before .before .before .before .before .number-length .result ≡ length (refusal (s .args .number)) = omega (arith, all, digits) in
-    let text = put-then (omega (arith, length-append refusedLead (number (s .args .number)))) (put-then (omega arith) (c .before .before .before .before .before .before .before .before .before .before .put-text .ensures) (c .before .before .before .before .before .before .put-number .ensures)) (c .before .before .put-byte .ensures) in
-    (rw (is, le-leb (length (refusal (s .args .number))) (length (s .args .out .now)) short) refl, text .bytes ∙ after-written (refusal (s .args .number)) (s .args .out .now) short)
+    let number-put = c .before .before .before .before .before .before in
+    let name-put = number-put .before .before .before .before in
+    let fitting = name-put .before .before .before in
+    let counted = fitting .before in
+    let a = counted .before .before .args in
+    let text = refusal (a .number) in
+    let digits = counted .number-length .ensures in
+    let all = refusal-length (a .number) in
+    let short : length text ≤ length (a .out .now) = omega (arith, all, digits, fitting .if1 .left) in
+    let is : 9 + counted .number-length .result ≡ length text = omega (arith, all, digits) in
+    let put = put-then (omega (arith, length-append refusedLead (number (a .number))))
+    (put-then (omega arith) (name-put .put-text .ensures) (number-put .put-number .ensures))
+    (c .before .before .put-byte .ensures) in
+    (rw (is, le-leb (length text) (length (a .out .now)) short) refl, put .bytes ∙ after-written text (a .out .now) short)
 
 pub write-refusal-spec : {M : Type 1} → statement M
 write-refusal-spec =
     tie.close
     (tie.spec
-    number-length-requires
+    (λ c κs. search needs)
     add-bytes
     returns
-    slice-aggregate-put-text
-    put-text-requires
-    put-number-requires
-    put-byte-requires
-    same-length
+    (λ c. search needs)
+    (λ c κs. search needs)
+    (λ c κs. search needs)
+    (λ c κs. search needs)
+    (λ c. search needs)
     returns-2)

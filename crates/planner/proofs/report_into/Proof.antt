@@ -23,7 +23,12 @@ use Rattle.planner.proofs.report_into.Tie as tie
 
 -- what is found before any work; answer, schedule and scratch by it
 abbrev lentOf : tie.Start → Checked
-lentOf c = lentChecked (c .args .unit) (c .args .prices .now) (leb (length (c .args .prices .now)) (length (c .args .schedule .now))) (length (c .args .scratch .now))
+lentOf c =
+    let a = c .args in
+    lentChecked (a .unit) (a .prices .now) (leb (length (a .prices .now)) (length (a .schedule .now))) (length (a .scratch .now))
+
+abbrev bestOf : tie.Start → Checked
+bestOf c = scheduleChecked (c .args .unit) (c .args .prices .now)
 
 abbrev answer : tie.Start → Checked → Reported
 answer c k = reportedBy k (best (c .args .unit) (c .args .prices .now)) (outcomesOf (c .args .unit) (c .args .prices .now))
@@ -35,33 +40,27 @@ abbrev cells : tie.Start → Checked → List ℤ
 cells c k = scratchAfter k (cellsNeeded (c .args .unit) (length (c .args .prices .now))) (c .args .scratch .now)
 
 module _ (c : tie.Start) {k : Checked} (found : lentOf c ≡ k) where
-  whole : checkedThen k (scheduleChecked (c .args .unit) (c .args .prices .now)) ≡ planChecked (c .args .unit) (c .args .prices .now) (length (c .args .scratch .now)) (length (c .args .schedule .now))
+  whole : checkedThen k (bestOf c) ≡ planChecked (c .args .unit) (c .args .prices .now) (length (c .args .scratch .now)) (length (c .args .schedule .now))
   whole =
-      ap (λ (j : Checked). checkedThen j (scheduleChecked (c .args .unit) (c .args .prices .now))) (sym found)
+      ap (λ (j : Checked). checkedThen j (bestOf c)) (sym found)
       ∙ sym (plan-turn (c .args .unit) (c .args .prices .now) (length (c .args .scratch .now)) (length (c .args .schedule .now)))
 
-  answer-is : answer c (checkedThen k (scheduleChecked (c .args .unit) (c .args .prices .now))) ≡ reported (c .args .unit) (c .args .prices .now) (length (c .args .scratch .now)) (length (c .args .schedule .now))
+  answer-is : answer c (checkedThen k (bestOf c))
+      ≡ reported (c .args .unit) (c .args .prices .now) (length (c .args .scratch .now)) (length (c .args .schedule .now))
   answer-is = ap (answer c) whole
 
-  schedule-is : schedule c (checkedThen k (scheduleChecked (c .args .unit) (c .args .prices .now))) ≡ scheduleLeft (c .args .unit) (c .args .prices .now) (length (c .args .scratch .now)) (c .args .schedule .now)
+  schedule-is : schedule c (checkedThen k (bestOf c))
+      ≡ scheduleLeft (c .args .unit) (c .args .prices .now) (length (c .args .scratch .now)) (c .args .schedule .now)
   schedule-is = ap (schedule c) whole
 
 -- a case that passed has a schedule slice that is long enough
 long-passed : (c : tie.Start) → lentOf c ≡ Passed
-    → (lentChecked (c .args .unit) (c .args .prices .now) true (length (c .args .scratch .now)) ≡ Passed) × (length (c .args .prices .now) ≤ length (c .args .schedule .now))
+    → (lentChecked (c .args .unit) (c .args .prices .now) true (length (c .args .scratch .now)) ≡ Passed)
+    × (length (c .args .prices .now) ≤ length (c .args .schedule .now))
 long-passed c e =
     let a = c .args in
     let long = lent (a .unit) (a .prices .now) (leb (length (a .prices .now)) (length (a .schedule .now))) (length (a .scratch .now)) e .entries in
     (rw long at e, leb-true (length (a .prices .now)) (length (a .schedule .now)) long)
-
-check-lent-requires : tie.Need-check-lent-requires
-check-lent-requires c κs = search needs
-
-enum-known-cause : tie.Need-enum-known-cause
-enum-known-cause c = search needs
-
-enum-told : tie.Need-enum-told
-enum-told c = search needs
 
 report-case-requires : tie.Need-report-case-requires
 report-case-requires c κs =
@@ -77,12 +76,6 @@ returns c =
     let found = sym (check .check-lent .ensures) ∙ c .before .cause .given .1 in
     (answer-is s found, (schedule-is s found, ap (cells s) (sym found)))
 
-same-length : tie.Need-same-length
-same-length c = search needs
-
-same-length-2 : tie.Need-same-length-2
-same-length-2 c = search needs
-
 returns-2 : tie.Need-returns-2
 returns-2 c =
     let case = c .before .before .before in
@@ -97,11 +90,11 @@ pub report-into-spec : {M : Type 1} → statement M
 report-into-spec =
     tie.close
     (tie.spec
-    check-lent-requires
-    enum-known-cause
-    enum-told
+    (λ c κs. search needs)
+    (λ c. search needs)
+    (λ c. search needs)
     report-case-requires
     returns
-    same-length
-    same-length-2
+    (λ c. search needs)
+    (λ c. search needs)
     returns-2)

@@ -30,19 +30,11 @@ module _ (c : tie.Start) {k : Checked} (found : lentChecked (c .args .unit) (c .
   answer-is : answer c k ≡ valued (c .args .unit) (c .args .prices .now) (length (c .args .scratch .now))
   answer-is =
       ap (answer c) lent-is
-      ∙ ap (λ (j : Checked). valuedBy j (outcomesOf (c .args .unit) (c .args .prices .now))) (sym (value-turn (c .args .unit) (c .args .prices .now) (length (c .args .scratch .now))))
+      ∙ ap (λ (j : Checked). valuedBy j (outcomesOf (c .args .unit) (c .args .prices .now)))
+      (sym (value-turn (c .args .unit) (c .args .prices .now) (length (c .args .scratch .now))))
 
   cells-are : cells c k ≡ scratchValued (c .args .unit) (c .args .prices .now) (c .args .scratch .now)
   cells-are = ap (cells c) lent-is
-
-check-lent-requires : tie.Need-check-lent-requires
-check-lent-requires c κs = search needs
-
-enum-known-cause : tie.Need-enum-known-cause
-enum-known-cause c = search needs
-
-enum-told : tie.Need-enum-told
-enum-told c = search needs
 
 value-case-requires : tie.Need-value-case-requires
 value-case-requires c κs = let check = c .before .before .before in sym (check .check-lent .ensures) ∙ c .before .enum-told .given .1
@@ -52,9 +44,6 @@ returns c =
     let check = c .before .before .before in
     let found = sym (check .check-lent .ensures) ∙ c .before .cause .given .1 in
     (answer-is (check .before) found, cells-are (check .before) found)
-
-same-length : tie.Need-same-length
-same-length c = search needs
 
 returns-2 : tie.Need-returns-2
 returns-2 c =
@@ -67,10 +56,10 @@ pub value-spec : {M : Type 1} → statement M
 value-spec =
     tie.close
     (tie.spec
-    check-lent-requires
-    enum-known-cause
-    enum-told
+    (λ c κs. search needs)
+    (λ c. search needs)
+    (λ c. search needs)
     value-case-requires
     returns
-    same-length
+    (λ c. search needs)
     returns-2)

@@ -6,14 +6,6 @@ use borrow.Author.Needs.{needs}
 use Rattle.planner.proofs.answers.plan_of.Statement.{statement}
 use Rattle.planner.proofs.answers.plan_of.Tie as tie
 
--- By cases on the report.
-
-enum-known-answer : tie.Need-enum-known-answer
-enum-known-answer c = search needs
-
-enum-known-answer-2 : tie.Need-enum-known-answer-2
-enum-known-answer-2 c = search needs
-
 returns : tie.Need-returns
 returns c =
     let z = c .before .before .answer .given in
@@ -23,4 +15,4 @@ returns-2 : tie.Need-returns-2
 returns-2 c = ap planIn (sym (c .before .answer2 .given .1))
 
 pub plan-of-spec : {M : Type 1} → statement M
-plan-of-spec = tie.close (tie.spec enum-known-answer enum-known-answer-2 returns returns-2)
+plan-of-spec = tie.close (tie.spec (λ c. search needs) (λ c. search needs) returns returns-2)

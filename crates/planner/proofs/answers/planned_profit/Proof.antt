@@ -6,12 +6,6 @@ use borrow.Author.Needs.{needs}
 use Rattle.planner.proofs.answers.planned_profit.Statement.{statement}
 use Rattle.planner.proofs.answers.planned_profit.Tie as tie
 
-enum-known-answer : tie.Need-enum-known-answer
-enum-known-answer c = search needs
-
-enum-told : tie.Need-enum-told
-enum-told c = search needs
-
 returns : tie.Need-returns
 returns c = let z = c .before .answer .given in plain-fits {x = z .0 .1 .0} (record { sfits = c .known-told .given .1 .0 .1 }) ∙ ap plannedProfit (sym (z .1))
 
@@ -19,4 +13,4 @@ returns-2 : tie.Need-returns-2
 returns-2 c = ap plannedProfit (sym (c .enum-told .given .1))
 
 pub planned-profit-spec : {M : Type 1} → statement M
-planned-profit-spec = tie.close (tie.spec enum-known-answer enum-told returns returns-2)
+planned-profit-spec = tie.close (tie.spec (λ c. search needs) (λ c. search needs) returns returns-2)

@@ -6,12 +6,6 @@ use borrow.Author.Needs.{needs}
 use Rattle.planner.proofs.answers.reported_profit.Statement.{statement}
 use Rattle.planner.proofs.answers.reported_profit.Tie as tie
 
-enum-known-answer : tie.Need-enum-known-answer
-enum-known-answer c = search needs
-
-enum-told : tie.Need-enum-told
-enum-told c = search needs
-
 returns : tie.Need-returns
 returns c =
     let z = c .before .before .answer .given in
@@ -21,4 +15,4 @@ returns-2 : tie.Need-returns-2
 returns-2 c = ap reportedProfit (sym (c .enum-told .given .1))
 
 pub reported-profit-spec : {M : Type 1} → statement M
-reported-profit-spec = tie.close (tie.spec enum-known-answer enum-told returns returns-2)
+reported-profit-spec = tie.close (tie.spec (λ c. search needs) (λ c. search needs) returns returns-2)

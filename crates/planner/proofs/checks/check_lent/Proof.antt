@@ -27,18 +27,6 @@ found c e i =
     ap (λ (k : Checked). checkedThen k (firstOf (slicesChecks (a .unit) (length (a .prices .now)) (a .long) (a .scratch)))) (sym i ∙ e)
     ∙ sym (lent-turn (a .unit) (a .prices .now) (a .long) (a .scratch))
 
-prices-kept-requires : tie.Need-prices-kept-requires
-prices-kept-requires c κs = search needs
-
-check-case-requires : tie.Need-check-case-requires
-check-case-requires c κs = search needs
-
-enum-known-cause : tie.Need-enum-known-cause
-enum-known-cause c = search needs
-
-enum-told : tie.Need-enum-told
-enum-told c = search needs
-
 check-slices-requires : tie.Need-check-slices-requires
 check-slices-requires c κs =
     let case = c .before .before in
@@ -59,10 +47,10 @@ pub check-lent-spec : {M : Type 1} → statement M
 check-lent-spec =
     tie.close
     (tie.spec
-    prices-kept-requires
-    check-case-requires
-    enum-known-cause
-    enum-told
+    (λ c κs. search needs)
+    (λ c κs. search needs)
+    (λ c. search needs)
+    (λ c. search needs)
     check-slices-requires
     returns
     returns-2)

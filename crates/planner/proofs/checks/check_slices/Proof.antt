@@ -9,9 +9,6 @@ use Rattle.planner.proofs.checks.check_slices.Tie as tie
 returns : tie.Need-returns
 returns c = simp (not-true (c .before .args .long) (c .if1 .taken))
 
-cells-needed-requires : tie.Need-cells-needed-requires
-cells-needed-requires c κs = search needs
-
 returns-2 : tie.Need-returns-2
 returns-2 c =
     let o = c .before .before in
@@ -31,4 +28,4 @@ returns-3 c =
     )
 
 pub check-slices-spec : {M : Type 1} → statement M
-check-slices-spec = tie.close (tie.spec returns cells-needed-requires returns-2 returns-3)
+check-slices-spec = tie.close (tie.spec returns (λ c κs. search needs) returns-2 returns-3)

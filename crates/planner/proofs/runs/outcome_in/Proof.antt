@@ -22,19 +22,12 @@ limit-is c = sym (c .before .before .limit-for .ensures) ∙ c .limit .given .1
 abbrev outcome : tie.Start → Limit → Outcome
 outcome c l = gapUnder (λ (k : ℕ). profitOf (best (runAt (c .args .unit) (c .args .which) k) (c .args .prices .now))) l
 
-limit-for-requires : tie.Need-limit-for-requires
-limit-for-requires c κs = search needs
-
-enum-told : tie.Need-enum-told
-enum-told c = search needs
-
-enum-known-limit : tie.Need-enum-known-limit
-enum-known-limit c = search needs
-
 lowered-requires : tie.Need-lowered-requires
 lowered-requires c κs =
-    let s = c .before .before .before .before .before in
-    leb-true (c .before .limit .given .0 .0) mostMwh (sym (ap (limitKept mostMwh) (limit-is (c .before))) ∙ limit-small (s .args .unit) (s .pre .0 .order .ranges) (s .args .which))
+    let limit = c .before in
+    let s = limit .before .before .before .before in
+    let small = limit-small (s .args .unit) (s .pre .0 .order .ranges) (s .args .which) in
+    leb-true (limit .limit .given .0 .0) mostMwh (sym (ap (limitKept mostMwh) (limit-is limit)) ∙ small)
 
 run-pair-requires : tie.Need-run-pair-requires
 run-pair-requires c κs =
@@ -59,9 +52,9 @@ pub outcome-in-spec : {M : Type 1} → statement M
 outcome-in-spec =
     tie.close
     (tie.spec
-    limit-for-requires
-    enum-told
-    enum-known-limit
+    (λ c κs. search needs)
+    (λ c. search needs)
+    (λ c. search needs)
     lowered-requires
     run-pair-requires
     returns

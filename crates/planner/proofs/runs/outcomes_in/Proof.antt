@@ -10,18 +10,9 @@ same-outcomes : {a a′ b b′ d d′ : Outcome} → a ≡ a′ → b ≡ b′ �
     → _≡_ {A = Outcomes} (record { starts = a; hours = b; mwh = d }) (record { starts = a′; hours = b′; mwh = d′ })
 same-outcomes e f g = cc
 
-outcome-in-requires : tie.Need-outcome-in-requires
-outcome-in-requires c κs = search needs
-
-outcome-in-requires-2 : tie.Need-outcome-in-requires-2
-outcome-in-requires-2 c κs = search needs
-
-outcome-in-requires-3 : tie.Need-outcome-in-requires-3
-outcome-in-requires-3 c κs = search needs
-
 returns : tie.Need-returns
 returns c = same-outcomes (c .before .before .outcome-in .ensures) (c .before .outcome-in2 .ensures) (c .outcome-in3 .ensures)
 
 pub outcomes-in-spec : {M : Type 1} → statement M
 outcomes-in-spec =
-    tie.close (tie.spec outcome-in-requires outcome-in-requires-2 outcome-in-requires-3 returns)
+    tie.close (tie.spec (λ c κs. search needs) (λ c κs. search needs) (λ c κs. search needs) returns)

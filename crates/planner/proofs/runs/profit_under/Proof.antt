@@ -17,9 +17,6 @@ cell-is : (c : tie.After-opening-cell) →
     c .opening-cell .result ≡ openingCell (limited (a .unit) (a .limits)) (length (a .prices .now))
 cell-is c = rw (c .before .under-limits .ensures) at (c .opening-cell .ensures)
 
-under-limits-requires : tie.Need-under-limits-requires
-under-limits-requires c κs = search needs
-
 opening-cell-requires : tie.Need-opening-cell-requires
 opening-cell-requires c κs =
     let s = c .before in
@@ -43,4 +40,4 @@ returns c =
 
 pub profit-under-spec : {M : Type 1} → statement M
 profit-under-spec =
-    tie.close (tie.spec under-limits-requires opening-cell-requires best-at-requires returns)
+    tie.close (tie.spec (λ c κs. search needs) opening-cell-requires best-at-requires returns)

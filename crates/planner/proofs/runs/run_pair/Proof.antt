@@ -24,18 +24,14 @@ small : (c : tie.Start) (k : ℕ) → AtMost (At k) (limitFor (c .args .unit .li
     → r ≡ profitOf (best (runAt (c .args .unit) (c .args .which) k) (c .args .prices .now)) → natAbs (amount r) < mostAmount
 small c k h e =
     let a = c .args in
-    rw e (run-small (a .unit) (a .prices .now) (a .cells .now) (c .pre .0 .0) (withLimit (a .unit .limits) (a .which) (At k)) (under-one (a .unit .limits) (a .which) (At k) h))
+    let limits = a .unit .limits in
+    rw e
+    (run-small (a .unit) (a .prices .now) (a .cells .now) (c .pre .0 .0) (withLimit limits (a .which) (At k)) (under-one limits (a .which) (At k) h))
 
 returns : tie.Need-returns
 returns c =
     let a = c .before .args in
     ap (gapAt (λ (k : ℕ). profitOf (best (runAt (a .unit) (a .which) k) (a .prices .now)))) (sym (c .if1 .taken))
-
-run-profit-requires : tie.Need-run-profit-requires
-run-profit-requires c κs = search needs
-
-sub-run-profit : tie.Need-sub-run-profit
-sub-run-profit c = search needs
 
 run-profit-requires-2 : tie.Need-run-profit-requires-2
 run-profit-requires-2 c κs = let s = c .before .before in (s .pre .0, less s)
@@ -58,8 +54,8 @@ run-pair-spec =
     tie.close
     (tie.spec
     returns
-    run-profit-requires
-    sub-run-profit
+    (λ c κs. search needs)
+    (λ c. search needs)
     run-profit-requires-2
     gap-between-requires
     returns-2)

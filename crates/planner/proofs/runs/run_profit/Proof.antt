@@ -9,9 +9,6 @@ use borrow.Author.Needs.{needs}
 use Rattle.planner.proofs.runs.run_profit.Statement.{statement}
 use Rattle.planner.proofs.runs.run_profit.Tie as tie
 
-with-limit-requires : tie.Need-with-limit-requires
-with-limit-requires c κs = search needs
-
 profit-under-requires : tie.Need-profit-under-requires
 profit-under-requires c κs =
     let s = c .before .before in
@@ -21,7 +18,8 @@ profit-under-requires c κs =
 returns : tie.Need-returns
 returns c =
     let s = c .before .before .before in
-    c .profit-under .ensures ∙ ap (λ (limits : Limits). profitOf (best (limited (s .args .unit) limits) (s .args .prices .now))) (c .before .with-limit .ensures)
+    c .profit-under .ensures
+    ∙ ap (λ (limits : Limits). profitOf (best (limited (s .args .unit) limits) (s .args .prices .now))) (c .before .with-limit .ensures)
 
 pub run-profit-spec : {M : Type 1} → statement M
-run-profit-spec = tie.close (tie.spec with-limit-requires profit-under-requires returns)
+run-profit-spec = tie.close (tie.spec (λ c κs. search needs) profit-under-requires returns)

@@ -7,8 +7,5 @@ use Rattle.planner.proofs.runs.whole_profit.Tie as tie
 profit-under-requires : tie.Need-profit-under-requires
 profit-under-requires c κs = let s = c .before in (s .pre, under-itself (s .args .unit .limits))
 
-returns : tie.Need-returns
-returns c = search needs
-
 pub whole-profit-spec : {M : Type 1} → statement M
-whole-profit-spec = tie.close (tie.spec profit-under-requires returns)
+whole-profit-spec = tie.close (tie.spec profit-under-requires (λ c. search needs))

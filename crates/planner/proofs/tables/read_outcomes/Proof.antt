@@ -18,18 +18,6 @@ use Rattle.planner.proofs.tables.read_outcomes.Tie as tie
 abbrev answer : tie.Start → Plan → Valued
 answer c b = valuedBy (unless (hasSchedule b) NoSchedule Passed) (outcomesOf (c .args .unit) (c .args .prices .now))
 
-whole-profit-requires : tie.Need-whole-profit-requires
-whole-profit-requires c κs = search needs
-
-enum-told : tie.Need-enum-told
-enum-told c = search needs
-
-enum-told-2 : tie.Need-enum-told-2
-enum-told-2 c = search needs
-
-outcomes-in-requires : tie.Need-outcomes-in-requires
-outcomes-in-requires c κs = search needs
-
 returns : tie.Need-returns
 returns c =
     let found = c .before .before in
@@ -47,4 +35,4 @@ returns-2 c =
 pub read-outcomes-spec : {M : Type 1} → statement M
 read-outcomes-spec =
     tie.close
-    (tie.spec whole-profit-requires enum-told enum-told-2 outcomes-in-requires returns returns-2)
+    (tie.spec (λ c κs. search needs) (λ c. search needs) (λ c. search needs) (λ c κs. search needs) returns returns-2)

@@ -30,18 +30,6 @@ answer c b = reportedBy (unless (hasSchedule b) NoSchedule Passed) b (outcomesOf
 abbrev schedule : tie.Start → Plan → List ℕ
 schedule c b = scheduleAfter (unless (hasSchedule b) NoSchedule Passed) b (c .args .schedule .now)
 
-whole-profit-requires : tie.Need-whole-profit-requires
-whole-profit-requires c κs = search needs
-
-enum-told : tie.Need-enum-told
-enum-told c = search needs
-
-enum-known-profit : tie.Need-enum-known-profit
-enum-known-profit c = search needs
-
-opening-cell-requires : tie.Need-opening-cell-requires
-opening-cell-requires c κs = search needs
-
 read-off-requires : tie.Need-read-off-requires
 read-off-requires c κs =
     let cell = c .before in
@@ -51,13 +39,11 @@ read-off-requires c κs =
     let a = s .args in
     let w = s .pre .0 in
     let told = profit .profit .given in
+    let some = opening-some (a .unit) (a .prices .now) (a .cells .now) w (told .0 .0) (sym (found .whole-profit .ensures) ∙ told .1) in
     rw (s .pre .1 .0, cell .opening-cell .ensures) (
       (room (a .unit) (a .prices .now) (a .cells .now) w, (rw (s .pre .1 .0) at (s .pre .1 .1)), w .priced),
-      (w .filled, (opening-inside (a .unit) (a .prices .now) (a .cells .now) w, (s .pre .1 .2, opening-some (a .unit) (a .prices .now) (a .cells .now) w (told .0 .0) (sym (found .whole-profit .ensures) ∙ told .1)))),
+      (w .filled, (opening-inside (a .unit) (a .prices .now) (a .cells .now) w, (s .pre .1 .2, some))),
     )
-
-outcomes-in-requires : tie.Need-outcomes-in-requires
-outcomes-in-requires c κs = search needs
 
 returns : tie.Need-returns
 returns c =
@@ -65,9 +51,6 @@ returns c =
     let s = found .before .before in
     let none = no-plan (best (s .args .unit) (s .args .prices .now)) (sym (found .whole-profit .ensures) ∙ c .enum-told .given .1) in
     (ap (answer s) (sym none), ap (schedule s) (sym none))
-
-same-length : tie.Need-same-length
-same-length c = search needs
 
 returns-2 : tie.Need-returns-2
 returns-2 c =
@@ -96,12 +79,12 @@ pub read-report-spec : {M : Type 1} → statement M
 read-report-spec =
     tie.close
     (tie.spec
-    whole-profit-requires
-    enum-told
-    enum-known-profit
-    opening-cell-requires
+    (λ c κs. search needs)
+    (λ c. search needs)
+    (λ c. search needs)
+    (λ c κs. search needs)
     read-off-requires
-    outcomes-in-requires
+    (λ c κs. search needs)
     returns
-    same-length
+    (λ c. search needs)
     returns-2)

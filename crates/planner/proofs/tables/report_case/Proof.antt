@@ -18,7 +18,8 @@ fit : (c : tie.After-layer-cells) →
 fit c =
     let s = c .before .before .before in
     let f = c .before .figures-of in
-    fitted (s .args .unit) (s .args .prices .now) (length (s .args .scratch .now)) (passed s) (f .result) (f .ensures) (c .layer-cells .result) (c .layer-cells .ensures)
+    let w = c .layer-cells in
+    fitted (s .args .unit) (s .args .prices .now) (length (s .args .scratch .now)) (passed s) (f .result) (f .ensures) (w .result) (w .ensures)
 
 figures-of-requires : tie.Need-figures-of-requires
 figures-of-requires c κs = passed (c .before) .case .order
@@ -39,9 +40,6 @@ read-report-requires c κs =
     let s = layer .before .before .before in
     (fit layer .works (fill .last .0) (fill .kept .0) (fill .ensures .0), (layer .before .figures-of .ensures, layer .layer-cells .ensures, s .pre .1))
 
-add-clear : tie.Need-add-clear
-add-clear c = search needs
-
 mul-clear : tie.Need-mul-clear
 mul-clear c =
     let layer = c .before .before .before .before .before .before .before .before .before in
@@ -52,12 +50,6 @@ clear-requires c κs =
     let filled = c .before .before .before .before .before .before .before in
     rw (filled .fill-all .kept .0) (fit (filled .before .before) .most)
 
-same-length : tie.Need-same-length
-same-length c = search needs
-
-same-length-2 : tie.Need-same-length-2
-same-length-2 c = search needs
-
 returns : tie.Need-returns
 returns c =
     let read = c .before .before .before .before .before in
@@ -66,9 +58,10 @@ returns c =
     let s = layer .before .before .before in
     let fill = filled .fill-all in
     let answer = read .read-report .ensures in
+    let needed = (length (s .args .prices .now) + 1) * layer .layer-cells .result in
     let scratch =
     c .before .clear .ensures
-    ∙ cleared (s .args .unit) (s .args .prices .now) ((length (s .args .prices .now) + 1) * layer .layer-cells .result) (s .args .scratch .now) (fill .last .0) (fit layer .all) (fill .ensures .1) in
+    ∙ cleared (s .args .unit) (s .args .prices .now) needed (s .args .scratch .now) (fill .last .0) (fit layer .all) (fill .ensures .1) in
     (answer .0, (answer .1, scratch))
 
 pub report-case-spec : {M : Type 1} → statement M
@@ -79,9 +72,9 @@ report-case-spec =
     layer-cells-requires
     fill-all-requires
     read-report-requires
-    add-clear
+    (λ c. search needs)
     mul-clear
     clear-requires
-    same-length
-    same-length-2
+    (λ c. search needs)
+    (λ c. search needs)
     returns)

@@ -19,7 +19,8 @@ fit : (c : tie.After-layer-cells) →
 fit c =
     let s = c .before .before in
     let f = c .before .figures-of in
-    fitted (s .args .unit) (s .args .prices .now) (length (s .args .scratch .now)) (passed s) (f .result) (f .ensures) (c .layer-cells .result) (c .layer-cells .ensures)
+    let w = c .layer-cells in
+    fitted (s .args .unit) (s .args .prices .now) (length (s .args .scratch .now)) (passed s) (f .result) (f .ensures) (w .result) (w .ensures)
 
 figures-of-requires : tie.Need-figures-of-requires
 figures-of-requires c κs = passed c .case .order
@@ -39,9 +40,6 @@ read-outcomes-requires c κs =
     let fill = filled .fill-all in
     (fit layer .works (fill .last .0) (fill .kept .0) (fill .ensures .0) .told, layer .before .figures-of .ensures)
 
-add-clear : tie.Need-add-clear
-add-clear c = search needs
-
 mul-clear : tie.Need-mul-clear
 mul-clear c =
     let layer = c .before .before .before .before .before .before in
@@ -52,9 +50,6 @@ clear-requires c κs =
     let filled = c .before .before .before .before in
     rw (filled .fill-all .kept .0) (fit (filled .before .before) .most)
 
-same-length : tie.Need-same-length
-same-length c = search needs
-
 returns : tie.Need-returns
 returns c =
     let read = c .before .before .before in
@@ -62,9 +57,10 @@ returns c =
     let layer = filled .before .before in
     let s = layer .before .before in
     let fill = filled .fill-all in
+    let needed = (length (s .args .prices .now) + 1) * layer .layer-cells .result in
     let scratch =
     c .before .clear .ensures
-    ∙ cleared (s .args .unit) (s .args .prices .now) ((length (s .args .prices .now) + 1) * layer .layer-cells .result) (s .args .scratch .now) (fill .last .0) (fit layer .all) (fill .ensures .1) in
+    ∙ cleared (s .args .unit) (s .args .prices .now) needed (s .args .scratch .now) (fill .last .0) (fit layer .all) (fill .ensures .1) in
     (read .read-outcomes .ensures, scratch)
 
 pub value-case-spec : {M : Type 1} → statement M
@@ -75,8 +71,8 @@ value-case-spec =
     layer-cells-requires
     fill-all-requires
     read-outcomes-requires
-    add-clear
+    (λ c. search needs)
     mul-clear
     clear-requires
-    same-length
+    (λ c. search needs)
     returns)

@@ -7,14 +7,8 @@ use borrow.Author.Needs.{needs}
 use Rattle.tabletext.proofs.tables.is_known.Statement.{statement}
 use Rattle.tabletext.proofs.tables.is_known.Tie as tie
 
-count-requires : tie.Need-count-requires
-count-requires c κs = search needs
-
-count-requires-2 : tie.Need-count-requires-2
-count-requires-2 c κs = search needs
-
 returns : tie.Need-returns
 returns c = ap₂ (λ (m n : ℕ). leb 1 m || leb 1 n) (c .before .count .ensures) (c .count2 .ensures)
 
 pub is-known-spec : {M : Type 1} → statement M
-is-known-spec = tie.close (tie.spec count-requires count-requires-2 returns)
+is-known-spec = tie.close (tie.spec (λ c κs. search needs) (λ c κs. search needs) returns)

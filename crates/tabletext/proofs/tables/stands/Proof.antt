@@ -6,11 +6,8 @@ use borrow.Author.Needs.{needs}
 use Rattle.tabletext.proofs.tables.stands.Statement.{statement}
 use Rattle.tabletext.proofs.tables.stands.Tie as tie
 
-count-requires : tie.Need-count-requires
-count-requires c κs = search needs
-
 returns : tie.Need-returns
 returns c = ap (λ (n : ℕ). between (c .before .before .before .args .least) n 1) (c .count .ensures)
 
 pub stands-spec : {M : Type 1} → statement M
-stands-spec = tie.close (tie.spec count-requires returns)
+stands-spec = tie.close (tie.spec (λ c κs. search needs) returns)

@@ -22,12 +22,6 @@ all-values xs n = go (eqb (length xs) n) refl
     go true e = ap (eqb (tally isValue xs)) (sym (eqb-true (length xs) n e)) ∙ tally-every isValue xs
     go false e = refl
 
-fields-in-requires : tie.Need-fields-in-requires
-fields-in-requires c κs = search needs
-
-values-in-requires : tie.Need-values-in-requires
-values-in-requires c κs = search needs
-
 returns : tie.Need-returns
 returns c =
     let a = c .before .before .before .args in
@@ -35,4 +29,4 @@ returns c =
     ∙ all-values (fieldsOf (a .line .now)) (a .names)
 
 pub value-line-spec : {M : Type 1} → statement M
-value-line-spec = tie.close (tie.spec fields-in-requires values-in-requires returns)
+value-line-spec = tie.close (tie.spec (λ c κs. search needs) (λ c κs. search needs) returns)

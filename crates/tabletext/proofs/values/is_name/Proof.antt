@@ -8,12 +8,9 @@ use borrow.Author.Needs.{needs}
 use Rattle.tabletext.proofs.values.is_name.Statement.{statement}
 use Rattle.tabletext.proofs.values.is_name.Tie as tie
 
-all-of-requires : tie.Need-all-of-requires
-all-of-requires c κs = search needs
-
 returns : tie.Need-returns
 unfolding isName
 returns c = ap (λ (t : Bool). ltb 0 (length (c .before .before .args .s .now)) && t) (c .all-of .ensures)
 
 pub is-name-spec : {M : Type 1} → statement M
-is-name-spec = tie.close (tie.spec all-of-requires returns)
+is-name-spec = tie.close (tie.spec (λ c κs. search needs) returns)

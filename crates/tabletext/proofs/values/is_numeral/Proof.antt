@@ -8,12 +8,6 @@ use borrow.Author.Needs.{needs}
 use Rattle.tabletext.proofs.values.is_numeral.Statement.{statement}
 use Rattle.tabletext.proofs.values.is_numeral.Tie as tie
 
-lead-kept-requires : tie.Need-lead-kept-requires
-lead-kept-requires c κs = search needs
-
-all-of-requires : tie.Need-all-of-requires
-all-of-requires c κs = search needs
-
 returns : tie.Need-returns
 unfolding numeral
 returns c =
@@ -21,4 +15,4 @@ returns c =
     ap₂ (λ (a b : Bool). a && b && t) (c .before .lead-kept .ensures) (c .all-of .ensures)
 
 pub is-numeral-spec : {M : Type 1} → statement M
-is-numeral-spec = tie.close (tie.spec lead-kept-requires all-of-requires returns)
+is-numeral-spec = tie.close (tie.spec (λ c κs. search needs) (λ c κs. search needs) returns)

@@ -5,15 +5,9 @@ use borrow.Author.Needs.{needs}
 use Rattle.tabletext.proofs.values.is_value.Statement.{statement}
 use Rattle.tabletext.proofs.values.is_value.Tie as tie
 
-value-of-requires : tie.Need-value-of-requires
-value-of-requires c κs = search needs
-
-well-formed-requires : tie.Need-well-formed-requires
-well-formed-requires c κs = search needs
-
 returns : tie.Need-returns
 unfolding isValue
 returns c = c .well-formed .ensures ∙ ap wellFormed (c .before .value-of .ensures)
 
 pub is-value-spec : {M : Type 1} → statement M
-is-value-spec = tie.close (tie.spec value-of-requires well-formed-requires returns)
+is-value-spec = tie.close (tie.spec (λ c κs. search needs) (λ c κs. search needs) returns)

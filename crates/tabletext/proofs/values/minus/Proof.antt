@@ -12,9 +12,6 @@ use Rattle.tabletext.proofs.values.minus.Tie as tie
 small : (n : ℕ) → n < 10000000000 → Within 10000000000 (pos n)
 small n h = within-weaken (omega arith) (within-at n)
 
-signed-requires : tie.Need-signed-requires
-signed-requires c κs = search needs
-
 sub-result : tie.Need-sub-result
 sub-result c =
     let w = small (c .before .args .n) (c .before .pre) in
@@ -27,4 +24,4 @@ returns c =
     simp (c .signed .ensures, plain w (lit< tt)) (plain (within-diff (within-at 0) w) (lit< tt) ∙ +ℤ-idl (negℤ (pos n)))
 
 pub minus-spec : {M : Type 1} → statement M
-minus-spec = tie.close (tie.spec signed-requires sub-result returns)
+minus-spec = tie.close (tie.spec (λ c κs. search needs) sub-result returns)

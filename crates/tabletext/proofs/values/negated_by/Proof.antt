@@ -22,9 +22,6 @@ zero-negated s e z = rw (e, z)
 is-negated : (s : List ℕ) → numeral s ≡ true → (fromDigits 0 s ≡ 0 → ⊥) → Number (negℤ (pos (fromDigits 0 s))) ≡ negated s
 is-negated s e z = rw (e, ne-eqb (fromDigits 0 s) 0 z)
 
-is-numeral-requires : tie.Need-is-numeral-requires
-is-numeral-requires c κs = search needs
-
 returns : tie.Need-returns
 returns c = not-numeral (c .before .before .before .args .s .now) (sym (c .before .is-numeral .ensures) ∙ not-true _ (c .if1 .taken))
 
@@ -38,9 +35,6 @@ returns-2 c =
     zero-negated (n .before .before .args .s .now) (sym (n .is-numeral .ensures) ∙ not-false _ (d .before .if1 .left))
     (sym (d .from-digits .ensures .0) ∙ c .if2 .taken)
 
-minus-requires : tie.Need-minus-requires
-minus-requires c κs = search needs
-
 returns-3 : tie.Need-returns-3
 returns-3 c =
     let t = c .before in
@@ -53,4 +47,4 @@ returns-3 c =
 pub negated-by-spec : {M : Type 1} → statement M
 negated-by-spec =
     tie.close
-    (tie.spec is-numeral-requires returns from-digits-requires returns-2 minus-requires returns-3)
+    (tie.spec (λ c κs. search needs) returns from-digits-requires returns-2 (λ c κs. search needs) returns-3)

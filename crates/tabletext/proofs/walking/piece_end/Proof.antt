@@ -9,9 +9,6 @@ use borrow.Author.Needs.{needs}
 use Rattle.tabletext.proofs.walking.piece_end.Statement.{statement}
 use Rattle.tabletext.proofs.walking.piece_end.Tie as tie
 
-mark-of-requires : tie.Need-mark-of-requires
-mark-of-requires c κs = search needs
-
 end-from-requires : tie.Need-end-from-requires
 end-from-requires c κs = let start = c .before .before in start-within (start .args .pieces) (start .args .s .now) (start .args .at) (start .pre)
 
@@ -24,4 +21,4 @@ returns c =
     (c .end-from .ensures ∙ ap (λ (class : Class). a .at + endOf class (drop (a .at) (a .s .now))) (mark .mark-of .ensures))
 
 pub piece-end-spec : {M : Type 1} → statement M
-piece-end-spec = tie.close (tie.spec mark-of-requires end-from-requires returns)
+piece-end-spec = tie.close (tie.spec (λ c κs. search needs) end-from-requires returns)

@@ -6,16 +6,10 @@ use borrow.Author.Needs.{needs}
 use Rattle.tabletext.proofs.walking.pieces_in.Statement.{statement}
 use Rattle.tabletext.proofs.walking.pieces_in.Tie as tie
 
-slice-aggregate-count : tie.Need-slice-aggregate-count
-slice-aggregate-count c = search needs
-
-count-requires : tie.Need-count-requires
-count-requires c κs = search needs
-
 returns : tie.Need-returns
 returns c =
     let a = c .before .before .before .args in
     c .count .ensures ∙ tally-all (piecesOf (a .pieces) (a .s .now))
 
 pub pieces-in-spec : {M : Type 1} → statement M
-pieces-in-spec = tie.close (tie.spec slice-aggregate-count count-requires returns)
+pieces-in-spec = tie.close (tie.spec (λ c. search needs) (λ c κs. search needs) returns)
