@@ -1,4 +1,4 @@
--- What the planning program lends: the numbers stand here, and the program and the statements about it take them from here.
+-- What the planning program lends (specification 13): the numbers stand here, and the program and the statements about it take them from here.
 use Prim.Native.Nat.{ℕ, suc}
 use Rattle.commitment.specs.Bounds.{mostIntervals}
 use Rattle.casetext.specs.Form.{mostBytes}

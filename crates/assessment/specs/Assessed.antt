@@ -1,4 +1,4 @@
--- Handing in a schedule: it is passed exactly when it keeps the case and no other cause holds; then its profit is formula (7).
+-- Handing in a schedule (specification 15): it is passed exactly when it keeps the case and no other cause holds; then its profit is formula (7).
 use mathlib.Core.Bool.{_&&_}
 use mathlib.Core.List.{List, [], _∷_, _++_}
 use Prim.Native.Nat.{ℕ}

@@ -126,7 +126,7 @@ fn opening_state(unit: UnitRecord) -> usize
     mot + integers::smaller(held, mdt) - 1
 }
 
-// "lowered to nine tenths, rounded down"
+// Lowered to nine tenths, rounded down.
 pub fn lowered(figure: u64) -> u64
     requires { ⌜ figure ≤ mostMwh ⌝ }
     ensures { λ r. ⌜ r ≡ valuing.lowered figure ⌝ }

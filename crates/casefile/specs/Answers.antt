@@ -1,4 +1,4 @@
--- What reading answers and what it leaves in the price slice.
+-- What reading answers and what it leaves in the price slice (specification 14, 15).
 use mathlib.Core.List.{List, [], _++_}
 use Prim.Native.Nat.{ℕ}
 use lib.IntN.{ℤ}
@@ -22,7 +22,7 @@ abbrev pub pricesLeft : Checked → List ℤ → List ℤ → List ℤ
 pricesLeft Passed prices slice = prices ++ drop (length prices) slice
 pricesLeft (checked.Refused cause) prices slice = slice
 
--- "a part that comes back is empty" on a refusal
+-- on a refusal the part that comes back is empty
 abbrev pub frontPart : Checked → List ℤ → List ℤ
 frontPart Passed prices = prices
 frontPart (checked.Refused cause) prices = []
@@ -37,7 +37,7 @@ readPrices text slice = pricesLeft (textChecked text (length slice)) (pricesIn t
 unfoldable pub readPart : List ℕ → ℕ → List ℤ
 readPart text room = frontPart (textChecked text room) (pricesIn text)
 
--- ---- the number, the count and the record of an answer: "On a refusal every other number of the answer is 0 too, every limitation .. in it is `none`"
+-- ---- the number, the count and the record of an answer: on a refusal every other number is 0 and every limitation `none`
 
 abbrev pub noUnit : UnitRecord
 noUnit =

@@ -1,4 +1,4 @@
--- The case that a text holds: the record, the prices, and the first cause for which the text is refused.
+-- The case that a text holds (specification 11): the record, the prices, and the first cause for which the text is refused.
 use mathlib.Core.List.{List, [], _∷_, _++_, map}
 use Prim.Native.Nat.{ℕ}
 use lib.Dec.{leb}
@@ -46,7 +46,7 @@ centsOf Malformed = pos beyond
 centsOf WordNone = pos beyond
 centsOf (Number z) = z
 
--- "each field is the value under its name", group by group
+-- each field is the value under its name, group by group
 module _ (names values : List (List ℕ)) where
   abbrev whole : List ℕ → ℕ
   whole name = wholeOf (under name names values)
@@ -75,7 +75,7 @@ unitIn text = unitOf (fieldsOf (unitHead text)) (fieldsOf (unitRow text))
 abbrev pub priceOf : List ℕ → List ℕ → ℤ
 priceOf head row = centsOf (under priceName (fieldsOf head) (fieldsOf row))
 
--- "the list has the prices in the order of their lines"
+-- the prices in the order of their lines
 unfoldable pub pricesIn : List ℕ → List ℤ
 pricesIn text = map (priceOf (priceHead text)) (priceRows text)
 

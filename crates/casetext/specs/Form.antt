@@ -1,4 +1,4 @@
--- The lines of a text, its form and its names.
+-- The lines of a text, its form and its names (specification 11).
 use mathlib.Core.Bool.{Bool, true, false, _&&_}
 use mathlib.Core.List.{List, [], _∷_}
 use Prim.Native.Nat.{ℕ}
@@ -9,7 +9,7 @@ use Rattle.tabletext.specs.Pieces.{linesOf, lastClosed, fieldsOf}
 use Rattle.tabletext.specs.Tables.{nameLine, valueLine, named}
 use Rattle.casetext.specs.Names.{unitNames, unitOptional, priceNames, priceOptional}
 
--- "A text has at most 12,288 bytes"
+-- the bytes that a text has at most
 abbrev pub mostBytes : ℕ
 mostBytes = 12288
 
@@ -48,7 +48,7 @@ formKept text =
     && leb 4 (length (linesOf text)) && isEmpty (emptyLine text)
     && tableFormed (unitHead text) (unitRow text ∷ []) && tableFormed (priceHead text) (priceRows text)
 
--- ---- 2: the names, "each once, in any sequence", and no other
+-- ---- 2: the names, each once, in any sequence, and no other
 
 unfoldable pub namesKept : List ℕ → Bool
 namesKept text = named unitNames unitOptional (fieldsOf (unitHead text)) && named priceNames priceOptional (fieldsOf (priceHead text))

@@ -1,4 +1,4 @@
--- The names of the two tables. A name is added here by its letters and its line in a table, in `naming` by its line, and in Reading by its field.
+-- The names of the two tables (specification 11). A name is added here by its letters and its line in a table, in `naming` by its line, and in Reading by its field.
 use mathlib.Core.List.{List, [], _∷_}
 use Prim.Native.Nat.{ℕ}
 use Rattle.lists.specs.Text.{bytes}
@@ -47,7 +47,7 @@ priceName = bytes "price"
 
 -- ---- the names of each table: those that it must have, in any sequence, and those that it may have
 
--- "The unit's table has the thirteen names"
+-- the unit's table has the thirteen
 abbrev pub unitNames : List (List ℕ)
 unitNames =
     blockName

@@ -1,4 +1,4 @@
--- The best plan, by trying every list of outputs in the specification's order; of several that earn the most the first wins.
+-- The best plan, by trying every list of outputs in order; of several that earn the most the first wins (specification 8).
 use mathlib.Core.Bool.{cond}
 use mathlib.Core.List.{List, [], _∷_, _++_, map}
 use Prim.Native.Nat.{ℕ, zero, suc, _+_, _-_, _*_}

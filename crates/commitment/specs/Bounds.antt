@@ -1,4 +1,4 @@
--- The ends of the ranges of the specification, each by its name.
+-- The ends of the ranges (specification 2, 3), each by its name.
 use Prim.Native.Nat.{ℕ}
 
 -- ---- the unit: MW in a block and at the highest output, outputs in blocks, mot and mdt

@@ -1,4 +1,4 @@
--- The causes of a refusal: their numbers, and the first of several in the order of a call's list of checks.
+-- The causes of a refusal (specification 15): their numbers, and the first of several in the order of a call's list of checks.
 use mathlib.Core.Bool.{Bool, true, false}
 use mathlib.Core.List.{List, [], _∷_}
 use Prim.Native.Nat.{ℕ}

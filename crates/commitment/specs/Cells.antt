@@ -1,4 +1,4 @@
--- The cells of scratch that a case of n intervals needs.
+-- The cells of scratch that a case of n intervals needs (specification 14).
 use Prim.Native.Nat.{ℕ, _+_, _*_, _/_, min}
 use Rattle.commitment.specs.declared.Limit.{Limit}
 use Rattle.commitment.specs.declared.Limit.the-variants.{None, At}
@@ -8,7 +8,7 @@ use Rattle.commitment.specs.declared.Generator.{Generator}
 use Rattle.commitment.specs.declared.UnitRecord.{UnitRecord}
 use Rattle.commitment.specs.Limits.{limitFor}
 
--- "a is the smaller of starts and n, b of 4 × hours and n, c of 4 × mwh / block rounded down and n × pmax; each is 0 where `none`"
+-- a is the smaller of starts and n, b of 4 × hours and n, c of 4 × mwh / block rounded down and n × pmax; each is 0 where `none`
 
 -- what a limitation's figure comes to, in starts, on-intervals and output blocks
 abbrev pub inCounts : Generator → Limitation → ℕ → ℕ
@@ -34,6 +34,6 @@ abbrev pub layerCells : UnitRecord → ℕ → ℕ
 layerCells u n =
     (u .generator .mot + u .generator .mdt) * (countFor u n Starts + 1) * (countFor u n Hours + 1) * (countFor u n Mwh + 1)
 
--- "(n+1) × (mot+mdt) × (a+1) × (b+1) × (c+1)"
+-- (n+1) × (mot+mdt) × (a+1) × (b+1) × (c+1)
 abbrev pub cellsNeeded : UnitRecord → ℕ → ℕ
 cellsNeeded u n = (n + 1) * layerCells u n

@@ -1,4 +1,4 @@
--- The cost figures of a gas-fired unit: formulas (1), (2) and (3), each an exact fraction rounded once to whole cents.
+-- The cost figures of a gas-fired unit (specification 10): formulas (1), (2) and (3), each an exact fraction rounded once to whole cents.
 use mathlib.Core.List.{List, [], _∷_}
 use Prim.Native.Nat.{ℕ, _+_, _*_}
 use Rattle.commitment.specs.declared.CostInputs.{CostInputs}

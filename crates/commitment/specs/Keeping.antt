@@ -1,4 +1,4 @@
--- When a schedule keeps the case: one definition for each rule of the specification. The Bool is the state before the first interval, on or off,
+-- When a schedule keeps the case (specification 5): one definition for each rule. The Bool is the state before the first interval, on or off,
 -- and `spent` the intervals spent in that state.
 use mathlib.Core.Bool.{Bool, true, false, _&&_}
 use mathlib.Core.List.{List, [], _∷_}
@@ -12,14 +12,14 @@ use Rattle.commitment.specs.Limits.{within}
 abbrev pub wasOn : Opening → Bool
 wasOn o = eqb (o .was) 1
 
--- "an interval that is on after one that is off is a start"
+-- an interval that is on after one that is off is a start
 abbrev pub startsIn : Bool → List ℕ → ℕ
 startsIn on [] = 0
 startsIn on (zero ∷ s) = startsIn false s
 startsIn false (suc m ∷ s) = suc (startsIn true s)
 startsIn true (suc m ∷ s) = startsIn true s
 
--- "a run lasts at least mot intervals": each run that ends; one still on at the last interval may be shorter
+-- a run lasts at least mot intervals: each run that ends; one still on at the last interval may be shorter
 abbrev pub runsLast : ℕ → Bool → ℕ → List ℕ → Bool
 runsLast mot on spent [] = true
 runsLast mot true spent (zero ∷ s) = leb mot spent && runsLast mot false 1 s
@@ -27,7 +27,7 @@ runsLast mot true spent (suc m ∷ s) = runsLast mot true (suc spent) s
 runsLast mot false spent (zero ∷ s) = runsLast mot false (suc spent) s
 runsLast mot false spent (suc m ∷ s) = runsLast mot true 1 s
 
--- "an off spell followed by a start lasts at least mdt"
+-- an off spell followed by a start lasts at least mdt
 abbrev pub spellsLast : ℕ → Bool → ℕ → List ℕ → Bool
 spellsLast mdt on spent [] = true
 spellsLast mdt true spent (zero ∷ s) = spellsLast mdt false 1 s
@@ -55,11 +55,11 @@ keepsRuns u s = runsLast (u .generator .mot) (wasOn (u .opening)) (u .opening .h
 abbrev pub keepsSpells : UnitRecord → List ℕ → Bool
 keepsSpells u s = spellsLast (u .generator .mdt) (wasOn (u .opening)) (u .opening .held) s
 
--- "on-intervals number at most 4 × hours"
+-- on-intervals number at most 4 × hours
 abbrev pub keepsHours : UnitRecord → List ℕ → Bool
 keepsHours u s = within 4 (onIntervals s) (u .limits .hours)
 
--- "the sum of outputs is at most 4 × mwh"
+-- the sum of outputs is at most 4 × mwh
 abbrev pub keepsMwh : UnitRecord → List ℕ → Bool
 keepsMwh u s = within 4 (outputSum s) (u .limits .mwh)
 

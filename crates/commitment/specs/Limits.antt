@@ -1,4 +1,4 @@
--- A limitation, what is at most as much, and one limitation of the three.
+-- A limitation, what is at most as much, and one limitation of the three (specification 2).
 use mathlib.Core.Bool.{Bool, true}
 use Prim.Native.Nat.{ℕ, _*_}
 use lib.Dec.{leb}

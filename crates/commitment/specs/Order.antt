@@ -1,4 +1,4 @@
--- "Of two schedules the earlier is the one with the smaller output at the first interval where they differ."
+-- Of two schedules the earlier has the smaller output at the first interval where they differ (specification 7).
 use mathlib.Core.Bool.{Bool, false, _&&_, _||_}
 use mathlib.Core.List.{List, [], _∷_}
 use Prim.Native.Nat.{ℕ}

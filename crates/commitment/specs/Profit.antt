@@ -1,4 +1,4 @@
--- Profit: formula (7), times four. A signed whole number of quarter-cents.
+-- Profit (specification 6): formula (7), times four. A signed whole number of quarter-cents.
 use mathlib.Core.List.{List, [], _∷_}
 use Prim.Native.Nat.{ℕ, zero, suc, _*_}
 use lib.IntN.{ℤ, pos, _+ℤ_, _-ℤ_, _*ℤ_}
@@ -11,7 +11,7 @@ use Rattle.commitment.specs.Keeping.{wasOn, startsIn}
 abbrev pub margin : ℤ → ℕ → ℕ → ℕ → ℕ → ℤ
 margin price output vec least mlc = price *ℤ pos output -ℤ pos vec *ℤ (pos output -ℤ pos least) -ℤ pos mlc
 
--- "an on-interval with price L and output M adds L × M − vec × (M − pmin × block) − mlc; an off one adds 0"
+-- an on-interval with price L and output M adds L × M − vec × (M − pmin × block) − mlc; an off one adds 0
 abbrev pub earned : Generator → Costs → ℤ → ℕ → ℤ
 earned g k price zero = pos 0
 earned g k price (suc m) = margin price (suc m) (k .vec) (g .pmin * g .block) (k .mlc)
@@ -21,7 +21,7 @@ earnedIn g k [] s = pos 0
 earnedIn g k (price ∷ prices) [] = pos 0
 earnedIn g k (price ∷ prices) (m ∷ s) = earned g k price m +ℤ earnedIn g k prices s
 
--- "4 × suc for a start"
+-- 4 × suc for a start
 abbrev pub startCost : Costs → ℕ
 startCost k = 4 * k .suc
 

@@ -1,4 +1,4 @@
--- The ranges of the unit record and of the prices, and the check of a case before anything is worked out.
+-- The ranges of the unit record and of the prices, and the check of a case before anything is worked out (specification 2, 3).
 use mathlib.Core.Path.{_≡_}
 use mathlib.Core.Bool.{Bool, true, _&&_}
 use mathlib.Core.List.{List, [], _∷_}

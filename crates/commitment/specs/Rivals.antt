@@ -1,4 +1,4 @@
--- Demand 3 as a relation: what it is to be the best plan, said of every rival and not by trying lists.
+-- Demand 3 as a relation (specification 8): what it is to be the best plan, said of every rival and not by trying lists.
 use mathlib.Core.Path.{_≡_}
 use mathlib.Core.Bool.{true, false}
 use mathlib.Core.List.{List}
@@ -12,7 +12,7 @@ use Rattle.commitment.specs.Keeping.{keepsCase}
 use Rattle.commitment.specs.Profit.{profit}
 use Rattle.commitment.specs.Order.{earlier}
 
--- "A rival's outputs are any list of such outputs, one for each interval, that keeps the case."
+-- a rival is any list of the unit's outputs, one for each interval, that keeps the case
 pub record Rival (u : UnitRecord) (prices : List ℤ) (s : List ℕ) : Type 0 where
   pub schedule : isSchedule (u .generator) (length prices) s ≡ true
   pub kept : keepsCase u s ≡ true

@@ -1,4 +1,4 @@
--- What a schedule is: an output in MW for each interval.
+-- What a schedule is (specification 4): an output in MW for each interval.
 use mathlib.Core.Bool.{Bool, true, _&&_}
 use mathlib.Core.List.{List}
 use Prim.Native.Nat.{ℕ, zero, suc, _*_, _%_}

@@ -1,4 +1,4 @@
--- C1 to C12 of the specification: one table of cases beside every value that the document gives for them, and one statement over it.
+-- C1 to C12 (specification 18): one table of cases beside every value given for them, and one statement over it.
 use mathlib.Core.Path.{_≡_, refl}
 use mathlib.Core.Bool.{cond}
 use mathlib.Core.List.{List, [], _∷_, map}

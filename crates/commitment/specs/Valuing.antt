@@ -1,4 +1,4 @@
--- Valuing a limitation: the gap between the best profit at the lowered limitation and one unit lower.
+-- Valuing a limitation (specification 9): the gap between the best profit at the lowered limitation and one unit lower.
 use mathlib.Core.List.{List}
 use Prim.Native.Nat.{ℕ, zero, suc, _*_, _/_}
 use lib.IntN.{ℤ, _-ℤ_}
@@ -15,15 +15,15 @@ use Rattle.commitment.specs.declared.UnitRecord.{UnitRecord}
 use Rattle.commitment.specs.Limits.{limitFor, withLimit, limited}
 use Rattle.commitment.specs.Best.{best, profitOf}
 
--- "lowered to nine tenths, rounded down"
+-- lowered to nine tenths, rounded down
 abbrev pub lowered : ℕ → ℕ
 lowered n = 9 * n / 10
 
--- the case with one limitation at a figure, "the other two are taken whole"
+-- the case with one limitation at a figure; the other two are taken whole
 abbrev pub runAt : UnitRecord → Limitation → ℕ → UnitRecord
 runAt u which figure = limited u (withLimit (u .limits) which (limit.At figure))
 
--- "the first run's best profit less the lower run's"; `never` where no schedule keeps the figure one unit less
+-- the first run's best profit less the lower run's; `never` where no schedule keeps the figure one unit less
 abbrev pub gapBetween : BestProfit → BestProfit → Outcome
 gapBetween first Nothing = outcome.Never
 gapBetween Nothing (Profit q) = outcome.Never

@@ -30,7 +30,7 @@ module _ (k : CostInputs) where
   weighted-worth (mw ∷ mws) (heat ∷ heats) =
       worth-plus (worth-times {d = 1} {e = units} (worth-over (lit< tt)) (segment-worth heat)) (weighted-worth mws heats)
 
-  -- "with none .. vec is 0"
+  -- with no segment vec is 0
   pub vec-none : (mws heats : List ℕ) → length mws ≡ 0 → 0 ≡ vecOf k mws heats
   vec-none [] heats h = refl
   vec-none (mw ∷ mws) heats h = absurd (omega arith)

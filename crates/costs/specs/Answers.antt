@@ -1,4 +1,4 @@
--- The answer of `figures`: the three figures, or the first cause; with its number and its figures in every case.
+-- The answer of `figures` (specification 15): the three figures, or the first cause; with its number and its figures in every case.
 use mathlib.Core.List.{List}
 use Prim.Native.Nat.{ℕ}
 use Rattle.commitment.specs.declared.CostInputs.{CostInputs}
@@ -25,7 +25,7 @@ costedBy (checked.Refused cause) figures = Refused cause
 unfoldable pub costed : CostInputs → List ℕ → List ℕ → Costed
 costed k mws heats = costedBy (inputsChecked k mws heats) (threeFigures k mws heats)
 
--- ---- its number and its figures: "On a refusal every other number of the answer is 0 too"
+-- ---- its number and its figures: on a refusal every other number is 0
 
 abbrev pub costedNumber : Costed → ℕ
 costedNumber (Figures figures) = 0

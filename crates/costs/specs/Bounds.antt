@@ -1,4 +1,4 @@
--- The ends of the ranges of the inputs that the unit record does not have, each by its name. MW and blocks end as in the record.
+-- The ends of the ranges of the inputs that the unit record does not have (specification 10), each by its name. MW and blocks end as in the record.
 use Prim.Native.Nat.{ℕ}
 
 -- gas, transport and allowance price, om and gmc

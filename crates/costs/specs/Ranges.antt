@@ -1,4 +1,4 @@
--- The ranges of the inputs of the cost figures, and the check of them before anything is worked out.
+-- The ranges of the inputs of the cost figures, and the check of them before anything is worked out (specification 10).
 use mathlib.Core.Bool.{Bool, _&&_}
 use mathlib.Core.List.{List, [], _∷_}
 use Prim.Native.Nat.{ℕ, _-_, _*_}

@@ -1,4 +1,4 @@
--- The unit record and the outcomes in numbers.
+-- The unit record and the outcomes in numbers (specification 16).
 use mathlib.Core.Bool.{cond}
 use Prim.Native.Nat.{ℕ}
 use lib.Dec.{eqb}

@@ -1,4 +1,4 @@
--- The lines that the planning program prints: each is a definition of its own, closed by byte 10.
+-- The lines that the planning program prints (specification 12): each is a definition of its own, closed by byte 10.
 use mathlib.Core.Bool.{cond}
 use mathlib.Core.List.{List, [], _∷_, _++_}
 use Prim.Native.Nat.{ℕ, suc}
@@ -72,7 +72,7 @@ unfoldable pub listing : List ℕ → ℤ → Outcomes → List ℕ
 listing schedule profit outcomes =
     intervalHeading ++ (intervalLines 1 schedule ++ (valueHeading ++ (profitLine profit ++ outcomeLines outcomes)))
 
--- "It prints a refusal as the line `refused,` and the number."
+-- a refusal is the line `refused,` and the number
 unfoldable pub refusal : ℕ → List ℕ
 refusal cause = closed (refusedLead ++ number cause)
 
@@ -81,7 +81,7 @@ refusal cause = closed (refusedLead ++ number cause)
 abbrev pub fitted : ℕ → ℕ → Fit
 fitted count room = cond (leb count room) (Bytes count) TooLong
 
--- "A buffer too short gets a refusal and is as it was": number 7, a list slice too short
+-- a buffer too short gets 7, the number of a slice too short, and is as it was
 abbrev pub writtenBy : Fit → Written
 writtenBy (Bytes count) = written.Bytes count
 writtenBy TooLong = written.Refused Length

@@ -1,4 +1,4 @@
--- Numbers as decimal text.
+-- Numbers as decimal text (specification 12).
 use mathlib.Core.Bool.{cond}
 use mathlib.Core.List.{List, [], _∷_, _++_}
 use Prim.Native.Nat.{ℕ, zero, suc, _+_, _/_, _%_}

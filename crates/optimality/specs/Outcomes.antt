@@ -1,4 +1,4 @@
--- What an outcome says of a limitation, in the specification's words and by rivals.
+-- What an outcome says of a limitation, by rivals (specification 9).
 use mathlib.Core.Path.{_≡_}
 use mathlib.Core.List.{List}
 use Prim.Native.Nat.{ℕ, suc}
@@ -13,13 +13,13 @@ use Rattle.commitment.specs.Limits.{limitFor}
 use Rattle.commitment.specs.Rivals.{Rival, IsBest}
 use Rattle.commitment.specs.Valuing.{lowered, runAt}
 
--- "`empty` (nine tenths rounds to 0)"
+-- `empty`: nine tenths rounds to 0
 pub record EmptyAt (u : UnitRecord) (which : Limitation) : Type 0 where
   pub figure : ℕ
   pub limited : limitFor (u .limits) which ≡ limit.At figure
   pub nine-tenths : lowered figure ≡ 0
 
--- "`never` (not empty, and no schedule keeps the figure one unit less)"
+-- `never`: not empty, and no schedule keeps the figure one unit less
 pub record NeverAt (u : UnitRecord) (prices : List ℤ) (which : Limitation) : Type 0 where
   pub figure : ℕ
   pub less : ℕ
@@ -27,7 +27,7 @@ pub record NeverAt (u : UnitRecord) (prices : List ℤ) (which : Limitation) : T
   pub nine-tenths : lowered figure ≡ suc less
   pub none-lower : (r : List ℕ) → Rival (runAt u which less) prices r → ⊥
 
--- "the gap in quarter-cents, which is the first run's best profit less the lower run's"
+-- the gap in quarter-cents: the first run's best profit less the lower run's
 pub record GapAt (u : UnitRecord) (prices : List ℤ) (which : Limitation) (gap : ℤ) : Type 0 where
   pub figure : ℕ
   pub less : ℕ

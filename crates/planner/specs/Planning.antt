@@ -1,4 +1,4 @@
--- Planning: the best plan, or why there is none; what becomes of the lent slices.
+-- Planning (specification 8, 14, 15): the best plan, or why there is none; what becomes of the lent slices.
 use mathlib.Core.Bool.{Bool, true, false}
 use mathlib.Core.List.{List, [], _∷_, _++_}
 use Prim.Native.Nat.{ℕ}
@@ -59,13 +59,13 @@ planned u prices scratch schedule = plannedBy (planChecked u prices scratch sche
 
 -- ---- the slices
 
--- "The schedule slice at exit is the plan followed by what was there; on a refusal it is as it was."
+-- the schedule slice is the plan followed by what was there; on a refusal it is as it was
 abbrev pub scheduleAfter : Checked → Plan → List ℕ → List ℕ
 scheduleAfter Passed (plan s p) was = s ++ drop (length s) was
 scheduleAfter Passed nothing was = was
 scheduleAfter (checked.Refused cause) best was = was
 
--- "After a plan, outcomes or number 9, the needed cells are 0; cells beyond are untouched": where the work was begun
+-- where the work was begun the needed cells are 0, and the cells beyond are as they were
 abbrev pub scratchAfter : Checked → ℕ → List ℤ → List ℤ
 scratchAfter Passed needed was = replicate needed (pos 0) ++ drop needed was
 scratchAfter (checked.Refused cause) needed was = was

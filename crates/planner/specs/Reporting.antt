@@ -1,4 +1,4 @@
--- A report: plan and outcomes in one answer.
+-- A report (specification 8, 9): plan and outcomes in one answer.
 use mathlib.Core.List.{List}
 use Prim.Native.Nat.{ℕ}
 use lib.IntN.{ℤ, pos}

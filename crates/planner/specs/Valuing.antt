@@ -1,4 +1,4 @@
--- Valuing: the three outcomes, or why there are none.
+-- Valuing (specification 9): the three outcomes, or why there are none.
 use mathlib.Core.List.{List, [], _∷_, _++_}
 use Prim.Native.Nat.{ℕ}
 use lib.Dec.{leb}

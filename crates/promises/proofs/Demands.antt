@@ -8,7 +8,7 @@ use Prim.Native.Nat.{ℕ, _≤_, _<_}
 use lib.IntN.{ℤ, pos}
 use lib.ListN.{length, take, drop}
 use Rattle.commitment.specs.declared.Cause.{Cause}
-use Rattle.commitment.specs.declared.Cause.the-variants.{Form}
+use Rattle.commitment.specs.declared.Cause.the-variants.{Form, Length}
 use Rattle.commitment.specs.declared.Checked.the-variants.{Passed, Refused}
 use Rattle.commitment.specs.declared.CostInputs.{CostInputs}
 use Rattle.commitment.specs.declared.Limitation.{Limitation}
@@ -64,11 +64,16 @@ use Rattle.promises.proofs.Planning as plans
 use Rattle.promises.proofs.Printed as printing
 use Rattle.promises.proofs.Untouched as untouched
 
--- ---- Demand 1. "Whoever calls .. gets an answer": no call has a `requires`, and every text gets all of its bytes from the program.
+-- ---- Demand 1 (specification 17). Whoever calls gets an answer: no call has a `requires`, and every text gets all of its bytes from the program.
 
 pub every-text-is-answered : (text : List ℕ)
     → answered text (programLends outRoom) .bytes ≡ length (printed text (programLends outRoom))
 every-text-is-answered = printing.every-text-is-answered
+
+-- its slices are never too short
+
+pub program-has-room : (text : List ℕ) → reportOn text (programLends outRoom) ≡ reporting.Refused Length → ⊥
+program-has-room = printing.program-has-room
 
 -- a text of more bytes than are read is refused as it would be whole, by what was read of it
 
@@ -76,7 +81,7 @@ pub longer-text-is-refused : (text more : List ℕ) (lent : Lent) → mostBytes 
     → (reportOn text lent ≡ reporting.Refused Form) × (reportOn (text ++ more) lent ≡ reporting.Refused Form)
 longer-text-is-refused = printing.longer-refused
 
--- "A bad input gets the number of its cause": the first of the call's order that holds, and no other. 9 is among them: it is given exactly when no cause
+-- A bad input gets the number of its cause: the first of the call's order that holds, and no other. 9 is among them: it is given exactly when no cause
 -- before it holds and there is no rival.
 
 pub reading-refused : (text : List ℕ) (room : ℕ) (cause : Cause)
@@ -175,7 +180,7 @@ report-refusal cause = (refl, refl, refl, refl)
 pub value-refusal : (cause : Cause) → (valuedNumber (valuing.Refused cause) ≡ numberOf cause) × (valuedOutcomes (valuing.Refused cause) ≡ noOutcomes)
 value-refusal cause = (refl, refl)
 
--- "schedule and price slices are untouched", and a part that comes back is empty
+-- schedule and price slices are untouched, and a part that comes back is empty
 
 pub prices-untouched : (text : List ℕ) (slice : List ℤ) {cause : Cause} → readCase text (length slice) ≡ reading.Refused cause
     → (readPrices text slice ≡ slice) × (readPart text (length slice) ≡ [])
@@ -214,7 +219,7 @@ pub answer-refused-schedule : (text : List ℕ) (lent : Lent) (was : List ℕ) {
     → scheduleAnswered text lent was ≡ was
 answer-refused-schedule = untouched.answer-refused-schedule
 
--- "A text that is not refused is read as the figures written in it."
+-- A text that is not refused is read as the figures written in it.
 
 pub as-written : (text : List ℕ) (slice : List ℤ) (u : UnitRecord) (count : ℕ)
     → readCase text (length slice) ≡ reading.Case u count → AsWritten text u (take count (readPrices text slice))
@@ -228,21 +233,20 @@ pub written-is-read : (u : UnitRecord) (prices : List ℤ) (names : List (List �
     × (readPrices (written names u prices) slice ≡ prices ++ drop (length prices) slice)
 written-is-read = written-read
 
--- ---- Demand 2. "A schedule handed in is passed exactly when it keeps the unit's limits, times and limitations and no other cause holds; its profit is
--- formula (7)"
+-- ---- Demand 2. A schedule handed in is passed exactly when it keeps the case and no other cause holds; its profit is formula (7).
 
 pub passed-exactly : (u : UnitRecord) (prices : List ℤ) (s : List ℕ) (p : ℤ)
     → (assessed u prices s ≡ assessing.Profit p)
     ↔ ((caseChecked u (pricesKept prices) (length prices) ≡ Passed) × Rival u prices s × (profit u prices s ≡ p))
 passed-exactly = passed.passed-exactly
 
--- "cost figures are formulas (1) to (3), rounded once", a half going up
+-- The cost figures are formulas (1) to (3), rounded once, a half going up.
 
 pub rounded-once : (k : CostInputs) (mws heats : List ℕ) (figures : CostFigures) → costed k mws heats ≡ costing.Figures figures
     → RoundedOnce k mws heats figures
 rounded-once = rounding.rounded-once
 
--- ---- Demand 3. "No rival schedule of the same case earns more than the plan, and one that earns as much is not earlier." The plan is the first n entries
+-- ---- Demand 3. No rival earns more than the plan, and none that earns as much is earlier. The plan is the first n entries
 -- of the schedule slice, n the count given; the entries behind are as they were.
 
 pub planned-is-best : (u : UnitRecord) (prices : List ℤ) (cells : ℕ) (was : List ℕ) (n : ℕ) (p : ℤ)
@@ -278,8 +282,8 @@ pub report-is-passed : (u : UnitRecord) (prices : List ℤ) (cells : ℕ) (was :
     → assessed u prices (take (r .count) (scheduleLeft u prices cells was)) ≡ assessing.Profit (r .profit)
 report-is-passed u prices cells was r e = plans.given-is-passed u prices cells was (r .count) (r .profit) (plans.report-given u prices cells was r e .0)
 
--- "An opportunity cost is the gap between the best profit at nine tenths of a limitation and one unit lower, given exactly when that lower run exists
--- and has a schedule": what each outcome says of the two runs stands in `optimality`, specs/Outcomes.
+-- An opportunity cost is the gap between the best profit at nine tenths of a limitation and one unit lower, given exactly when that lower run exists
+-- and has a schedule: what each outcome says of the two runs stands in `optimality`, specs/Outcomes.
 
 pub outcomes-say : (u : UnitRecord) (prices : List ℤ) (cells : ℕ) (o : Outcomes) → valued u prices cells ≡ valuing.Outcomes o
     → (which : Limitation) → Says u prices which (outcomeFor o which)

@@ -1,18 +1,18 @@
 -- An answer fits its buffer where no cause is found before the work; so the program's buffer holds what is printed for any text.
-use mathlib.Core.Path.{_≡_, refl, ap}
+use mathlib.Core.Path.{_≡_, refl, sym, ap, ap₂, _∙_}
 use mathlib.Core.Bool.{Bool, true, false, cond, _&&_}
 use mathlib.Core.List.{List, [], _∷_, _++_}
-use mathlib.Core.Logic.{inl}
+use mathlib.Core.Logic.{inl, ⊎-elim}
 use Prim.Native.Nat.{ℕ, suc, _+_, _*_, _≤_, _<_}
 use native.Mathlib.Omega.{arith}
-use borrow.Author.Tests.{le-leb, lt-leb, eqb-true}
-use lib.Dec.{eqb}
+use borrow.Author.Tests.{le-leb, lt-leb, leb-true, eqb-true}
+use lib.Dec.{leb, eqb}
 use lib.IntN.{ℤ}
 use lib.ListN.{length, drop, length-append}
 use Rattle.lists.specs.Every.{every}
 use Rattle.lists.proofs.Conjunctions.{both}
 use Rattle.commitment.specs.declared.Cause.{Cause}
-use Rattle.commitment.specs.declared.Cause.the-variants.{Form, NoSchedule}
+use Rattle.commitment.specs.declared.Cause.the-variants.{Form, Name, Range, Shape, Horizon, Length, Scratch, NoSchedule}
 use Rattle.commitment.specs.declared.Checked.{Checked}
 use Rattle.commitment.specs.declared.Checked.the-variants.{Passed, Refused}
 use Rattle.commitment.specs.declared.Generator.{Generator}
@@ -21,7 +21,7 @@ use Rattle.commitment.specs.declared.UnitRecord.{UnitRecord}
 use Rattle.commitment.specs.Best.{Plan, nothing, plan, best}
 use Rattle.commitment.specs.Bounds.{mostMw, mostIntervals}
 use Rattle.commitment.specs.Causes.{numberOf}
-use Rattle.commitment.specs.Ranges.{InOrder}
+use Rattle.commitment.specs.Ranges.{InOrder, horizonKept}
 use Rattle.commitment.specs.Schedule.{isOutput, isSchedule}
 use Rattle.commitment.specs.Valuing.{outcomesOf}
 use Rattle.optimality.proofs.Optimal.{plan-exactly}
@@ -37,10 +37,11 @@ use Rattle.planner.specs.declared.Reported.the-variants as reports
 use Rattle.planner.specs.Planning.{plannedPart}
 use Rattle.planner.specs.Reporting.{reportedBy, reportedNumber}
 use Rattle.answers.specs.declared.Lent.{Lent}
-use Rattle.answers.specs.Answering.{mostPrinted, lentFound, allFound, reportPrinted, printedFor, reportOn, answered, printed}
-use Rattle.answers.specs.Sizes.{outRoom, programLends}
+use Rattle.answers.specs.Answering.{mostPrinted, longEnough, lentFound, allFound, reportPrinted, printedFor, reportOn, answered, printed}
+use Rattle.answers.specs.Sizes.{priceRoom, outRoom, programLends}
 use Rattle.answers.proofs.Found.{passed, refused-in-all}
 use Rattle.casetext.specs.Form.{mostBytes, formKept}
+use Rattle.promises.specs.Causes.{FirstOf, AnswerCause}
 use Rattle.promises.proofs.Causes.{answering-refused}
 
 -- ---- a listing takes no more than is reckoned with
@@ -158,3 +159,47 @@ longer-refused text more lent long = (too-long text long, too-long (text ++ more
   where
     too-long : (text : List ℕ) → mostBytes < length text → reportOn text lent ≡ reports.Refused Form
     too-long text long = answering-refused text lent .1 (inl (refl, form-short text long))
+
+-- ---- the program's slices suffice for every case in order: it never gives 7
+
+in-order-has-room : (n : ℕ) → horizonKept n ≡ true → longEnough n (programLends outRoom) ≡ true
+in-order-has-room n kept =
+    let short = leb-true n mostIntervals (both (leb 1 n) (leb n mostIntervals) kept .1) in
+    let entries = le-leb n priceRoom (omega (arith, short)) in
+    ap₂ _&&_ entries (ap₂ _&&_ entries (le-leb (mostPrinted n) outRoom (omega (arith, short))))
+
+pub program-has-room : (text : List ℕ) → reportOn text (programLends outRoom) ≡ reports.Refused Length → ⊥
+program-has-room text e = kept (horizonKept (length (pricesIn text))) refl
+  where
+    Holds : Cause → Type 0
+    Holds cause = AnswerCause text (programLends outRoom) cause
+
+    past : (first : Cause) (later : List Cause) → (numberOf first ≡ 7 → ⊥) → FirstOf Holds (first ∷ later) Length
+        → (Holds first → ⊥) × FirstOf Holds later Length
+    past first later other given = ⊎-elim (λ this. absurd (other (ap numberOf (this .0)))) (λ further. further) given
+
+    from-length : List Cause
+    from-length = Length ∷ Scratch ∷ NoSchedule ∷ []
+
+    horizon : (Holds Horizon → ⊥) × FirstOf Holds from-length Length
+    horizon =
+        let given = answering-refused text (programLends outRoom) .0 e in
+        let form = past Form (Name ∷ Range ∷ Shape ∷ Horizon ∷ from-length) (λ z. absurd (omega arith)) given .1 in
+        let name = past Name (Range ∷ Shape ∷ Horizon ∷ from-length) (λ z. absurd (omega arith)) form .1 in
+        let range = past Range (Shape ∷ Horizon ∷ from-length) (λ z. absurd (omega arith)) name .1 in
+        past Horizon from-length (λ z. absurd (omega arith)) (past Shape (Horizon ∷ from-length) (λ z. absurd (omega arith)) range .1)
+
+    too-short : Holds Length
+    too-short =
+        ⊎-elim (λ this. this .1)
+        (λ further.
+        let scratch = past Scratch (NoSchedule ∷ []) (λ z. absurd (omega arith)) (further .1) .1 in
+        absurd (past NoSchedule [] (λ z. absurd (omega arith)) scratch .1))
+        (horizon .1)
+
+    kept : (t : Bool) → horizonKept (length (pricesIn text)) ≡ t → ⊥
+    kept false i = horizon .0 i
+    kept true i =
+        let no : true ≡ false = sym (in-order-has-room (length (pricesIn text)) i) ∙ too-short in
+        let z : _≡_ {A = ℕ} 0 1 = cc in
+        absurd (omega arith)

@@ -1,4 +1,4 @@
--- The names of a line are those of a table in some sequence: the first stands somewhere, and the others are what is left, in some sequence.
+-- The names of a line are those of a table in some sequence (specification 11): the first stands somewhere, and the others are what is left, in some sequence.
 use mathlib.Core.Path.{_≡_}
 use mathlib.Core.List.{List, [], _∷_, _++_}
 use Prim.Native.Nat.{ℕ}

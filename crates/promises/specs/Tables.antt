@@ -1,4 +1,4 @@
--- A text of two tables as a writer makes it: names and values joined by commas, lines closed by line ends, an empty line between the tables.
+-- A text of two tables as a writer makes it (specification 11): names and values joined by commas, lines closed by line ends, an empty line between the tables.
 use mathlib.Core.Path.{_≡_}
 use mathlib.Core.Bool.{true, _&&_}
 use mathlib.Core.List.{List, [], _∷_, map}

@@ -1,4 +1,4 @@
--- What the calls answer of C1 to C12, in the order and the kinds of the values that the specification gives for them.
+-- What the calls answer of C1 to C12 (specification 18), in the order and the kinds of the values given for them.
 use mathlib.Core.List.{List, [], _∷_, _++_}
 use Prim.Native.Nat.{ℕ}
 use lib.IntN.{ℤ, pos}

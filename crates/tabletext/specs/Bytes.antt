@@ -1,4 +1,4 @@
--- The bytes of a text, by class.
+-- The bytes of a text, by class (specification 11).
 use mathlib.Core.Bool.{Bool, true, false, _&&_, cond}
 use mathlib.Core.List.{List, [], _∷_}
 use Prim.Native.Nat.{ℕ}
@@ -9,7 +9,7 @@ use Rattle.tabletext.specs.declared.Class.the-variants.{Digit, Letter, C
 abbrev pub between : ℕ → ℕ → ℕ → Bool
 between least n most = leb least n && leb n most
 
--- "Bytes are digits 48 to 57, minus 45, comma 44, letters 97 to 122 and line end 10"
+-- digits 48 to 57, minus 45, comma 44, letters 97 to 122 and line end 10
 abbrev pub classOf : ℕ → Class
 classOf b =
     cond (between 48 b 57) Digit

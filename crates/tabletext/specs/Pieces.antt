@@ -1,4 +1,4 @@
--- A text is lines, a line is fields.
+-- A text is lines, a line is fields (specification 11).
 use mathlib.Core.Bool.{Bool, false, cond}
 use mathlib.Core.List.{List, [], _∷_}
 use Prim.Native.Nat.{ℕ}

@@ -1,4 +1,4 @@
--- A table: a line of names over lines of values.
+-- A table (specification 11): a line of names over lines of values.
 use mathlib.Core.Bool.{Bool, _&&_, _||_, cond}
 use mathlib.Core.List.{List, [], _∷_}
 use Prim.Native.Nat.{ℕ, _+_}
@@ -14,7 +14,7 @@ use Rattle.tabletext.specs.Values.{isName, valueOf, isValue}
 abbrev pub nameLine : List ℕ → Bool
 nameLine line = every isName (fieldsOf line)
 
--- "A line of values has as many values as its line of names has names"
+-- a line of values has as many values as its line of names has names
 abbrev pub valueLine : ℕ → List ℕ → Bool
 valueLine names line = eqb (length (fieldsOf line)) names && every isValue (fieldsOf line)
 

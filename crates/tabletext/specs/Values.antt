@@ -1,4 +1,4 @@
--- Names, and the values that fields hold.
+-- Names, and the values that fields hold (specification 11).
 use mathlib.Core.Bool.{Bool, true, false, _&&_, not, cond}
 use mathlib.Core.List.{List, [], _∷_}
 use Prim.Native.Nat.{ℕ, _+_, _-_, _*_}
@@ -12,7 +12,7 @@ use Rattle.tabletext.specs.declared.Value.{Value}
 use Rattle.tabletext.specs.declared.Value.the-variants.{Malformed, WordNone, Number}
 use Rattle.tabletext.specs.Bytes.{isOf, same}
 
--- "A name is one or more letters"
+-- a name is one or more letters
 unfoldable pub isName : List ℕ → Bool
 isName s = ltb 0 (length s) && every (isOf Letter) s
 
@@ -27,11 +27,11 @@ leadKept [] = false
 leadKept (b ∷ []) = true
 leadKept (b ∷ c ∷ bs) = not (eqb b 48)
 
--- "1 to 10 digits without needless leading zeros"
+-- 1 to 10 digits without needless leading zeros
 unfoldable pub numeral : List ℕ → Bool
 numeral s = leadKept s && every (isOf Digit) s && leb (length s) 10
 
--- "a minus allowed except on 0"
+-- a minus is allowed except on 0
 abbrev pub negated : List ℕ → Value
 negated s = cond (numeral s && not (eqb (fromDigits 0 s) 0)) (Number (negℤ (pos (fromDigits 0 s)))) Malformed
 
@@ -42,7 +42,7 @@ negative (b ∷ bs) = cond (isOf Minus b) (negated bs) Malformed
 abbrev pub noneWord : List ℕ
 noneWord = bytes "none"
 
--- "A value is `none`, or 1 to 10 digits .., a minus allowed except on 0"
+-- a value is `none`, or such digits with or without a minus
 unfoldable pub valueOf : List ℕ → Value
 valueOf s = cond (same s noneWord) WordNone (cond (numeral s) (Number (pos (fromDigits 0 s))) (negative s))
 

@@ -132,7 +132,7 @@ pub fn list_of(case: Case, number: u64) -> [u32; 6] {
     list
 }
 
-// ---- "It keeps the case when:", by the times and by the limitations
+// ---- keeping the case (specification 5), by the times and by the limitations
 
 // Every spell on, or every spell off, that the other state ends lasts at least so many intervals, those before interval 1 included.
 fn spells_last(n: usize, list: [u32; 6], on: bool, before: u64, least: u64) -> bool
@@ -339,7 +339,7 @@ pub fn profit_of(found: Found) -> i64
     difference(found.earned, found.spent)
 }
 
-// ---- "Valuing a limitation"
+// ---- valuing a limitation (specification 9)
 
 fn cap_of(case: Case, which: Which) -> Cap
     ensures { λ r. ⌜ r ≡ capOf case which ⌝ }

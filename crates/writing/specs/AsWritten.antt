@@ -1,4 +1,4 @@
--- A text read as the figures written in it: each field is the value under its name, and the prices are those of the lines in order.
+-- A text read as the figures written in it (specification 11): each field is the value under its name, and the prices are those of the lines in order.
 use mathlib.Core.Path.{_≡_}
 use mathlib.Core.List.{List, [], _∷_}
 use Prim.Native.Nat.{ℕ, _<_}
@@ -15,7 +15,7 @@ use Rattle.casetext.specs.Names.{blockName, pminName, pmaxName, motName, mdtNam
 use Rattle.casetext.specs.Names.{startsName, hoursName, mwhName, priceName}
 use Rattle.casetext.specs.Form.{unitHead, unitRow, priceHead, priceRows}
 
--- "the value under its name": the name stands at one place of the line of names, and the value at that place of the line of values
+-- the value under its name: the name stands at one place of the line of names, and the value at that place of the line of values
 pub record StandsUnder (names values : List (List ℕ)) (name : List ℕ) (value : Value) : Type 0 where
   pub place : ℕ
   pub within : place < length names

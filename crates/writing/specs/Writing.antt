@@ -1,4 +1,4 @@
--- The text that a writer of the format makes of a record and prices.
+-- The text that a writer of the format makes of a record and prices (specification 11).
 use mathlib.Core.Bool.{cond}
 use mathlib.Core.List.{List, [], _∷_, _++_, map}
 use Prim.Native.Nat.{ℕ, zero, suc, _+_, _/_, _%_}
