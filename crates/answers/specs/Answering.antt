@@ -1,4 +1,5 @@
--- The answer to the text of a case (specification 12, 14, 15): what is found before anything is written, the lines printed, and what becomes of the slices lent.
+-- The answer to the text of a case (specification 12, 14, 15): what is found before anything is written, the lines printed, and what becomes
+-- of the slices lent.
 use mathlib.Core.Bool.{Bool, _&&_}
 use mathlib.Core.List.{List, _++_}
 use Prim.Native.Nat.{ℕ, _+_, _*_}

@@ -15,7 +15,8 @@ ghost use Rattle.casefile.specs.Answers.{pricesLeft};
 ghost use Rattle.casefile.specs.Reading.{unitIn, pricesIn};
 ghost use Rattle.listing.specs.Listing.{refusal, bufferAfter};
 ghost use Rattle.planner.specs.Planning.{planChecked, scheduleLeft, scratchLeft, scratchAfter};
-ghost use Rattle.answers.specs.Answering.{lengths, mostPrinted, lentFound, answeredIn, answeredFor, printedFor, answered, printed, pricesAfter, scheduleAnswered, scratchAnswered};
+ghost use Rattle.answers.specs.Answering.{lengths, mostPrinted, lentFound, answeredIn, answeredFor, printedFor};
+ghost use Rattle.answers.specs.Answering.{answered, printed, pricesAfter, scheduleAnswered, scratchAnswered};
 ghost use Rattle.answers.specs.Sizes.{programLends};
 
 // What the program lends. specs/Sizes.antt has the same.
@@ -62,10 +63,18 @@ pub fn answer_into(
     out: &mut [u8],
 ) -> Answered
     ensures { λ r. ⌜ r ≡ answered (now (text .entry)) (lengths (now (prices .entry)) (now (scratch .entry)) (now (schedule .entry)) (now (out .entry))) ⌝ }
-    ensures { λ _. ⌜ now (out .exit) ≡ bufferAfter (printed (now (text .entry)) (lengths (now (prices .entry)) (now (scratch .entry)) (now (schedule .entry)) (now (out .entry)))) (now (out .entry)) ⌝ }
-    ensures { λ _. ⌜ now (prices .exit) ≡ pricesAfter (now (text .entry)) (lengths (now (prices .entry)) (now (scratch .entry)) (now (schedule .entry)) (now (out .entry))) (now (prices .entry)) ⌝ }
-    ensures { λ _. ⌜ now (schedule .exit) ≡ scheduleAnswered (now (text .entry)) (lengths (now (prices .entry)) (now (scratch .entry)) (now (schedule .entry)) (now (out .entry))) (now (schedule .entry)) ⌝ }
-    ensures { λ _. ⌜ now (scratch .exit) ≡ scratchAnswered (now (text .entry)) (lengths (now (prices .entry)) (now (scratch .entry)) (now (schedule .entry)) (now (out .entry))) (now (scratch .entry)) ⌝ }
+    ensures { λ _. ⌜ now (out .exit)
+        ≡ bufferAfter (printed (now (text .entry)) (lengths (now (prices .entry)) (now (scratch .entry)) (now (schedule .entry)) (now (out .entry))))
+        (now (out .entry)) ⌝ }
+    ensures { λ _. ⌜ now (prices .exit)
+        ≡ pricesAfter (now (text .entry)) (lengths (now (prices .entry)) (now (scratch .entry)) (now (schedule .entry)) (now (out .entry)))
+        (now (prices .entry)) ⌝ }
+    ensures { λ _. ⌜ now (schedule .exit)
+        ≡ scheduleAnswered (now (text .entry)) (lengths (now (prices .entry)) (now (scratch .entry)) (now (schedule .entry)) (now (out .entry)))
+        (now (schedule .entry)) ⌝ }
+    ensures { λ _. ⌜ now (scratch .exit)
+        ≡ scratchAnswered (now (text .entry)) (lengths (now (prices .entry)) (now (scratch .entry)) (now (schedule .entry)) (now (out .entry)))
+        (now (scratch .entry)) ⌝ }
 {
     let lent = Lent {
         prices: prices.len(),
@@ -111,10 +120,15 @@ fn report(
 ) -> Answered
     requires { ⌜ lentFound (now text) (lengths (now prices) (now scratch) (now schedule) (now out)) ≡ Passed ⌝ }
     ensures { λ r. ⌜ r ≡ answered (now (text .entry)) (lengths (now (prices .entry)) (now (scratch .entry)) (now (schedule .entry)) (now (out .entry))) ⌝ }
-    ensures { λ _. ⌜ now (out .exit) ≡ bufferAfter (printed (now (text .entry)) (lengths (now (prices .entry)) (now (scratch .entry)) (now (schedule .entry)) (now (out .entry)))) (now (out .entry)) ⌝ }
+    ensures { λ _. ⌜ now (out .exit)
+        ≡ bufferAfter (printed (now (text .entry)) (lengths (now (prices .entry)) (now (scratch .entry)) (now (schedule .entry)) (now (out .entry))))
+        (now (out .entry)) ⌝ }
     ensures { λ _. ⌜ now (prices .exit) ≡ pricesLeft Passed (pricesIn (now (text .entry))) (now (prices .entry)) ⌝ }
-    ensures { λ _. ⌜ now (schedule .exit) ≡ scheduleAnswered (now (text .entry)) (lengths (now (prices .entry)) (now (scratch .entry)) (now (schedule .entry)) (now (out .entry))) (now (schedule .entry)) ⌝ }
-    ensures { λ _. ⌜ now (scratch .exit) ≡ scratchAfter Passed (cellsNeeded (unitIn (now (text .entry))) (length (pricesIn (now (text .entry))))) (now (scratch .entry)) ⌝ }
+    ensures { λ _. ⌜ now (schedule .exit)
+        ≡ scheduleAnswered (now (text .entry)) (lengths (now (prices .entry)) (now (scratch .entry)) (now (schedule .entry)) (now (out .entry)))
+        (now (schedule .entry)) ⌝ }
+    ensures { λ _. ⌜ now (scratch .exit)
+        ≡ scratchAfter Passed (cellsNeeded (unitIn (now (text .entry))) (length (pricesIn (now (text .entry))))) (now (scratch .entry)) ⌝ }
 {
     let unit = casefile::fields::unit_in(text);
     let count = casefile::pricing::prices_counted(text);
@@ -130,8 +144,13 @@ fn report_case(
     schedule: &mut [u64],
     out: &mut [u8],
 ) -> Answered
-    ensures { λ r. ⌜ r ≡ answeredFor (planChecked unit (now (prices .entry)) (length (now (scratch .entry))) (length (now (schedule .entry)))) unit (now (prices .entry)) (length (now (out .entry))) ⌝ }
-    ensures { λ _. ⌜ now (out .exit) ≡ bufferAfter (printedFor (planChecked unit (now (prices .entry)) (length (now (scratch .entry))) (length (now (schedule .entry)))) unit (now (prices .entry))) (now (out .entry)) ⌝ }
+    ensures { λ r. ⌜ r
+        ≡ answeredFor (planChecked unit (now (prices .entry)) (length (now (scratch .entry))) (length (now (schedule .entry)))) unit
+        (now (prices .entry)) (length (now (out .entry))) ⌝ }
+    ensures { λ _. ⌜ now (out .exit)
+        ≡ bufferAfter
+        (printedFor (planChecked unit (now (prices .entry)) (length (now (scratch .entry))) (length (now (schedule .entry)))) unit (now (prices .entry)))
+        (now (out .entry)) ⌝ }
     ensures { λ _. ⌜ now (schedule .exit) ≡ scheduleLeft unit (now (prices .entry)) (length (now (scratch .entry))) (now (schedule .entry)) ⌝ }
     ensures { λ _. ⌜ now (scratch .exit) ≡ scratchLeft unit (now (prices .entry)) (length (now (schedule .entry))) (now (scratch .entry)) ⌝ }
 {

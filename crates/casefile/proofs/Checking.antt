@@ -67,7 +67,8 @@ module _ (text : List ℕ) (room : ℕ) where
 
 module _ (text : List ℕ) (slice : List ℤ) where
   pub answer-read : textChecked text (length slice) ≡ Passed
-      → (answer.Case (unitIn text) (length (pricesIn text)) ≡ readCase text (length slice)) × (pricesIn text ++ drop (length (pricesIn text)) slice ≡ readPrices text slice)
+      → (answer.Case (unitIn text) (length (pricesIn text)) ≡ readCase text (length slice))
+      × (pricesIn text ++ drop (length (pricesIn text)) slice ≡ readPrices text slice)
   unfolding readCase readPrices
   answer-read e = (rw e, rw e)
 

@@ -20,7 +20,8 @@ use Rattle.tabletext.specs.declared.Value.the-variants.{Malformed, WordNone, Nu
 use Rattle.tabletext.specs.Pieces.{fieldsOf}
 use Rattle.tabletext.specs.Tables.{under}
 use Rattle.casetext.specs.Form.{unitHead, unitRow, priceHead, priceRows, formKept, namesKept}
-use Rattle.casetext.specs.Names.{blockName, pminName, pmaxName, motName, mdtName, wasName, heldName, vecName, mlcName, sucName, startsName, hoursName, mwhName, priceName}
+use Rattle.casetext.specs.Names.{blockName, pminName, pmaxName, motName, mdtName, wasName, heldName}
+use Rattle.casetext.specs.Names.{vecName, mlcName, sucName, startsName, hoursName, mwhName, priceName}
 
 -- A number that no range reaches, though ten digits come near. It stands for what a field cannot hold: a number below 0, or `none`
 -- where it may not stand. So the check of the ranges refuses these too.

@@ -26,7 +26,8 @@ pub enum CaseRead {
 
 // The case of a text, its prices into the front of the slice; or 1, 2, 3, 4, 5 or 7, and the slice is as it was.
 pub fn read_into(text: &[u8], prices: &mut [i64]) -> CaseRead
-    ensures { λ r. ⌜ (r ≡ readCase (now (text .entry)) (length (now (prices .entry)))) × (now (prices .exit) ≡ readPrices (now (text .entry)) (now (prices .entry))) ⌝ }
+    ensures { λ r. ⌜ (r ≡ readCase (now (text .entry)) (length (now (prices .entry))))
+        × (now (prices .exit) ≡ readPrices (now (text .entry)) (now (prices .entry))) ⌝ }
 {
     let found = check_text(text, prices.len());
     match found {
@@ -37,7 +38,9 @@ pub fn read_into(text: &[u8], prices: &mut [i64]) -> CaseRead
 
 // The same, with the filled front part of the caller's own slice as the answer, empty on a refusal, and the number beside it.
 pub fn read<'a>(text: &[u8], prices: &'a mut [i64], number: &mut u64) -> &'a mut [i64]
-    ensures { λ r. ⌜ (now r ≡ readPart (now (text .entry)) (length (now (prices .entry)))) × ((ptr r ≡ ptr (prices .entry)) × (now (number .exit) ≡ readNumber (readCase (now (text .entry)) (length (now (prices .entry)))))) ⌝ }
+    ensures { λ r. ⌜ (now r ≡ readPart (now (text .entry)) (length (now (prices .entry))))
+        × ((ptr r ≡ ptr (prices .entry))
+        × (now (number .exit) ≡ readNumber (readCase (now (text .entry)) (length (now (prices .entry)))))) ⌝ }
 {
     let answer = read_into(text, &mut *prices);
     *number = number_of(answer);
@@ -48,7 +51,8 @@ pub fn read<'a>(text: &[u8], prices: &'a mut [i64], number: &mut u64) -> &'a mut
 // Of a text that passed its check.
 fn taken(text: &[u8], prices: &mut [i64]) -> CaseRead
     requires { ⌜ textChecked (now text) (length (now prices)) ≡ checked.Passed ⌝ }
-    ensures { λ r. ⌜ (r ≡ readCase (now (text .entry)) (length (now (prices .entry)))) × (now (prices .exit) ≡ readPrices (now (text .entry)) (now (prices .entry))) ⌝ }
+    ensures { λ r. ⌜ (r ≡ readCase (now (text .entry)) (length (now (prices .entry))))
+        × (now (prices .exit) ≡ readPrices (now (text .entry)) (now (prices .entry))) ⌝ }
 {
     let unit = fields::unit_in(text);
     let count = pricing::prices_counted(text);

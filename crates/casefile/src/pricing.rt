@@ -55,7 +55,9 @@ fn rows_kept(head: &[u8], rows: &[u8]) -> bool
 
 fn store_rows(head: &[u8], rows: &[u8], prices: &mut [i64])
     requires { ⌜ length (linesOf (now rows)) ≤ length (now prices) ⌝ }
-    ensures { λ _. ⌜ now (prices .exit) ≡ map (priceOf (now (head .entry))) (linesOf (now (rows .entry))) ++ drop (length (linesOf (now (rows .entry)))) (now (prices .entry)) ⌝ }
+    ensures { λ _. ⌜ now (prices .exit)
+        ≡ map (priceOf (now (head .entry))) (linesOf (now (rows .entry)))
+        ++ drop (length (linesOf (now (rows .entry)))) (now (prices .entry)) ⌝ }
 {
     let mut at = 0;
     let mut count = 0;

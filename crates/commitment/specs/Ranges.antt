@@ -15,7 +15,8 @@ use Rattle.commitment.specs.declared.Limits.{Limits}
 use Rattle.commitment.specs.declared.UnitRecord.{UnitRecord}
 use Rattle.commitment.specs.declared.Cause.the-variants.{Range, Shape, Horizon}
 use Rattle.commitment.specs.declared.Checked.{Checked}
-use Rattle.commitment.specs.Bounds.{mostMw, mostBlocks, mostTime, mostHeld, mostVec, mostMlc, mostSuc, mostStarts, mostHours, mostMwh, mostPrice, mostIntervals}
+use Rattle.commitment.specs.Bounds.{mostMw, mostBlocks, mostTime, mostHeld, mostVec, mostMlc}
+use Rattle.commitment.specs.Bounds.{mostSuc, mostStarts, mostHours, mostMwh, mostPrice, mostIntervals}
 use Rattle.commitment.specs.Causes.{Check, _else_, firstOf}
 use Rattle.commitment.specs.Limits.{limitKept}
 

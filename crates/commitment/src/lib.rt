@@ -9,7 +9,8 @@ ghost use Rattle.commitment.specs.Profit as profits;
 ghost use Rattle.commitment.specs.Causes.{numberOf};
 ghost use Rattle.commitment.specs.Limits.{limitKept, limitFor, withLimit, limited};
 ghost use Rattle.commitment.specs.Bounds.{mostMw, mostVec, mostMlc, mostPrice};
-ghost use Rattle.commitment.specs.Ranges.{caseChecked, generatorKept, openingKept, costsKept, limitsKept, rangesKept, shapeKept, priceKept, pricesKept, horizonKept};
+ghost use Rattle.commitment.specs.Ranges.{caseChecked, generatorKept, openingKept, costsKept, limitsKept};
+ghost use Rattle.commitment.specs.Ranges.{rangesKept, shapeKept, priceKept, pricesKept, horizonKept};
 
 // The ends of the ranges. specs/Bounds.antt has the same.
 const MOST_MW: u64 = 500;

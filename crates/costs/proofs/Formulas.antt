@@ -8,7 +8,8 @@ use lib.Dec.{lit<}
 use lib.ListN.{length}
 use Rattle.commitment.specs.declared.CostInputs.{CostInputs}
 use Rattle.commitment.specs.Fractions.{_over_, rounded}
-use Rattle.commitment.specs.Figures.{pminMw, fuelPrice, allowanceCost, allowanceAtMinimum, segmentCost, totalMw, weightedCost, vecFraction, sucFraction, mlcFraction, vecOf, sucOf, mlcOf}
+use Rattle.commitment.specs.Figures.{pminMw, fuelPrice, allowanceCost, allowanceAtMinimum, segmentCost, totalMw, weightedCost}
+use Rattle.commitment.specs.Figures.{vecFraction, sucFraction, mlcFraction, vecOf, sucOf, mlcOf}
 use Rattle.costs.specs.Numerators.{units, startUnits, heatPrice, segmentUnits, weightedUnits, sucUnits, allowanceUnits, mlcUnits}
 use Rattle.costs.proofs.Fractions.{Worth, worth-over, worth-whole, worth-plus, worth-times, worth-as, worth-scaled, rounded-same}
 

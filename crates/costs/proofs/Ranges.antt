@@ -18,7 +18,8 @@ use Rattle.commitment.specs.declared.Checked.the-variants.{Passed}
 use Rattle.commitment.specs.Causes.{unless}
 use Rattle.lists.specs.Every.{every}
 use Rattle.commitment.specs.Figures.{totalMw}
-use Rattle.costs.specs.Ranges.{oneTo, countKept, sizesKept, tariffsKept, ratesKept, startKept, inputsKept, segmentsKept, outputsKept, rangeMw, inputsChecked}
+use Rattle.costs.specs.Ranges.{oneTo, countKept, sizesKept, tariffsKept, ratesKept, startKept}
+use Rattle.costs.specs.Ranges.{inputsKept, segmentsKept, outputsKept, rangeMw, inputsChecked}
 use Rattle.costs.specs.Sizes.{HeatSizes, StartSizes, LoadSizes}
 use Rattle.lists.proofs.Conjunctions.{both}
 

@@ -1,4 +1,5 @@
--- The answers of the calls in numbers (specification 16): that of the cause, or 0, and the values; on a refusal every other number is 0, and limitations and outcomes are none.
+-- The answers of the calls in numbers (specification 16): that of the cause, or 0, and the values; on a refusal every other number is 0, and
+-- limitations and outcomes are none.
 use Prim.Native.Nat.{ℕ}
 use Rattle.assessment.specs.declared.Assessed.{Assessed}
 use Rattle.assessment.specs.Assessed.{assessedNumber, assessedProfit}

@@ -28,7 +28,8 @@ ghost use Rattle.planner.specs.Planning.{planned, scheduleLeft, scratchLeft};
 ghost use Rattle.planner.specs.Reporting.{reported};
 ghost use Rattle.planner.specs.Valuing.{valued, scratchValued};
 ghost use Rattle.exports.specs.Records.{recordOf, outcomesFrom};
-ghost use Rattle.exports.specs.Answers.{assessNumbers, caseNumbers, cellsNumbers, figuresNumbers, planNumbers, reportNumbers, valueNumbers, writtenNumbers};
+ghost use Rattle.exports.specs.Answers.{assessNumbers, caseNumbers, cellsNumbers, figuresNumbers};
+ghost use Rattle.exports.specs.Answers.{planNumbers, reportNumbers, valueNumbers, writtenNumbers};
 
 // The text of a case into its record, its prices into the front of the slice.
 #[no_mangle]
@@ -128,7 +129,8 @@ pub extern "C" fn ralwinga_listing(
     outcomes: OutcomesNumbers,
     out: &mut [u8],
 ) -> WrittenNumbers
-    ensures { λ r. ⌜ r ≡ writtenNumbers (writtenBy (fitted (length (listing (now (schedule .entry)) profit (outcomesFrom outcomes))) (length (now (out .entry))))) ⌝ }
+    ensures { λ r. ⌜ r
+        ≡ writtenNumbers (writtenBy (fitted (length (listing (now (schedule .entry)) profit (outcomesFrom outcomes))) (length (now (out .entry))))) ⌝ }
     ensures { λ _. ⌜ now (out .exit) ≡ bufferAfter (listing (now (schedule .entry)) profit (outcomesFrom outcomes)) (now (out .entry)) ⌝ }
 {
     numbers::of_written(listing::write_listing(

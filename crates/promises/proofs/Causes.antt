@@ -44,7 +44,8 @@ use Rattle.planner.specs.Valuing.{valueChecks, valueChecked, valuedBy, valued}
 use Rattle.answers.specs.declared.Lent.{Lent}
 use Rattle.answers.specs.Answering.{allFound, reportOn}
 use Rattle.answers.specs.Answering as answers
-use Rattle.promises.specs.Causes.{FirstOf, NoneOf, ReadCause, CostCause, HandCause, NoRival, PlanCause, ValueCause, AnswerCause, readingOrder, costOrder, handInOrder, planningOrder, valuingOrder, answeringOrder}
+use Rattle.promises.specs.Causes.{FirstOf, NoneOf, ReadCause, CostCause, HandCause, NoRival, PlanCause, ValueCause}
+use Rattle.promises.specs.Causes.{AnswerCause, readingOrder, costOrder, handInOrder, planningOrder, valuingOrder, answeringOrder}
 
 -- ---- along any list of checks: each fails exactly where its cause holds, where those before it are kept
 

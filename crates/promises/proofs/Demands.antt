@@ -53,7 +53,8 @@ use Rattle.planner.specs.Valuing.{valued, valuedNumber, valuedOutcomes}
 use Rattle.answers.specs.declared.Lent.{Lent}
 use Rattle.answers.specs.Answering.{lentFound, reportOn, answered, printed, pricesAfter, scheduleAnswered, scratchAnswered}
 use Rattle.answers.specs.Sizes.{outRoom, programLends}
-use Rattle.promises.specs.Causes.{FirstOf, NoneOf, ReadCause, CostCause, HandCause, PlanCause, ValueCause, AnswerCause, readingOrder, costOrder, handInOrder, planningOrder, valuingOrder, answeringOrder}
+use Rattle.promises.specs.Causes.{FirstOf, NoneOf, ReadCause, CostCause, HandCause, PlanCause, ValueCause}
+use Rattle.promises.specs.Causes.{AnswerCause, readingOrder, costOrder, handInOrder, planningOrder, valuingOrder, answeringOrder}
 use Rattle.promises.specs.Outcomes.{outcomeFor}
 use Rattle.promises.specs.Sequences.{InSomeSequence}
 use Rattle.promises.specs.Tables.{TwoTables}

@@ -111,7 +111,8 @@ closing-back (b ∷ c ∷ bs) e = by (isOf LineEnd b) refl (linesOf (c ∷ bs)) 
 
 -- ---- names and values have no mark of a table in them
 
-module _ (mark : Class) (no-letter : eqb 1 (rank mark) ≡ false) (no-digit : eqb 0 (rank mark) ≡ false) (no-minus : eqb 3 (rank mark) ≡ false) (none-free : free mark noneWord ≡ true) where
+module _ (mark : Class) (no-letter : eqb 1 (rank mark) ≡ false) (no-digit : eqb 0 (rank mark) ≡ false) (no-minus : eqb 3 (rank mark) ≡ false)
+    (none-free : free mark noneWord ≡ true) where
   other : (class : Class) (b : ℕ) → eqb (rank class) (rank mark) ≡ false → isOf class b ≡ true → not (isOf mark b) ≡ true
   unfolding isOf
   other class b apart e =
@@ -193,8 +194,11 @@ tables-of text e =
       is =
           sym (closing-back text (f .closed)) ∙ ap closing lines
           ∙ ap (λ (third : List ℕ). closing (unitHead text ∷ unitRow text ∷ third ∷ priceHead text ∷ priceRows text)) (f .third-empty)
-          ∙ sym (ap₂ (λ (a b : List ℕ). closing (a ∷ b ∷ [] ∷ joined (fieldsOf (priceHead text)) ∷ map joined (map fieldsOf (priceRows text)))) (joined-back (unitHead text)) (joined-back (unitRow text))
-          ∙ ap₂ (λ (a : List ℕ) (rest : List (List ℕ)). closing (unitHead text ∷ unitRow text ∷ [] ∷ a ∷ rest)) (joined-back (priceHead text)) (rows-back (priceRows text)));
+          ∙ sym
+          (ap₂ (λ (a b : List ℕ). closing (a ∷ b ∷ [] ∷ joined (fieldsOf (priceHead text)) ∷ map joined (map fieldsOf (priceRows text))))
+          (joined-back (unitHead text)) (joined-back (unitRow text))
+          ∙ ap₂ (λ (a : List ℕ) (rest : List (List ℕ)). closing (unitHead text ∷ unitRow text ∷ [] ∷ a ∷ rest))
+          (joined-back (priceHead text)) (rows-back (priceRows text)));
       short = omega (arith, f .short);
     }
 

@@ -88,8 +88,12 @@ module _ (names fields : List (List ℕ)) (distinct : Distinct names) where
       by true e q k =
           let some = leb-true 1 (occurs name names) e in
           let h = both (leb 1 (occurs name fields)) (leb (occurs name fields) 1) (of-table (standing 1 fields) names name q some) in
-          omega
-          (arith, leb-true 1 (occurs name fields) (h .0), leb-true (occurs name fields) 1 (h .1), eqb-true (occurs name names) 1 (of-table (λ x. eqb (occurs x names) 1) names name distinct some))
+          omega (
+            arith,
+            leb-true 1 (occurs name fields) (h .0),
+            leb-true (occurs name fields) 1 (h .1),
+            eqb-true (occurs name names) 1 (of-table (λ x. eqb (occurs x names) 1) names name distinct some),
+          )
       by false e q k = omega (arith, leb-false 1 (occurs name names) e, absent e k (leb 1 (occurs name fields)) refl)
 
   often-named : ((name : List ℕ) → occurs name fields ≡ occurs name names) → named names [] fields ≡ true

@@ -101,7 +101,8 @@ module _ (u : UnitRecord) (prices : List ℤ) (less : ℕ) where
       let hours = both (keepsStarts u s && keepsRuns u s && keepsSpells u s) (keepsHours u s) (mwh .0) in
       let runs = both (keepsStarts u s) (keepsRuns u s) (both (keepsStarts u s && keepsRuns u s) (keepsSpells u s) (hours .0) .0) in
       let starts : leb (startsIn on (front on s)) (1 * less) ≡ true = le-leb (startsIn on (front on s)) (1 * less) (omega (arith, no-start on s)) in
-      let times = ap₂ _&&_ (ap₂ _&&_ starts (front-runs (u .generator .mot) on (u .opening .held) s (runs .1))) (front-spells (u .generator .mdt) on (u .opening .held) s) in
+      let ends = front-runs (u .generator .mot) on (u .opening .held) s (runs .1) in
+      let times = ap₂ _&&_ (ap₂ _&&_ starts ends) (front-spells (u .generator .mdt) on (u .opening .held) s) in
       record {
         schedule =
             ap₂ _&&_ (eq-eqb (length (front on s)) (length prices) (front-length on s ∙ eqb-true (length s) (length prices) (sized .0)))

@@ -51,7 +51,8 @@ pub fn nothing() -> Tally
 }
 
 pub fn with_case(tally: Tally, case: Case) -> Tally
-    ensures { λ r. ⌜ (r .cases ≡ counting.counted (tally .cases) true) × (r .«was_on» ≡ counting.counted (tally .«was_on») (case .«was_on»)) × (r .differences ≡ tally .differences) ⌝ }
+    ensures { λ r. ⌜ (r .cases ≡ counting.counted (tally .cases) true)
+        × (r .«was_on» ≡ counting.counted (tally .«was_on») (case .«was_on»)) × (r .differences ≡ tally .differences) ⌝ }
 {
     let at = limits_in(case);
     let mut t = tally;
@@ -88,7 +89,8 @@ fn has_negative_price(case: Case) -> bool {
 }
 
 pub fn with_expected(tally: Tally, expected: Expected) -> Tally
-    ensures { λ r. ⌜ (r .planned ≡ counting.counted (tally .planned) (expected .planned)) × (r .refused ≡ counting.counted (tally .refused) (not (expected .planned))) × (r .differences ≡ tally .differences) ⌝ }
+    ensures { λ r. ⌜ (r .planned ≡ counting.counted (tally .planned) (expected .planned))
+        × (r .refused ≡ counting.counted (tally .refused) (not (expected .planned))) × (r .differences ≡ tally .differences) ⌝ }
 {
     let mut t = tally;
     t.planned = counted(t.planned, expected.planned);

@@ -46,7 +46,8 @@ returns c =
     let a = s .args in
     let text = a .text .now in
     let r = read s in
-    let prices = ap₂ take (k .prices-counted .ensures) (stored .store .ensures) ∙ take-append-seam (pricesIn text) (drop (length (pricesIn text)) (a .prices .now)) in
+    let front = take-append-seam (pricesIn text) (drop (length (pricesIn text)) (a .prices .now)) in
+    let prices = ap₂ take (k .prices-counted .ensures) (stored .store .ensures) ∙ front in
     let made = rw (prices, k .before .unit-in .ensures) at (w .report-case .ensures) in (
       made .0 ∙ ap (λ (found : Checked). answeredFor found (unitIn text) (pricesIn text) (length (a .out .now))) (r .plan-is),
       (

@@ -24,14 +24,17 @@ abbrev found : tie.Start → Checked
 found c = planChecked (c .args .unit) (c .args .prices .now) (length (c .args .scratch .now)) (length (c .args .schedule .now))
 
 -- a report counts entries that the schedule slice has
-fits : (c : tie.After-outcomes)
-    → c .before .before .before .report .given .0 .0 .count ≤ length (c .before .before .before .before .before .before .before .before .report-into .last .1 .1 .1 .0)
+fits : (c : tie.After-outcomes) →
+    let r = c .before .before .before .before .before .before .before .before in
+    c .before .before .before .report .given .0 .0 .count ≤ length (r .report-into .last .1 .1 .1 .0)
 fits c =
     let r = c .before .before .before .before .before .before .before .before in
     let s = r .before .before .before .before .before in
     let a = s .args in
     let told = c .before .before .before .report .given in
-    let counted = report-fits (found s) (best (a .unit) (a .prices .now)) (outcomesOf (a .unit) (a .prices .now)) (a .schedule .now) (told .0 .0) (sym (r .report-into .ensures .0) ∙ told .1) in
+    let b = best (a .unit) (a .prices .now) in
+    let given = sym (r .report-into .ensures .0) ∙ told .1 in
+    let counted = report-fits (found s) b (outcomesOf (a .unit) (a .prices .now)) (a .schedule .now) (told .0 .0) given in
     omega (arith, counted, ap length (r .report-into .ensures .1 .0))
 
 slice-reshare-prefix-write-listing : tie.Need-slice-reshare-prefix-write-listing

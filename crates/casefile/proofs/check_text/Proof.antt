@@ -23,7 +23,8 @@ returns-2 c =
     let n = c .before in
     let f = n .before .before in
     let a = f .before .before .args in
-    wrong-names (a .text .now) (a .room) (sym (f .form-kept .ensures) ∙ not-false _ (n .before .if1 .left)) (sym (n .names-kept .ensures) ∙ not-true _ (c .if2 .taken))
+    let form = sym (f .form-kept .ensures) ∙ not-false _ (n .before .if1 .left) in
+    wrong-names (a .text .now) (a .room) form (sym (n .names-kept .ensures) ∙ not-true _ (c .if2 .taken))
 
 check-values-requires : tie.Need-check-values-requires
 check-values-requires c κs = search needs
@@ -33,7 +34,9 @@ returns-3 c =
     let n = c .before .before in
     let f = n .before .before in
     let a = f .before .before .args in
-    c .check-values .ensures ∙ values-decide (a .text .now) (a .room) (sym (f .form-kept .ensures) ∙ not-false _ (n .before .if1 .left)) (sym (n .names-kept .ensures) ∙ not-false _ (c .before .if2 .left))
+    let form = sym (f .form-kept .ensures) ∙ not-false _ (n .before .if1 .left) in
+    let names = sym (n .names-kept .ensures) ∙ not-false _ (c .before .if2 .left) in
+    c .check-values .ensures ∙ values-decide (a .text .now) (a .room) form names
 
 pub check-text-spec : {M : Type 1} → statement M
 check-text-spec =

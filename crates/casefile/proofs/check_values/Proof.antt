@@ -28,8 +28,10 @@ case-is c =
     ∙ ap₂ (caseChecked (unitIn (priced .before .before .before .args .text .now))) (priced .prices-kept .ensures) (count .prices-counted .ensures)
 
 -- by what it comes to, the rest of the checks
-found : (c : tie.Start) {r k : Checked} → r ≡ caseChecked (unitIn (c .args .text .now)) (pricesKept (pricesIn (c .args .text .now))) (length (pricesIn (c .args .text .now))) → r ≡ k
-    → checkedThen k (firstOf ((leb (length (pricesIn (c .args .text .now))) (c .args .room) else Length) ∷ [])) ≡ valuesChecked (c .args .text .now) (c .args .room)
+found : (c : tie.Start) {r k : Checked} →
+    let text = c .args .text .now in
+    r ≡ caseChecked (unitIn text) (pricesKept (pricesIn text)) (length (pricesIn text)) → r ≡ k
+    → checkedThen k (firstOf ((leb (length (pricesIn text)) (c .args .room) else Length) ∷ [])) ≡ valuesChecked text (c .args .room)
 found c e i =
     ap (λ (k : Checked). checkedThen k (firstOf ((leb (length (pricesIn (c .args .text .now))) (c .args .room) else Length) ∷ []))) (sym i ∙ e)
     ∙ sym (values-turn (c .args .text .now) (c .args .room))
@@ -61,9 +63,10 @@ returns c = let case = c .before .before .before in found (case .before .before 
 returns-2 : tie.Need-returns-2
 returns-2 c =
     let case = c .before .before .before in
+    let s = case .before .before .before .before .before in
     c .check-room .ensures
-    ∙ ap (λ (count : ℕ). firstOf ((leb count (case .before .before .before .before .before .args .room) else Length) ∷ [])) (case .before .prices-counted .ensures)
-    ∙ found (case .before .before .before .before .before) (case-is case) (c .before .enum-told .given .1)
+    ∙ ap (λ (count : ℕ). firstOf ((leb count (s .args .room) else Length) ∷ [])) (case .before .prices-counted .ensures)
+    ∙ found s (case-is case) (c .before .enum-told .given .1)
 
 pub check-values-spec : {M : Type 1} → statement M
 check-values-spec =

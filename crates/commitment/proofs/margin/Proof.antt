@@ -52,47 +52,91 @@ fitting price output vec least mlc h =
 steps : (c : tie.Start) → Steps (c .args .price) (c .args .output) (c .args .vec) (c .args .least) (c .args .mlc)
 steps c = fitting (c .args .price) (c .args .output) (c .args .vec) (c .args .least) (c .args .mlc) (c .pre)
 
-signed-requires : tie.Need-signed-requires
-signed-requires c κs = search needs
-
-signed-requires-2 : tie.Need-signed-requires-2
-signed-requires-2 c κs = search needs
-
 sub-above : tie.Need-sub-above
-sub-above c = let s = steps (c .before .before) in simp (c .before .signed .ensures, c .signed2 .ensures, toZ-ofZ, s .output, s .least) (s .above)
-
-signed-requires-3 : tie.Need-signed-requires-3
-signed-requires-3 c κs = search needs
+sub-above c =
+    let s = steps (c .before .before) in
+    simp (c .before .signed .ensures, c .signed2 .ensures, toZ-ofZ, s .output, s .least) (s .above)
 
 mul-cost : tie.Need-mul-cost
-mul-cost c = let s = steps (c .before .before .before) in simp (c .before .before .signed .ensures, c .before .signed2 .ensures, c .signed3 .ensures, toZ-ofZ, s .output, s .least, s .vec, s .above) (s .cost)
+mul-cost c =
+    let second = c .before in
+    let first = second .before in
+    let s = steps (first .before) in
+    simp (first .signed .ensures, second .signed2 .ensures, c .signed3 .ensures, toZ-ofZ, s .output, s .least, s .vec, s .above) (s .cost)
 
 mul-result : tie.Need-mul-result
-mul-result c = let s = steps (c .before .before .before) in simp (c .before .before .signed .ensures, toZ-ofZ, s .output, s .price) (s .revenue)
+mul-result c =
+    let first = c .before .before in
+    let s = steps (first .before) in
+    simp (first .signed .ensures, toZ-ofZ, s .output, s .price) (s .revenue)
 
 sub-result : tie.Need-sub-result
-sub-result c = let s = steps (c .before .before .before) in simp (c .before .before .signed .ensures, c .before .signed2 .ensures, c .signed3 .ensures, toZ-ofZ, s .price, s .output, s .least, s .vec, s .above, s .cost, s .revenue) (s .net)
-
-signed-requires-4 : tie.Need-signed-requires-4
-signed-requires-4 c κs = search needs
+sub-result c =
+    let second = c .before in
+    let first = second .before in
+    let s = steps (first .before) in
+    simp
+    (first .signed .ensures, second .signed2 .ensures, c .signed3 .ensures, toZ-ofZ, s .price, s .output, s .least, s .vec, s .above, s .cost, s .revenue)
+    (s .net)
 
 sub-result-2 : tie.Need-sub-result-2
-sub-result-2 c = let s = steps (c .before .before .before .before) in simp (c .before .before .before .signed .ensures, c .before .before .signed2 .ensures, c .before .signed3 .ensures, c .signed4 .ensures, toZ-ofZ, s .price, s .output, s .least, s .vec, s .mlc, s .above, s .cost, s .revenue, s .net) (s .whole)
+sub-result-2 c =
+    let third = c .before in
+    let second = third .before in
+    let first = second .before in
+    let s = steps (first .before) in
+    simp (
+      first .signed .ensures,
+      second .signed2 .ensures,
+      third .signed3 .ensures,
+      c .signed4 .ensures,
+      toZ-ofZ,
+      s .price,
+      s .output,
+      s .least,
+      s .vec,
+      s .mlc,
+      s .above,
+      s .cost,
+      s .revenue,
+      s .net,
+    )
+    (s .whole)
 
 returns : tie.Need-returns
-returns c = let s = steps (c .before .before .before .before) in simp (c .before .before .before .signed .ensures, c .before .before .signed2 .ensures, c .before .signed3 .ensures, c .signed4 .ensures, toZ-ofZ, s .price, s .output, s .least, s .vec, s .mlc, s .above, s .cost, s .revenue, s .net, s .whole)
+returns c =
+    let third = c .before in
+    let second = third .before in
+    let first = second .before in
+    let s = steps (first .before) in
+    simp (
+      first .signed .ensures,
+      second .signed2 .ensures,
+      third .signed3 .ensures,
+      c .signed4 .ensures,
+      toZ-ofZ,
+      s .price,
+      s .output,
+      s .least,
+      s .vec,
+      s .mlc,
+      s .above,
+      s .cost,
+      s .revenue,
+      s .net,
+      s .whole,
+    )
 
 pub margin-spec : {M : Type 1} → statement M
 margin-spec =
     tie.close
     (tie.spec
-    signed-requires
-    signed-requires-2
+    (λ c κs. search needs) (λ c κs. search needs)
     sub-above
-    signed-requires-3
+    (λ c κs. search needs)
     mul-cost
     mul-result
     sub-result
-    signed-requires-4
+    (λ c κs. search needs)
     sub-result-2
     returns)

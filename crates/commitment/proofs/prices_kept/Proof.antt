@@ -40,7 +40,8 @@ returns c =
     let s = c .before .before .before .before .before .args .prices .now in
     let i = c .before .before .before .before .loop .i in
     let r : toZ w64 (ofZ w64 (getD s i (pos 0))) ≡ getD s i (pos 0) = plain-fits (record { sfits = c .before .before .price-kept-arg .given }) in
-    let t : priceKept (getD s i (pos 0)) ≡ false = ap priceKept (sym r) ∙ sym (c .before .price-kept .ensures) ∙ not-true (c .before .price-kept .result) (c .if1 .taken) in
+    let k = c .before .price-kept in
+    let t : priceKept (getD s i (pos 0)) ≡ false = ap priceKept (sym r) ∙ sym (k .ensures) ∙ not-true (k .result) (c .if1 .taken) in
     sym (every-fail priceKept (pos 0) s i (omega arith) t) ∙ c .before .before .before .before .loop .inv .1
 
 add-i : tie.Need-add-i Inv-loop μ-loop
@@ -54,7 +55,8 @@ loop-again c =
     let s = c .before .before .before .before .before .args .prices .now in
     let i = c .before .before .before .before .loop .i in
     let r : toZ w64 (ofZ w64 (getD s i (pos 0))) ≡ getD s i (pos 0) = plain-fits (record { sfits = c .before .before .price-kept-arg .given }) in
-    let t : priceKept (getD s i (pos 0)) ≡ true = ap priceKept (sym r) ∙ sym (c .before .price-kept .ensures) ∙ not-false (c .before .price-kept .result) (c .if1 .left) in
+    let k = c .before .price-kept in
+    let t : priceKept (getD s i (pos 0)) ≡ true = ap priceKept (sym r) ∙ sym (k .ensures) ∙ not-false (k .result) (c .if1 .left) in
     (omega arith, every-pass priceKept (pos 0) s i (omega arith) t ∙ c .before .before .before .before .loop .inv .1)
 
 returns-2 : tie.Need-returns-2 Inv-loop μ-loop

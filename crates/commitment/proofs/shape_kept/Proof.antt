@@ -7,7 +7,10 @@ use Rattle.commitment.proofs.shape_kept.Statement.{statement}
 use Rattle.commitment.proofs.shape_kept.Tie as tie
 
 mul-result : tie.Need-mul-result
-mul-result c = let h = in-range (c .before .before .before .args .unit) (c .before .before .before .pre) in omega (arith, mul-le-mul (h .generator .pmax-most) (h .generator .block-most))
+mul-result c =
+    let s = c .before .before .before in
+    let h = in-range (s .args .unit) (s .pre) in
+    omega (arith, mul-le-mul (h .generator .pmax-most) (h .generator .block-most))
 
 returns : tie.Need-returns
 returns c = search needs

@@ -36,10 +36,12 @@ shared-slice-read-sum c = omega arith
 
 next :
     (c : tie.In-loop Inv-loop μ-loop) →
-    Next (c .before .before .args .price) (c .before .before .args .om) (c .before .before .args .mws .now) (c .before .before .args .heats .now) (c .before .loop .i)
+    let a = c .before .before .args in
+    Next (a .price) (a .om) (a .mws .now) (a .heats .now) (c .before .loop .i)
 next c =
     let a = c .before .before .args in
-    weighted-next (a .price) (a .om) mostMw (a .mws .now) (a .heats .now) (c .before .loop .i) (c .before .before .pre .1 .0) (c .loop-test .taken) (omega arith)
+    weighted-next (a .price) (a .om) mostMw (a .mws .now) (a .heats .now) (c .before .loop .i)
+    (c .before .before .pre .1 .0) (c .loop-test .taken) (omega arith)
 
 mul-sum-2 : tie.Need-mul-sum-2 Inv-loop μ-loop
 mul-sum-2 c = omega (arith, next (c .before .before))

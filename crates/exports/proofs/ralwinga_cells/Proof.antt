@@ -12,7 +12,9 @@ use Rattle.exports.proofs.ralwinga_cells.Statement.{statement}
 use Rattle.exports.proofs.ralwinga_cells.Tie as tie
 
 -- the check, by the record that the numbers stand for, and the answer by what it comes to
-checked-is : (c : tie.After-check-case) → c .check-case .result ≡ caseChecked (recordOf (c .before .before .args .unit)) true (c .before .before .args .intervals)
+checked-is : (c : tie.After-check-case) →
+    let a = c .before .before .args in
+    c .check-case .result ≡ caseChecked (recordOf (a .unit)) true (a .intervals)
 checked-is c = rw (c .before .record-of .ensures) at (c .check-case .ensures)
 
 found : (c : tie.After-check-case) {k : Checked} → c .check-case .result ≡ k →

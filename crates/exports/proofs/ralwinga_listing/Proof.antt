@@ -9,7 +9,8 @@ use Rattle.exports.specs.Answers.{writtenNumbers}
 returns : tie.Need-returns
 returns c =
     let w = c .before .before .before in
-    let made = rw (w .before .before .outcomes-from .ensures, plain-fits (w .before .before .before .before .before .fits .profit)) at (w .write-listing .ensures) in
+    let o = w .before .before in
+    let made = rw (o .outcomes-from .ensures, plain-fits (o .before .before .before .fits .profit)) at (w .write-listing .ensures) in
     (c .of-written .ensures ∙ ap writtenNumbers (made .0), made .1)
 
 pub ralwinga-listing-spec : {M : Type 1} → statement M

@@ -19,7 +19,9 @@ unit-under-requires c κs = search needs
 
 returns : tie.Need-returns
 unfolding unitIn
-returns c = c .unit-under .ensures ∙ ap₂ (λ (names values : List ℕ). unitOf (fieldsOf names) (fieldsOf values)) (c .before .before .line .ensures) (c .before .line2 .ensures)
+returns c =
+    c .unit-under .ensures
+    ∙ ap₂ (λ (names values : List ℕ). unitOf (fieldsOf names) (fieldsOf values)) (c .before .before .line .ensures) (c .before .line2 .ensures)
 
 pub unit-in-spec : {M : Type 1} → statement M
 unit-in-spec = tie.close (tie.spec line-requires line-requires-2 unit-under-requires returns)

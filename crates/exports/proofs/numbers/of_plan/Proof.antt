@@ -16,7 +16,13 @@ planned-profit-requires c κs = search needs
 
 returns : tie.Need-returns
 returns c =
-    rw (plain-fits (record { sfits = c .planned-profit .ok }), c .before .before .planned-number .ensures, c .before .planned-count .ensures, c .planned-profit .ensures) refl
+    rw (
+      plain-fits (record { sfits = c .planned-profit .ok }),
+      c .before .before .planned-number .ensures,
+      c .before .planned-count .ensures,
+      c .planned-profit .ensures,
+    )
+    refl
 
 pub of-plan-spec : {M : Type 1} → statement M
 of-plan-spec =

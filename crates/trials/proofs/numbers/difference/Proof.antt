@@ -38,7 +38,8 @@ returns-2 c =
     let b = c .before .args .b in
     let small : b - a < 2 ^ 63 = omega arith in
     rw (toZ-pos w64 small, toZ-ofZ (within-fits (within-diff (within-at 0) (within-at (b - a))) (omega arith)))
-    (omega (zarith, zdiff (pos 0) (pos (b - a)), zdiff (pos a) (pos b), up-pos 0, dn-pos 0, up-pos a, dn-pos a, up-pos b, dn-pos b, up-pos (b - a), dn-pos (b - a)))
+    (omega
+    (zarith, zdiff (pos 0) (pos (b - a)), zdiff (pos a) (pos b), up-pos 0, dn-pos 0, up-pos a, dn-pos a, up-pos b, dn-pos b, up-pos (b - a), dn-pos (b - a)))
 
 pub difference-spec : {M : Type 1} → statement M
 difference-spec =
