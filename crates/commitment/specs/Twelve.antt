@@ -6,6 +6,7 @@ use Prim.Native.Nat.{ℕ, suc, _+_}
 use lib.IntN.{ℤ, pos}
 use lib.ListN.{length}
 use lib.Signed.{leZ}
+use Rattle.rounding.specs.Rounding.{rounded}
 use Rattle.commitment.specs.declared.Limit.{Limit}
 use Rattle.commitment.specs.declared.Limit.the-variants.{At}
 use Rattle.commitment.specs.declared.Limit.the-variants as limit
@@ -150,4 +151,5 @@ table =
 
 -- the definitions give what the specification says of all twelve
 pub twelve : map (λ (r : Row). r .computed) table ≡ map (λ (r : Row). r .given) table
+unfolding rounded
 twelve = refl
