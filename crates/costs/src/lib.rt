@@ -144,7 +144,8 @@ fn segments_kept(mws: &[u64], heats: &[u64]) -> bool
     every_one_to(MOST_MW, mws) & every_one_to(MOST_HEAT, heats)
 }
 
-fn every_one_to(most: u64, list: &[u64]) -> bool
+// Each entry is from 1 to the most.
+pub fn every_one_to(most: u64, list: &[u64]) -> bool
     ensures { λ r. ⌜ r ≡ every (oneTo most) (now (list .entry)) ⌝ }
 {
     let mut i = 0;
