@@ -24,11 +24,11 @@ const MOST_POINTS: usize = 11;
 
 const MOST_MW: u64 = 500;
 
-const MOST_RATE: u64 = 50000;
+const MOST_HEAT: u64 = 50000;
 
 const MOST_TARIFF: u64 = 10000;
 
-const MOST_ADDER: u64 = 1000000;
+const MOST_BID_ADDER: u64 = 1000000;
 
 // Cents per MMBtu for gas, per MWh for the others. Laid out as in C, so that a host hands it over as it is.
 #[repr(C)]
@@ -96,7 +96,7 @@ fn inputs_kept(inputs: CurveInputs) -> bool
     (inputs.gas <= MOST_TARIFF)
         & (inputs.om <= MOST_TARIFF)
         & (inputs.gmc <= MOST_TARIFF)
-        & (inputs.adder <= MOST_ADDER)
+        & (inputs.adder <= MOST_BID_ADDER)
 }
 
 // Lists that are too long are not walked.
@@ -106,7 +106,7 @@ fn points_kept(levels: &[u64], rates: &[u64]) -> bool
     if !(count_kept(levels.len()) & count_kept(rates.len())) {
         return false;
     }
-    costs::every_one_to(MOST_MW, levels) & costs::every_one_to(MOST_RATE, rates)
+    costs::every_one_to(MOST_MW, levels) & costs::every_one_to(MOST_HEAT, rates)
 }
 
 fn count_kept(n: usize) -> bool
