@@ -3,15 +3,16 @@ use mathlib.Core.Bool.{Bool, true, false}
 use mathlib.Core.List.{List, [], _∷_}
 use Prim.Native.Nat.{ℕ}
 use Rattle.commitment.specs.declared.Cause.{Cause}
-use Rattle.commitment.specs.declared.Cause.the-variants.{Form, Name, Range, Shape, Horizon, Segments, Length, Scratch, NoSchedule, NotKept}
+use Rattle.commitment.specs.declared.Cause.the-variants.{Form, Name, Range, Levels, Shape, Horizon, Segments, Length, Scratch, NoSchedule, NotKept}
 use Rattle.commitment.specs.declared.Checked.{Checked}
 use Rattle.commitment.specs.declared.Checked.the-variants.{Passed, Refused}
 
--- the number of each cause, by the specification's table
+-- the number of each cause, by the specification's table, in the order in which causes are given
 abbrev pub numberOf : Cause → ℕ
 numberOf Form = 1
 numberOf Name = 2
 numberOf Range = 3
+numberOf Levels = 11
 numberOf Shape = 4
 numberOf Horizon = 5
 numberOf Segments = 6
@@ -34,7 +35,7 @@ infix 5 _else_
 abbrev pub _else_ : Bool → Cause → Check
 kept else cause = record { kept = kept; cause = cause }
 
--- "Of several causes, the lowest number is given": a call's checks stand in the order of the specification, and the first that is not kept decides
+-- of several causes the first in their order is given, whatever its number: a call's checks stand in that order, and the first not kept decides
 abbrev pub unless : Bool → Cause → Checked → Checked
 unless true cause rest = rest
 unless false cause rest = Refused cause

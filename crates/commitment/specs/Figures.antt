@@ -2,7 +2,8 @@
 use mathlib.Core.List.{List, [], _∷_}
 use Prim.Native.Nat.{ℕ, _+_, _*_}
 use Rattle.commitment.specs.declared.CostInputs.{CostInputs}
-use Rattle.commitment.specs.Fractions.{Fraction, _over_, _plus_, _times_, whole, rounded}
+use Rattle.rounding.specs.Fractions.{Fraction, _over_, _plus_, _times_, whole}
+use Rattle.rounding.specs.Rounding.{rounded}
 
 -- the output at minimum load, in MW
 abbrev pub pminMw : CostInputs → ℕ

@@ -11,6 +11,5 @@ pub mod Best
 pub mod Rivals
 pub mod Valuing
 pub mod Cells
-pub mod Fractions
 pub mod Figures
 pub mod Twelve

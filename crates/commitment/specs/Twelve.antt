@@ -6,6 +6,7 @@ use Prim.Native.Nat.{ℕ, suc, _+_}
 use lib.IntN.{ℤ, pos}
 use lib.ListN.{length}
 use lib.Signed.{leZ}
+use Rattle.rounding.specs.Rounding.{rounded}
 use Rattle.commitment.specs.declared.Limit.{Limit}
 use Rattle.commitment.specs.declared.Limit.the-variants.{At}
 use Rattle.commitment.specs.declared.Limit.the-variants as limit
@@ -159,4 +160,5 @@ saidOfTwelve = map (λ (r : Row). r .given) table
 
 -- the definitions give it; that the calls answer it stands in `promises`
 pub twelve : map (λ (r : Row). r .computed) table ≡ saidOfTwelve
+unfolding rounded
 twelve = refl

@@ -87,11 +87,12 @@ pub enum Limitation {
     Mwh,
 }
 
-// Why a call refuses. specs/Causes.antt gives each its number.
+// Why a call refuses, in the order in which causes are given. specs/Causes.antt gives each its number.
 pub enum Cause {
     Form,
     Name,
     Range,
+    Levels,
     Shape,
     Horizon,
     Segments,
@@ -328,6 +329,7 @@ pub fn number_of(cause: Cause) -> u64
         Cause::Form => 1,
         Cause::Name => 2,
         Cause::Range => 3,
+        Cause::Levels => 11,
         Cause::Shape => 4,
         Cause::Horizon => 5,
         Cause::Segments => 6,

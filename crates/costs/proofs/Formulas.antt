@@ -7,11 +7,13 @@ use native.Mathlib.Omega.{arith}
 use lib.Dec.{lit<}
 use lib.ListN.{length}
 use Rattle.commitment.specs.declared.CostInputs.{CostInputs}
-use Rattle.commitment.specs.Fractions.{_over_, rounded}
+use Rattle.rounding.specs.Fractions.{_over_}
+use Rattle.rounding.specs.Rounding.{rounded}
 use Rattle.commitment.specs.Figures.{pminMw, fuelPrice, allowanceCost, allowanceAtMinimum, segmentCost, totalMw, weightedCost}
 use Rattle.commitment.specs.Figures.{vecFraction, sucFraction, mlcFraction, vecOf, sucOf, mlcOf}
 use Rattle.costs.specs.Numerators.{units, startUnits, heatPrice, segmentUnits, weightedUnits, sucUnits, allowanceUnits, mlcUnits}
-use Rattle.costs.proofs.Fractions.{Worth, worth-over, worth-whole, worth-plus, worth-times, worth-as, worth-scaled, rounded-same}
+use Rattle.rounding.proofs.Fractions.{Worth, worth-over, worth-whole, worth-plus, worth-times, worth-as, worth-scaled}
+use Rattle.rounding.proofs.Rounding.{rounded-same}
 
 module _ (k : CostInputs) where
   allowance-worth : Worth 10000000 (k .allowance * k .rate) (allowanceCost k)
@@ -33,6 +35,7 @@ module _ (k : CostInputs) where
 
   -- with no segment vec is 0
   pub vec-none : (mws heats : List ℕ) → length mws ≡ 0 → 0 ≡ vecOf k mws heats
+  unfolding rounded
   vec-none [] heats h = refl
   vec-none (mw ∷ mws) heats h = absurd (omega arith)
 

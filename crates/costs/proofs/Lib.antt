@@ -1,5 +1,4 @@
--- Fractions: by their worth. Ranges: what the checks say. Segments and Formulas: the three numerators. Rounding: a half goes up. Cases: C10 to C12.
-pub mod Fractions
+-- Ranges: what the checks say. Segments and Formulas: the three numerators. Rounding: each figure once. Cases: C10 to C12.
 pub mod Ranges
 pub mod Segments
 pub mod Formulas

@@ -5,6 +5,7 @@ use mathlib.Core.List.{List, [], _∷_}
 use Prim.Native.Nat.{ℕ, _<_}
 use native.Mathlib.Omega.{arith}
 use lib.Dec.{lit<}
+use Rattle.rounding.proofs.Rounding.{rounded-half-up}
 use Rattle.commitment.specs.Bounds.{mostMw}
 use Rattle.commitment.specs.declared.CostInputs.{CostInputs}
 use Rattle.commitment.specs.declared.Checked.{Checked}
@@ -16,7 +17,6 @@ use Rattle.costs.specs.declared.Costed.the-variants.{Figures}
 use Rattle.costs.specs.Ranges.{oneTo, inputsChecked}
 use Rattle.costs.specs.Rounding.{RoundedOnce}
 use Rattle.costs.specs.Answers.{costedBy, threeFigures, costed}
-use Rattle.costs.proofs.Fractions.{rounded-half-up}
 use Rattle.costs.proofs.Ranges.{accepted}
 use Rattle.costs.proofs.Segments.{total-some}
 use Rattle.costs.proofs.Formulas.{vec-worth, suc-worth, mlc-worth}

@@ -1,5 +1,5 @@
 // The cost figures of a gas-fired unit: vec, suc and mlc by formulas (1), (2) and (3), in integers. Each figure is worked out over one
-// common denominator and rounded once, by `round_half_up`.
+// common denominator and rounded once, by `rounding::rounded`.
 
 use commitment::Cause;
 use commitment::Checked;
@@ -11,7 +11,6 @@ ghost use lib.ListN.{length};
 ghost use Rattle.commitment.specs.declared.Checked.the-variants.{Passed};
 ghost use Rattle.lists.specs.Every.{every};
 ghost use Rattle.commitment.specs.Bounds.{mostMw};
-ghost use Rattle.commitment.specs.Fractions.{_over_, rounded};
 ghost use Rattle.commitment.specs.Figures.{vecOf, sucOf, mlcOf, totalMw};
 ghost use Rattle.costs.specs.Ranges.{oneTo, sizesKept, tariffsKept, ratesKept, startKept, inputsKept, segmentsKept, outputsKept, inputsChecked};
 ghost use Rattle.costs.specs.Answers.{costed, threeFigures};
@@ -145,7 +144,8 @@ fn segments_kept(mws: &[u64], heats: &[u64]) -> bool
     every_one_to(MOST_MW, mws) & every_one_to(MOST_HEAT, heats)
 }
 
-fn every_one_to(most: u64, list: &[u64]) -> bool
+// Each entry is from 1 to the most.
+pub fn every_one_to(most: u64, list: &[u64]) -> bool
     ensures { λ r. ⌜ r ≡ every (oneTo most) (now (list .entry)) ⌝ }
 {
     let mut i = 0;
@@ -204,7 +204,7 @@ fn vec_of(inputs: CostInputs, mws: &[u64], heats: &[u64]) -> u64
     let price = heat_price(inputs);
     let sum = weighted_units(price, inputs.om, mws, heats);
     let total = total_mw(mws);
-    round_half_up(sum, UNITS * total)
+    rounding::rounded(sum, UNITS * total)
 }
 
 fn heat_price(inputs: CostInputs) -> u64
@@ -236,7 +236,7 @@ fn suc_of(inputs: CostInputs) -> u64
     ensures { λ r. ⌜ r ≡ sucOf inputs ⌝ }
 {
     let sum = suc_units(inputs);
-    round_half_up(sum, START_UNITS)
+    rounding::rounded(sum, START_UNITS)
 }
 
 fn suc_units(inputs: CostInputs) -> u64
@@ -257,7 +257,7 @@ fn mlc_of(inputs: CostInputs) -> u64
     ensures { λ r. ⌜ r ≡ mlcOf inputs ⌝ }
 {
     let sum = mlc_units(inputs);
-    round_half_up(sum, UNITS)
+    rounding::rounded(sum, UNITS)
 }
 
 fn mlc_units(inputs: CostInputs) -> u64
@@ -276,17 +276,4 @@ fn allowance_at_minimum(inputs: CostInputs) -> u64
     ensures { λ r. ⌜ r ≡ allowanceUnits inputs ⌝ }
 {
     inputs.allowance * inputs.rate * inputs.min_heat
-}
-
-// The nearest whole number, a half going up. No number is doubled, so any numerator will do.
-fn round_half_up(num: u64, den: u64) -> u64
-    requires { ⌜ 0 < den ⌝ }
-    ensures { λ r. ⌜ r ≡ rounded (num over den) ⌝ }
-{
-    let quotient = num / den;
-    let rest = num % den;
-    if den - rest <= rest {
-        return quotient + 1;
-    }
-    quotient
 }

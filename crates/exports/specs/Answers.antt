@@ -10,6 +10,8 @@ use Rattle.commitment.specs.declared.Checked.the-variants.{Passed, Refused}
 use Rattle.commitment.specs.Causes.{numberOf}
 use Rattle.costs.specs.declared.Costed.{Costed}
 use Rattle.costs.specs.Answers.{costedNumber, costedVec, costedSuc, costedMlc}
+use Rattle.curves.specs.declared.Curved.{Curved}
+use Rattle.curves.specs.Answers.{curvedNumber, curvedCount}
 use Rattle.listing.specs.declared.Written.{Written}
 use Rattle.listing.specs.declared.Written.the-variants as written
 use Rattle.listing.specs.Listing.{bytesIn}
@@ -22,6 +24,7 @@ use Rattle.planner.specs.Valuing.{valuedNumber, valuedOutcomes}
 use Rattle.exports.specs.declared.numbers.AssessNumbers.{AssessNumbers}
 use Rattle.exports.specs.declared.numbers.CaseNumbers.{CaseNumbers}
 use Rattle.exports.specs.declared.numbers.CellsNumbers.{CellsNumbers}
+use Rattle.exports.specs.declared.numbers.CurveNumbers.{CurveNumbers}
 use Rattle.exports.specs.declared.numbers.FiguresNumbers.{FiguresNumbers}
 use Rattle.exports.specs.declared.numbers.PlanNumbers.{PlanNumbers}
 use Rattle.exports.specs.declared.numbers.ReportNumbers.{ReportNumbers}
@@ -35,6 +38,9 @@ caseNumbers answer = record { number = readNumber answer; count = readCount answ
 abbrev pub figuresNumbers : Costed → FiguresNumbers
 figuresNumbers answer =
     record { number = costedNumber answer; vec = costedVec answer; suc = costedSuc answer; mlc = costedMlc answer }
+
+abbrev pub curveNumbers : Curved → CurveNumbers
+curveNumbers answer = record { number = curvedNumber answer; count = curvedCount answer }
 
 abbrev pub assessNumbers : Assessed → AssessNumbers
 assessNumbers answer = record { number = assessedNumber answer; profit = assessedProfit answer }

@@ -5,9 +5,11 @@ mod numbers;
 
 use commitment::Checked;
 use commitment::CostInputs;
+use curves::CurveInputs;
 use numbers::AssessNumbers;
 use numbers::CaseNumbers;
 use numbers::CellsNumbers;
+use numbers::CurveNumbers;
 use numbers::FiguresNumbers;
 use numbers::OutcomesNumbers;
 use numbers::PlanNumbers;
@@ -23,12 +25,13 @@ ghost use Rattle.commitment.specs.Ranges.{caseChecked};
 ghost use Rattle.assessment.specs.Assessed.{assessed};
 ghost use Rattle.casefile.specs.Answers.{readCase, readPrices};
 ghost use Rattle.costs.specs.Answers.{costed};
+ghost use Rattle.curves.specs.Answers.{room, curved, fromsLeft, tosLeft, pricesLeft};
 ghost use Rattle.listing.specs.Listing.{listing, refusal, fitted, writtenBy, bufferAfter};
 ghost use Rattle.planner.specs.Planning.{planned, scheduleLeft, scratchLeft};
 ghost use Rattle.planner.specs.Reporting.{reported};
 ghost use Rattle.planner.specs.Valuing.{valued, scratchValued};
 ghost use Rattle.exports.specs.Records.{recordOf, outcomesFrom};
-ghost use Rattle.exports.specs.Answers.{assessNumbers, caseNumbers, cellsNumbers, figuresNumbers};
+ghost use Rattle.exports.specs.Answers.{assessNumbers, caseNumbers, cellsNumbers, curveNumbers, figuresNumbers};
 ghost use Rattle.exports.specs.Answers.{planNumbers, reportNumbers, valueNumbers, writtenNumbers};
 
 // The text of a case into its record, its prices into the front of the slice.
@@ -46,6 +49,24 @@ pub extern "C" fn ralwinga_figures(inputs: CostInputs, mws: &[u64], heats: &[u64
     ensures { λ r. ⌜ r ≡ figuresNumbers (costed inputs (now (mws .entry)) (now (heats .entry))) ⌝ }
 {
     numbers::of_figures(costs::figures(inputs, mws, heats))
+}
+
+// The bid curve into the front of three lists, a segment in the same place of each.
+#[no_mangle]
+pub extern "C" fn ralwinga_curve(
+    inputs: CurveInputs,
+    levels: &[u64],
+    rates: &[u64],
+    froms: &mut [u64],
+    tos: &mut [u64],
+    prices: &mut [i64],
+) -> CurveNumbers
+    ensures { λ r. ⌜ r ≡ curveNumbers (curved inputs (now (levels .entry)) (now (rates .entry)) (room (now (froms .entry)) (now (tos .entry)) (now (prices .entry)))) ⌝ }
+    ensures { λ _. ⌜ now (froms .exit) ≡ fromsLeft inputs (now (levels .entry)) (now (rates .entry)) (now (froms .entry)) (now (tos .entry)) (now (prices .entry)) ⌝ }
+    ensures { λ _. ⌜ now (tos .exit) ≡ tosLeft inputs (now (levels .entry)) (now (rates .entry)) (now (froms .entry)) (now (tos .entry)) (now (prices .entry)) ⌝ }
+    ensures { λ _. ⌜ now (prices .exit) ≡ pricesLeft inputs (now (levels .entry)) (now (rates .entry)) (now (froms .entry)) (now (tos .entry)) (now (prices .entry)) ⌝ }
+{
+    numbers::of_curve(curves::curve_into(inputs, levels, rates, froms, tos, prices))
 }
 
 // The profit of a schedule handed in.

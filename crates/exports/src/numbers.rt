@@ -11,6 +11,7 @@ use commitment::Outcome;
 use commitment::Outcomes;
 use commitment::UnitRecord;
 use costs::Costed;
+use curves::Curved;
 use listing::Written;
 use planner::Planned;
 use planner::Reported;
@@ -68,6 +69,12 @@ pub struct FiguresNumbers {
     pub vec: u64,
     pub suc: u64,
     pub mlc: u64,
+}
+
+#[repr(C)]
+pub struct CurveNumbers {
+    pub number: u64,
+    pub count: usize,
 }
 
 #[repr(C)]
@@ -262,6 +269,18 @@ pub fn of_figures(answer: Costed) -> FiguresNumbers
             vec: 0,
             suc: 0,
             mlc: 0,
+        },
+    }
+}
+
+pub fn of_curve(answer: Curved) -> CurveNumbers
+    ensures { λ r. ⌜ r ≡ answers.curveNumbers answer ⌝ }
+{
+    match answer {
+        Curved::Segments(count) => CurveNumbers { number: 0, count },
+        Curved::Refused(cause) => CurveNumbers {
+            number: commitment::number_of(cause),
+            count: 0,
         },
     }
 }

@@ -47,3 +47,17 @@ pub ≤ℤ-total : (x y : ℤ) → (x ≤ℤ y) ⊎ (y ≤ℤ x)
 
 pub leZ-true : (x y : ℤ) → leZ x y ≡ true → x ≤ℤ y
 leZ-true x y e = leZ-yes (subst T (sym e) tt)
+
+pub le-leZ : (x y : ℤ) → x ≤ℤ y → leZ x y ≡ true
+le-leZ x y h = is-true (leZ x y) (h .le)
+  where
+    is-true : (t : Bool) → T t → t ≡ true
+    is-true true e = refl
+    is-true false e = absurd e
+
+pub lt-leZ : (x y : ℤ) → y <ℤ x → leZ x y ≡ false
+lt-leZ x y h = go (leZ x y) refl
+  where
+    go : (t : Bool) → leZ x y ≡ t → leZ x y ≡ false
+    go true e = clashℤ h (leZ-true x y e)
+    go false e = e

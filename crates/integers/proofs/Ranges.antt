@@ -55,7 +55,7 @@ within-sum {a} {b} {x} {y} h k = omega (arith, zsum x y)
 pub within-diff : {a b : ℕ} {x y : ℤ} → Within a x → Within b y → Within (a + b) (x -ℤ y)
 within-diff {a} {b} {x} {y} h k = omega (arith, zdiff x y)
 
-abs-neg : (n : ℕ) → natAbs (negℤ (pos n)) ≡ n
+pub abs-neg : (n : ℕ) → natAbs (negℤ (pos n)) ≡ n
 abs-neg zero = refl
 abs-neg (suc n) = refl
 

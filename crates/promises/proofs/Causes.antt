@@ -50,11 +50,11 @@ use Rattle.promises.specs.Causes.{AnswerCause, readingOrder, costOrder, 
 -- ---- along any list of checks: each fails exactly where its cause holds, where those before it are kept
 
 module _ (Holds : Cause → Type 0) where
-  abbrev Judged : List Check → Type 0
+  abbrev pub Judged : List Check → Type 0
   Judged [] = Unit {0}
   Judged (check ∷ checks) = ((check .kept ≡ false) ↔ Holds (check .cause)) × (check .kept ≡ true → Judged checks)
 
-  abbrev order : List Check → List Cause
+  abbrev pub order : List Check → List Cause
   order checks = map (λ (check : Check). check .cause) checks
 
   -- a check that is kept has no cause that holds
@@ -80,21 +80,21 @@ module _ (Holds : Cause → Type 0) where
     passed-step false judged next =
         (λ e. let z : _≡_ {A = ℕ} 0 1 = cc in absurd (omega arith), λ none. absurd (none .0 (judged .0 refl)))
 
-  refused-first : (checks : List Check) {cause : Cause} → Judged checks → (firstOf checks ≡ Refused cause) ↔ FirstOf Holds (order checks) cause
+  pub refused-first : (checks : List Check) {cause : Cause} → Judged checks → (firstOf checks ≡ Refused cause) ↔ FirstOf Holds (order checks) cause
   refused-first [] judged = (λ e. let z : _≡_ {A = ℕ} 0 1 = cc in absurd (omega arith), λ none. absurd none)
   refused-first (check ∷ checks) judged =
       refused-step (check .cause) (firstOf checks) (order checks) (check .kept) (judged .0) (λ i. refused-first checks (judged .1 i))
 
-  passed-none : (checks : List Check) → Judged checks → (firstOf checks ≡ Passed) ↔ NoneOf Holds (order checks)
+  pub passed-none : (checks : List Check) → Judged checks → (firstOf checks ≡ Passed) ↔ NoneOf Holds (order checks)
   passed-none [] judged = (λ e. tt, λ none. refl)
   passed-none (check ∷ checks) judged =
       passed-step (check .cause) (firstOf checks) (order checks) (check .kept) (judged .0) (λ i. passed-none checks (judged .1 i))
 
 -- the checks of the specification: a sum of ranges, at most, as many
-at-most : (a b : ℕ) → (leb a b ≡ false) ↔ (b < a)
+pub at-most : (a b : ℕ) → (leb a b ≡ false) ↔ (b < a)
 at-most a b = (leb-false a b, lt-leb a b)
 
-as-many : (a b : ℕ) → (eqb a b ≡ false) ↔ (a ≡ b → ⊥)
+pub as-many : (a b : ℕ) → (eqb a b ≡ false) ↔ (a ≡ b → ⊥)
 as-many a b = (eqb-false a b, ne-eqb a b)
 
 -- ---- reading

@@ -1,5 +1,5 @@
--- Demands: the three demands, clause by clause. The proofs that it cites: Causes, Forms, Names, Untouched, NoStart (a schedule without a start), Planning,
--- Printed. Worked: a case computed whole.
+-- Demands: the three demands, clause by clause. The proofs that it cites: Causes, Forms, Names, Untouched, NoStart (a schedule without a
+-- start), Planning, Printed. Worked: a case computed whole. Curves: the bid curve, clause by clause; it cites CurveCauses.
 pub mod Causes
 mod Forms
 mod Names
@@ -9,3 +9,5 @@ pub mod Planning
 pub mod Printed
 pub mod Worked
 pub mod Demands
+mod CurveCauses
+pub mod Curves

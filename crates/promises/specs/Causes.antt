@@ -1,4 +1,4 @@
--- When each cause holds of a call's inputs, and the order of each call. "Of several causes, the lowest number is given": the first that holds.
+-- When each cause holds of a call's inputs, and the order of each call: of several causes that hold the first in it is given, whatever its number.
 use mathlib.Core.Path.{_≡_}
 use mathlib.Core.Bool.{false, _&&_}
 use mathlib.Core.List.{List, [], _∷_}
@@ -7,7 +7,7 @@ use Prim.Native.Nat.{ℕ, _<_}
 use lib.IntN.{ℤ}
 use lib.ListN.{length}
 use Rattle.commitment.specs.declared.Cause.{Cause}
-use Rattle.commitment.specs.declared.Cause.the-variants.{Form, Name, Range, Shape, Horizon, Segments, Length, Scratch, NoSchedule, NotKept}
+use Rattle.commitment.specs.declared.Cause.the-variants.{Form, Name, Range, Levels, Shape, Horizon, Segments, Length, Scratch, NoSchedule, NotKept}
 use Rattle.commitment.specs.declared.CostInputs.{CostInputs}
 use Rattle.commitment.specs.declared.UnitRecord.{UnitRecord}
 use Rattle.commitment.specs.Cells.{cellsNeeded}
@@ -40,6 +40,7 @@ CaseCause u prices Shape = shapeKept (u .generator) ≡ false
 CaseCause u prices Horizon = horizonKept (length prices) ≡ false
 CaseCause u prices Form = ⊥
 CaseCause u prices Name = ⊥
+CaseCause u prices Levels = ⊥
 CaseCause u prices Segments = ⊥
 CaseCause u prices Length = ⊥
 CaseCause u prices Scratch = ⊥
@@ -55,6 +56,7 @@ ReadCause text room Length = room < length (pricesIn text)
 ReadCause text room Range = CaseCause (unitIn text) (pricesIn text) Range
 ReadCause text room Shape = CaseCause (unitIn text) (pricesIn text) Shape
 ReadCause text room Horizon = CaseCause (unitIn text) (pricesIn text) Horizon
+ReadCause text room Levels = ⊥
 ReadCause text room Segments = ⊥
 ReadCause text room Scratch = ⊥
 ReadCause text room NoSchedule = ⊥
@@ -72,6 +74,7 @@ CostCause k mws heats Segments = totalMw mws ≡ rangeMw k → ⊥
 CostCause k mws heats Length = length mws ≡ length heats → ⊥
 CostCause k mws heats Form = ⊥
 CostCause k mws heats Name = ⊥
+CostCause k mws heats Levels = ⊥
 CostCause k mws heats Horizon = ⊥
 CostCause k mws heats Scratch = ⊥
 CostCause k mws heats NoSchedule = ⊥
@@ -90,6 +93,7 @@ HandCause u prices s Shape = CaseCause u prices Shape
 HandCause u prices s Horizon = CaseCause u prices Horizon
 HandCause u prices s Form = ⊥
 HandCause u prices s Name = ⊥
+HandCause u prices s Levels = ⊥
 HandCause u prices s Segments = ⊥
 HandCause u prices s Scratch = ⊥
 HandCause u prices s NoSchedule = ⊥
@@ -111,6 +115,7 @@ PlanCause u prices cells entries Shape = CaseCause u prices Shape
 PlanCause u prices cells entries Horizon = CaseCause u prices Horizon
 PlanCause u prices cells entries Form = ⊥
 PlanCause u prices cells entries Name = ⊥
+PlanCause u prices cells entries Levels = ⊥
 PlanCause u prices cells entries Segments = ⊥
 PlanCause u prices cells entries NotKept = ⊥
 
@@ -134,6 +139,7 @@ AnswerCause text lent Horizon = CaseCause (unitIn text) (pricesIn text) Horizon
 AnswerCause text lent Length = longEnough (length (pricesIn text)) lent ≡ false
 AnswerCause text lent Scratch = lent .cells < cellsNeeded (unitIn text) (length (pricesIn text))
 AnswerCause text lent NoSchedule = NoRival (unitIn text) (pricesIn text)
+AnswerCause text lent Levels = ⊥
 AnswerCause text lent Segments = ⊥
 AnswerCause text lent NotKept = ⊥
 

@@ -8,11 +8,11 @@ use Rattle.costs.proofs.mlc_of.Tie as tie
 mlc-units-requires : tie.Need-mlc-units-requires
 mlc-units-requires c κs = search needs
 
-round-half-up-requires : tie.Need-round-half-up-requires
-round-half-up-requires c κs = search needs
+rounded-requires : tie.Need-rounded-requires
+rounded-requires c κs = search needs
 
 returns : tie.Need-returns
-returns c = rw (c .round-half-up .ensures, c .before .mlc-units .ensures) (sym (mlc-rounds (c .before .before .args .inputs)))
+returns c = rw (c .rounded .ensures, c .before .mlc-units .ensures) (sym (mlc-rounds (c .before .before .args .inputs)))
 
 pub mlc-of-spec : {M : Type 1} → statement M
-mlc-of-spec = tie.close (tie.spec mlc-units-requires round-half-up-requires returns)
+mlc-of-spec = tie.close (tie.spec mlc-units-requires rounded-requires returns)

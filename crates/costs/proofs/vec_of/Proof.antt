@@ -46,17 +46,17 @@ mw c =
 total-mw-requires : tie.Need-total-mw-requires
 total-mw-requires c κs = omega (arith, mw (c .before .before))
 
-mul-round-half-up : tie.Need-mul-round-half-up
-mul-round-half-up c = omega (arith, mw (c .before .before .before))
+mul-rounded : tie.Need-mul-rounded
+mul-rounded c = omega (arith, mw (c .before .before .before))
 
-round-half-up-requires : tie.Need-round-half-up-requires
-round-half-up-requires c κs = omega (arith, mw (c .before .before .before))
+rounded-requires : tie.Need-rounded-requires
+rounded-requires c κs = omega (arith, mw (c .before .before .before))
 
 returns-2 : tie.Need-returns-2
 returns-2 c =
     let e = c .before .before .before .before in
     let a = e .before .before .before .args in
-    rw (c .round-half-up .ensures, c .before .before .weighted-units .ensures, c .before .before .before .heat-price .ensures, c .before .total-mw .ensures)
+    rw (c .rounded .ensures, c .before .before .weighted-units .ensures, c .before .before .before .heat-price .ensures, c .before .total-mw .ensures)
     (sym (vec-rounds (a .inputs) (a .mws .now) (a .heats .now) (mw e .some) (mw e .positive)))
 
 pub vec-of-spec : {M : Type 1} → statement M
@@ -67,6 +67,6 @@ vec-of-spec =
     heat-price-requires
     weighted-units-requires
     total-mw-requires
-    mul-round-half-up
-    round-half-up-requires
+    mul-rounded
+    rounded-requires
     returns-2)

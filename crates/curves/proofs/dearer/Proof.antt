@@ -1,0 +1,10 @@
+-- The test of the two prices as they are read back.
+use borrow.Author.Needs.{needs}
+use Rattle.curves.proofs.dearer.Statement.{statement}
+use Rattle.curves.proofs.dearer.Tie as tie
+
+returns : tie.Need-returns
+returns c = search needs
+
+pub dearer-spec : {M : Type 1} → statement M
+dearer-spec = tie.close (tie.spec returns)

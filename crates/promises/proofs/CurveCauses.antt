@@ -1,0 +1,70 @@
+-- Of a bid curve: a number exactly where its cause is the first of the order that holds, segments exactly where none holds, and on a refusal the
+-- lists as they were.
+use mathlib.Core.Path.{_≡_, refl, ap}
+use mathlib.Core.Bool.{Bool, true, false, _&&_}
+use mathlib.Core.List.{List}
+use mathlib.Core.Logic.{_↔_, _⊎_, inl, inr, ⊎-elim, Iff·rfl, Iff·trans}
+use Prim.Native.Nat.{ℕ, _-_}
+use native.Mathlib.Omega.{arith}
+use lib.Dec.{leb, eqb}
+use lib.ListN.{length}
+use Rattle.commitment.specs.declared.Cause.{Cause}
+use Rattle.commitment.specs.declared.Checked.{Checked}
+use Rattle.commitment.specs.declared.Checked.the-variants.{Passed, Refused}
+use Rattle.curves.specs.declared.CurveInputs.{CurveInputs}
+use Rattle.curves.specs.declared.Segment.{Segment}
+use Rattle.curves.specs.declared.Curved.the-variants as curve
+use Rattle.curves.specs.Ranges.{curveChecks, curveChecked}
+use Rattle.curves.specs.Curve.{finalCurve}
+use Rattle.curves.specs.Answers.{curvedBy, curved, leftBy, curveLeft}
+use Rattle.promises.specs.Causes.{FirstOf, NoneOf}
+use Rattle.promises.specs.Curves.{CurveCause, curveOrder}
+use Rattle.promises.proofs.Causes.{Judged, refused-first, passed-none, at-most, as-many}
+
+-- one of two checks fails
+either : {A B : Type 0} (a b : Bool) → (a ≡ false) ↔ A → (b ≡ false) ↔ B → (a && b ≡ false) ↔ (A ⊎ B)
+either true b f g = (λ e. inr (g .0 e), ⊎-elim (λ x. let no : true ≡ false = f .1 x in let z : _≡_ {A = ℕ} 0 1 = cc in absurd (omega arith)) (g .1))
+either false b f g = (λ e. inl (f .0 refl), λ w. refl)
+
+module _ (k : CurveInputs) (levels rates : List ℕ) (room : ℕ) where
+  judged : Judged (CurveCause k levels rates room) (curveChecks k levels rates room)
+  judged = (
+    Iff·rfl,
+    λ _. (
+      Iff·rfl,
+      λ _. (
+        either (eqb (length levels) (length rates)) (leb (length levels - 1) room) (as-many (length levels) (length rates))
+            (at-most (length levels - 1) room),
+        λ _. tt,
+      ),
+    ),
+  )
+
+  pub curve-refused : {cause : Cause} → (curved k levels rates room ≡ curve.Refused cause) ↔ FirstOf (CurveCause k levels rates room) curveOrder cause
+  unfolding curved curveChecked
+  curve-refused {cause} =
+      Iff·trans (by (curveChecked k levels rates room)) (refused-first (CurveCause k levels rates room) (curveChecks k levels rates room) judged)
+    where
+      by : (c : Checked) → (curvedBy c (finalCurve k levels rates) ≡ curve.Refused cause) ↔ (c ≡ Refused cause)
+      by Passed = (λ e. let z : _≡_ {A = ℕ} 0 1 = cc in absurd (omega arith), λ e. let z : _≡_ {A = ℕ} 0 1 = cc in absurd (omega arith))
+      by (Refused given) = (λ e. let same : given ≡ cause = cc in ap Refused same, λ e. let same : given ≡ cause = cc in ap curve.Refused same)
+
+  pub curve-answered :
+      (curved k levels rates room ≡ curve.Segments (length (finalCurve k levels rates))) ↔ NoneOf (CurveCause k levels rates room) curveOrder
+  unfolding curved curveChecked
+  curve-answered =
+      Iff·trans (by (curveChecked k levels rates room)) (passed-none (CurveCause k levels rates room) (curveChecks k levels rates room) judged)
+    where
+      by : (c : Checked) → (curvedBy c (finalCurve k levels rates) ≡ curve.Segments (length (finalCurve k levels rates))) ↔ (c ≡ Passed)
+      by Passed = (λ e. refl, λ e. refl)
+      by (Refused given) = (λ e. let z : _≡_ {A = ℕ} 0 1 = cc in absurd (omega arith), λ e. let z : _≡_ {A = ℕ} 0 1 = cc in absurd (omega arith))
+
+  pub list-untouched :
+      {A : Type 0} (part : Segment → A) (was : List A) {cause : Cause} → curved k levels rates room ≡ curve.Refused cause →
+      curveLeft k levels rates room part was ≡ was
+  unfolding curved curveLeft
+  list-untouched part was {cause} e = by (curveChecked k levels rates room) e
+    where
+      by : (c : Checked) → curvedBy c (finalCurve k levels rates) ≡ curve.Refused cause → leftBy c part (finalCurve k levels rates) was ≡ was
+      by Passed e = let z : _≡_ {A = ℕ} 0 1 = cc in absurd (omega arith)
+      by (Refused given) e = refl
