@@ -1,5 +1,6 @@
 // The planner, the reader and the other calls, tried on files and beside a simple enumerator.
 
+mod bids;
 mod comparison;
 mod enumerator;
 mod figures;
@@ -22,6 +23,7 @@ fn main() {
     files::try_texts();
     others::try_others();
     figures::try_figures();
+    bids::try_bids();
     let mut scratch = [0i64; 16384];
     generated(&mut scratch);
 }

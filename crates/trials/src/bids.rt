@@ -1,0 +1,101 @@
+// Bid curves: the first two segments of the sources' heat rate example, whose prices are found by counting cents up, too; a price that is rounded,
+// segments that merge, and each cause for which there is no curve.
+
+use crate::printing::line;
+use crate::printing::row;
+use crate::printing::text;
+use curves::CurveInputs;
+use curves::Curved;
+ghost use Prim.Native.Nat.{_≤_};
+
+pub fn try_bids() {
+    text(b"bids,from,to,cents\n");
+    let levels = [70, 150, 300];
+    let rates = [14440, 11960, 10909];
+    let inputs = gas_bid();
+    try_points(b"heat rate example", inputs, &levels, &rates);
+    line(
+        b"counted up,",
+        counted_up(150 * 11960 - 70 * 14440, 150 - 70),
+    );
+    line(
+        b"counted up,",
+        counted_up(300 * 10909 - 150 * 11960, 300 - 150),
+    );
+    try_points(b"33", at_gas(10000), &[1, 4], &[10, 5]);
+    try_points(b"merged", at_gas(1000), &[1, 2, 3, 4], &[10000, 10000, 8000, 7500]);
+    try_refusals(inputs, &levels, &rates);
+    text(b"\n");
+}
+
+// A gas price too high, levels that do not rise, and a rate too few.
+fn try_refusals(inputs: CurveInputs, levels: &[u64], rates: &[u64]) {
+    try_points(b"gas 10001", at_gas(10001), levels, rates);
+    try_points(b"levels 70 70 300", inputs, &[70, 70, 300], rates);
+    try_points(b"two rates", inputs, levels, &[14440, 11960]);
+}
+
+// A line for each segment, or of the refusal.
+fn try_points(name: &[u8], inputs: CurveInputs, levels: &[u64], rates: &[u64]) {
+    let mut froms = [0u64; 10];
+    let mut tos = [0u64; 10];
+    let mut prices = [0i64; 10];
+    match curves::curve_into(inputs, levels, rates, &mut froms, &mut tos, &mut prices) {
+        Curved::Refused(cause) => {
+            text(name);
+            line(b" refused,", commitment::number_of(cause));
+        }
+        Curved::Segments(count) => print_segments(name, count, &froms, &tos, &prices),
+    }
+}
+
+fn print_segments(name: &[u8], count: usize, froms: &[u64], tos: &[u64], prices: &[i64]) {
+    let mut i = 0;
+    while (i < count) & (i < froms.len()) & (i < tos.len()) & (i < prices.len()) {
+        text(name);
+        row(&[froms[i], tos[i], cents(prices[i])]);
+        i += 1;
+    }
+}
+
+// The prices tried are not below zero.
+fn cents(price: i64) -> u64 {
+    if price < 0 {
+        return 0;
+    }
+    price as u64
+}
+
+// The price of heat over so many MW, a half going up: of the whole cents the last that is above it by a half at most.
+fn counted_up(heat: u64, mw: u64) -> u64
+    requires { ⌜ (heat ≤ 25000000) × (mw ≤ 500) ⌝ }
+{
+    let parts = heat * 550 + (280 + 50 + 2500) * mw * 1000;
+    let mut cents = 0;
+    while cents < 1000000 {
+        if 2 * parts + mw * 1000 < 2 * (cents + 1) * mw * 1000 {
+            return cents;
+        }
+        cents += 1;
+    }
+    cents
+}
+
+// The bid of the example: gas, om, gmc and the adder.
+fn gas_bid() -> CurveInputs {
+    CurveInputs {
+        gas: 550,
+        om: 280,
+        gmc: 50,
+        adder: 2500,
+    }
+}
+
+fn at_gas(gas: u64) -> CurveInputs {
+    CurveInputs {
+        gas,
+        om: 0,
+        gmc: 0,
+        adder: 0,
+    }
+}
