@@ -11,7 +11,7 @@ use Rattle.curves.specs.declared.Segment.{Segment}
 use Rattle.curves.specs.declared.Curved.the-variants.{Segments}
 use Rattle.curves.specs.Ranges.{curveChecked}
 use Rattle.curves.specs.Curve.{ownSegments, finalCurve}
-use Rattle.curves.specs.Answers.{curvedBy, curved, filled, leftBy, curveLeft}
+use Rattle.curves.specs.Answers.{curvedBy, curved, filled, curveLeft}
 use Rattle.curves.specs.Laws.{firstLevel, lastLevel, Covers, Greatest}
 use Rattle.curves.proofs.Ranges.{accepted}
 use Rattle.curves.proofs.Curve as curve
