@@ -23,7 +23,12 @@ pub fn try_bids() {
         counted_up(300 * 10909 - 150 * 11960, 300 - 150),
     );
     try_points(b"33", at_gas(10000), &[1, 4], &[10, 5]);
-    try_points(b"merged", at_gas(1000), &[1, 2, 3, 4], &[10000, 10000, 8000, 7500]);
+    try_points(
+        b"merged",
+        at_gas(1000),
+        &[1, 2, 3, 4],
+        &[10000, 10000, 8000, 7500],
+    );
     try_refusals(inputs, &levels, &rates);
     text(b"\n");
 }
@@ -51,10 +56,20 @@ fn try_points(name: &[u8], inputs: CurveInputs, levels: &[u64], rates: &[u64]) {
 
 fn print_segments(name: &[u8], count: usize, froms: &[u64], tos: &[u64], prices: &[i64]) {
     let mut i = 0;
-    while (i < count) & (i < froms.len()) & (i < tos.len()) & (i < prices.len()) {
-        text(name);
-        row(&[froms[i], tos[i], cents(prices[i])]);
+    while i < count {
+        print_segment(name, i, froms, tos, prices);
         i += 1;
+    }
+}
+
+fn print_segment(name: &[u8], i: usize, froms: &[u64], tos: &[u64], prices: &[i64]) {
+    if i < froms.len() {
+        if i < tos.len() {
+            if i < prices.len() {
+                text(name);
+                row(&[froms[i], tos[i], cents(prices[i])]);
+            }
+        }
     }
 }
 
@@ -66,16 +81,15 @@ fn cents(price: i64) -> u64 {
     price as u64
 }
 
-// The price of heat over so many MW, a half going up: of the whole cents the last that is above it by a half at most.
+// The price of heat over so many MW at the bid of the example, a half going up: how often twice a cent goes into twice the price and half a cent.
 fn counted_up(heat: u64, mw: u64) -> u64
-    requires { ⌜ (heat ≤ 25000000) × (mw ≤ 500) ⌝ }
+    requires { ⌜ (heat ≤ 25000000) × ((1 ≤ mw) × (mw ≤ 500)) ⌝ }
 {
-    let parts = heat * 550 + (280 + 50 + 2500) * mw * 1000;
+    let cent = mw * 1000;
+    let mut left = 2 * (heat * 550 + (280 + 50 + 2500) * cent) + cent;
     let mut cents = 0;
-    while cents < 1000000 {
-        if 2 * parts + mw * 1000 < 2 * (cents + 1) * mw * 1000 {
-            return cents;
-        }
+    while 2 * cent <= left {
+        left -= 2 * cent;
         cents += 1;
     }
     cents
