@@ -8,6 +8,7 @@ pub enum Refusal {
     Form = 1,
     Name = 2,
     Range = 3,
+    Levels = 11,
     Shape = 4,
     Horizon = 5,
     Segments = 6,
@@ -19,10 +20,11 @@ pub enum Refusal {
 
 impl Refusal {
     /// In the order in which causes are given.
-    pub const ALL: [Refusal; 10] = [
+    pub const ALL: [Refusal; 11] = [
         Refusal::Form,
         Refusal::Name,
         Refusal::Range,
+        Refusal::Levels,
         Refusal::Shape,
         Refusal::Horizon,
         Refusal::Segments,
@@ -46,7 +48,7 @@ impl Refusal {
         *Refusal::ALL
             .iter()
             .find(|refusal| refusal.number() == number)
-            .expect("the library gives numbers from 1 to 10")
+            .expect("the library gives numbers from 1 to 11")
     }
 
     pub fn meaning(self) -> &'static str {
@@ -54,10 +56,11 @@ impl Refusal {
             Refusal::Form => "the text is too long, or a line is not of the form",
             Refusal::Name => "a name is unknown, repeated or missing",
             Refusal::Range => "a value or a count of entries is outside its range",
+            Refusal::Levels => "the levels do not rise strictly",
             Refusal::Shape => "pmin is over pmax, or pmax times block is over 500 MW",
             Refusal::Horizon => "there are no prices, or more than 2,976",
             Refusal::Segments => "the segments' MW do not add up",
-            Refusal::Length => "a slice is too short, or a schedule is of another length",
+            Refusal::Length => "a slice is too short, or lists are of unequal length",
             Refusal::Scratch => "the scratch is shorter than the case needs",
             Refusal::NoSchedule => "no schedule keeps the case",
             Refusal::NotKept => "the schedule handed in does not keep the case",
