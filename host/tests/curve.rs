@@ -139,51 +139,54 @@ fn edges_of_the_ranges() {
     assert_eq!([0, 1, 100, 101, 500, 501].map(last), [3, 11, 11, 0, 0, 3]);
 }
 
-/// The numbers of points of each list, and of the entries that are lent.
+/// So many levels and rates, and the number or 0.
+#[rustfmt::skip]
+const COUNTS: [(usize, usize, u64); 13] = [
+    (0, 0, 3), (1, 1, 3), (2, 2, 0), (11, 11, 0), (12, 12, 3),
+    (1, 2, 3), (2, 1, 3), (11, 12, 3), (12, 11, 3),
+    (2, 3, 7), (3, 2, 7), (2, 11, 7), (11, 10, 7),
+];
+
 #[test]
 fn edges_of_the_counts() {
     let levels: Vec<u64> = (1..=12).collect();
-    let tried = |of_levels: usize, of_rates: usize| {
-        let answer = curve(
-            gas_alone(550),
-            &levels[..of_levels],
-            &[9000; 12][..of_rates],
+    for (of_levels, of_rates, refused) in COUNTS {
+        let rates = vec![9000; of_rates];
+        let answer = curve(gas_alone(550), &levels[..of_levels], &rates);
+        assert_eq!(
+            number(answer).err().unwrap_or(0),
+            refused,
+            "{of_levels}, {of_rates}"
         );
-        number(answer).err().unwrap_or(0)
-    };
-    assert_eq!(
-        [(0, 0), (1, 1), (2, 2), (11, 11), (12, 12)].map(|(l, r)| tried(l, r)),
-        [3, 3, 0, 0, 3]
-    );
-    assert_eq!(
-        [(1, 2), (2, 1), (11, 12), (12, 11)].map(|(l, r)| tried(l, r)),
-        [3; 4]
-    );
-    assert_eq!(
-        [(2, 3), (3, 2), (2, 11), (11, 10)].map(|(l, r)| tried(l, r)),
-        [7; 4]
-    );
-    let lent = |levels: &[u64], [froms, tos, prices]: [usize; 3]| {
-        let (mut froms, mut tos, mut prices) = (vec![0; froms], vec![0; tos], vec![0; prices]);
-        number(curve_into(
-            gas_alone(550),
-            levels,
-            &[9000; 3],
-            &mut froms,
-            &mut tos,
-            &mut prices,
-        ))
-    };
-    // rates that stay equal make one segment, and two entries of each list are still asked for
-    assert_eq!(lent(&[1, 2, 3], [2, 2, 2]), Ok(1));
+    }
+}
+
+/// Three rates that stay equal, and lists of these lengths.
+fn with_lists(levels: &[u64], [froms, tos, prices]: [usize; 3]) -> Result<usize, u64> {
+    let (mut froms, mut tos, mut prices) = (vec![0; froms], vec![0; tos], vec![0; prices]);
+    let (froms, tos, prices) = (&mut froms, &mut tos, &mut prices);
+    number(curve_into(
+        gas_alone(550),
+        levels,
+        &[9000; 3],
+        froms,
+        tos,
+        prices,
+    ))
+}
+
+#[test]
+fn short_lists_and_the_order_of_causes() {
+    // equal rates make one segment, and two entries of each list are asked for
+    assert_eq!(with_lists(&[1, 2, 3], [2, 2, 2]), Ok(1));
     for short in [[1, 2, 2], [2, 1, 2], [2, 2, 1], [0, 0, 0]] {
-        assert_eq!(lent(&[1, 2, 3], short), Err(7));
-        assert_eq!(lent(&[1, 3, 3], short), Err(11));
-        assert_eq!(lent(&[3, 2, 501], short), Err(3));
+        assert_eq!(with_lists(&[1, 2, 3], short), Err(7));
+        assert_eq!(with_lists(&[1, 3, 3], short), Err(11));
+        assert_eq!(with_lists(&[3, 2, 501], short), Err(3));
     }
     // levels that do not rise are told also where the lists are unequal
-    assert_eq!(lent(&[2, 2], [9; 3]), Err(11));
-    assert_eq!(lent(&[1, 2], [9; 3]), Err(7));
+    assert_eq!(with_lists(&[2, 2], [9; 3]), Err(11));
+    assert_eq!(with_lists(&[1, 2], [9; 3]), Err(7));
 }
 
 /// Entries of a list to lend: as many as are asked for, fewer or more, with numbers in them.
@@ -314,13 +317,9 @@ fn expected(given: &Points) -> Result<Vec<Segment>, u64> {
     let count = given.levels.len().min(given.rates.len());
     let (levels, rates) = (&given.levels[..count], &given.rates[..count]);
     let k = &given.inputs;
-    let mut written = [k.gas, k.om, k.gmc, k.adder].into_iter();
-    if written.any(|figure| figure > 9_999_999_999)
-        || levels
-            .iter()
-            .chain(rates)
-            .any(|figure| *figure > 9_999_999_999)
-    {
+    let fields = [k.gas, k.om, k.gmc, k.adder];
+    let mut written = fields.iter().chain(levels).chain(rates);
+    if written.any(|figure| *figure > 9_999_999_999) {
         return Err(1);
     }
     let answer = fractions::curve(k, levels, rates, [count; 3]);

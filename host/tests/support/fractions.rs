@@ -118,6 +118,29 @@ fn judge(k: &CurveInputs, levels: &[u64], rates: &[u64], lent: [usize; 3]) -> Re
     Ok(())
 }
 
+/// Each price, or where it is under the one before, that one as already raised.
+fn raised(prices: impl Iterator<Item = i64>) -> Vec<i64> {
+    let mut raised: Vec<i64> = Vec::new();
+    for price in prices {
+        raised.push(match raised.last() {
+            Some(before) if price < *before => *before,
+            _ => price,
+        });
+    }
+    raised
+}
+
+/// Neighbours of equal price as one segment.
+fn merged(segments: &[Segment]) -> Vec<Segment> {
+    segments
+        .chunk_by(|one, next| one.price == next.price)
+        .map(|equal| Segment {
+            to: equal[equal.len() - 1].to,
+            ..equal[0]
+        })
+        .collect()
+}
+
 /// The number, or the final segments.
 pub fn curve(
     k: &CurveInputs,
@@ -126,16 +149,17 @@ pub fn curve(
     lent: [usize; 3],
 ) -> Result<Vec<Segment>, u64> {
     judge(k, levels, rates, lent)?;
-    let mut segments: Vec<Segment> = Vec::new();
-    for (i, price) in prices(k, levels, rates).into_iter().enumerate() {
-        let (from, to, price) = (levels[i], levels[i + 1], price.rounded());
-        match segments.last_mut() {
-            // under it or equal: raised to its price, and so of the same price
-            Some(before) if price <= before.price => before.to = to,
-            _ => segments.push(Segment { from, to, price }),
-        }
-    }
-    Ok(segments)
+    let own = prices(k, levels, rates).into_iter().map(Fraction::rounded);
+    let segments: Vec<Segment> = levels
+        .windows(2)
+        .zip(raised(own))
+        .map(|(pair, price)| Segment {
+            from: pair[0],
+            to: pair[1],
+            price,
+        })
+        .collect();
+    Ok(merged(&segments))
 }
 
 /// What the command prints.
