@@ -41,6 +41,10 @@ struct ralwinga_cost_inputs {
     uint64_t min_heat, fuel, aux, minutes, start_adder, load_adder;
 };
 
+struct ralwinga_curve_inputs {
+    uint64_t gas, om, gmc, adder;
+};
+
 struct ralwinga_case {
     uint64_t number;
     size_t count;
@@ -49,6 +53,11 @@ struct ralwinga_case {
 
 struct ralwinga_figures {
     uint64_t number, vec, suc, mlc;
+};
+
+struct ralwinga_curve {
+    uint64_t number;
+    size_t count;
 };
 
 struct ralwinga_assessment {
@@ -90,6 +99,12 @@ struct ralwinga_case ralwinga_read(const uint8_t *text, size_t text_len, int64_t
 /* Cost figures of a unit with segments of these MW and heat rates. */
 struct ralwinga_figures ralwinga_figures(struct ralwinga_cost_inputs inputs, const uint64_t *mws, size_t mws_len,
                                          const uint64_t *heats, size_t heats_len);
+
+/* The bid curve through points of these levels in MW and average heat rates. Segment i of its `count` is from froms[i] to tos[i] MW at prices[i] cents
+ * per MWh, which can be below 0. Each of the three lists has at least one entry less than there are points; what is past `count` stays as it is. */
+struct ralwinga_curve ralwinga_curve(struct ralwinga_curve_inputs inputs, const uint64_t *levels, size_t levels_len,
+                                     const uint64_t *rates, size_t rates_len, uint64_t *froms, size_t froms_len,
+                                     uint64_t *tos, size_t tos_len, int64_t *prices, size_t prices_len);
 
 /* The profit of a schedule handed in. */
 struct ralwinga_assessment ralwinga_assess(struct ralwinga_unit unit, const int64_t *prices, size_t prices_len,

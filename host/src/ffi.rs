@@ -52,6 +52,12 @@ pub struct FiguresNumbers {
 }
 
 #[repr(C)]
+pub struct CurveNumbers {
+    pub number: u64,
+    pub count: usize,
+}
+
+#[repr(C)]
 pub struct AssessNumbers {
     pub number: u64,
     pub profit: i64,
@@ -105,6 +111,20 @@ extern "C" {
         heats: *const u64,
         heats_len: usize,
     ) -> FiguresNumbers;
+
+    pub fn ralwinga_curve(
+        inputs: crate::CurveInputs,
+        levels: *const u64,
+        levels_len: usize,
+        rates: *const u64,
+        rates_len: usize,
+        froms: *mut u64,
+        froms_len: usize,
+        tos: *mut u64,
+        tos_len: usize,
+        prices: *mut i64,
+        prices_len: usize,
+    ) -> CurveNumbers;
 
     pub fn ralwinga_assess(
         unit: UnitNumbers,

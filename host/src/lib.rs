@@ -83,6 +83,26 @@ pub struct CostFigures {
     pub mlc: u64,
 }
 
+/// The inputs of a bid curve but for its points. Laid out as the library takes it.
+#[repr(C)]
+#[derive(Clone, Copy, Debug, PartialEq, Eq)]
+pub struct CurveInputs {
+    /// Cents per MMBtu.
+    pub gas: u64,
+    /// Cents per MWh, as are `gmc` and `adder`.
+    pub om: u64,
+    pub gmc: u64,
+    pub adder: u64,
+}
+
+/// A segment of a bid curve: from one level to another, in MW, at one price in cents per MWh.
+#[derive(Clone, Copy, Debug, PartialEq, Eq)]
+pub struct Segment {
+    pub from: u64,
+    pub to: u64,
+    pub price: i64,
+}
+
 /// What valuing a limitation comes to.
 #[derive(Clone, Copy, Debug, PartialEq, Eq)]
 pub enum Outcome {
@@ -244,6 +264,47 @@ pub fn figures(inputs: CostInputs, mws: &[u64], heats: &[u64]) -> Result<CostFig
             mlc: answer.mlc,
         },
     )
+}
+
+/// The bid curve through points of these levels and average heat rates into the front of three lists, a part of each segment in each: its segments.
+pub fn curve_into(
+    inputs: CurveInputs,
+    levels: &[u64],
+    rates: &[u64],
+    froms: &mut [u64],
+    tos: &mut [u64],
+    prices: &mut [i64],
+) -> Result<usize, Refusal> {
+    // Sound: as in `read_into`; the three slices that are written are borrowed by themselves.
+    let answer = unsafe {
+        ffi::ralwinga_curve(
+            inputs,
+            levels.as_ptr(),
+            levels.len(),
+            rates.as_ptr(),
+            rates.len(),
+            froms.as_mut_ptr(),
+            froms.len(),
+            tos.as_mut_ptr(),
+            tos.len(),
+            prices.as_mut_ptr(),
+            prices.len(),
+        )
+    };
+    unless_refused(answer.number, answer.count)
+}
+
+/// The segments of the bid curve through these points.
+pub fn curve(inputs: CurveInputs, levels: &[u64], rates: &[u64]) -> Result<Vec<Segment>, Refusal> {
+    let most = levels.len().saturating_sub(1);
+    let (mut froms, mut tos, mut prices) = (vec![0; most], vec![0; most], vec![0; most]);
+    let count = curve_into(inputs, levels, rates, &mut froms, &mut tos, &mut prices)?;
+    let segment = |i| Segment {
+        from: froms[i],
+        to: tos[i],
+        price: prices[i],
+    };
+    Ok((0..count).map(segment).collect())
 }
 
 /// The profit of a schedule handed in, in quarter-cents.

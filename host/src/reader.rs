@@ -1,11 +1,12 @@
-//! What a host reads: a case of any length, the schedule of a listing, and cost inputs.
+//! What a host reads: a case of any length, the schedule of a listing, cost inputs, and the points of a bid curve.
 //!
 //! A case goes through the proved reader wherever that takes its text, and only longer texts through the reader here, which tests hold to the
-//! proved one. Form and names are judged here; the ranges, the shape, the horizon and the segments are the library's to judge. Nothing here is proved.
+//! proved one. Form and names are judged here; the ranges, the levels, the shape, the horizon and the segments are the library's to judge. Nothing
+//! here is proved.
 
 use crate::text::{leading_table, two_tables, Cell, Fault, Table, Value};
-use crate::{assess, cells_needed, figures, read_into};
-use crate::{Case, CostFigures, CostInputs, Refusal, Unit};
+use crate::{assess, cells_needed, curve, figures, read_into};
+use crate::{Case, CostFigures, CostInputs, CurveInputs, Refusal, Segment, Unit};
 
 /// The longest text that the proved reader takes, and the prices that no such text outgrows.
 pub const MOST_BYTES: usize = 12_288;
@@ -36,6 +37,8 @@ const COST_NAMES: [&str; 15] = [
     "startadder",
     "loadadder",
 ];
+
+const CURVE_NAMES: [&str; 4] = ["gas", "om", "gmc", "adder"];
 
 /// The case of a text of any length, or the refusal with its place where it is 1, 2 or 3.
 pub fn read_case(text: &[u8]) -> Result<Case, Fault> {
@@ -101,11 +104,24 @@ pub fn read_figures(text: &[u8]) -> Result<CostFigures, Fault> {
     let (input_table, segment_table) = two_tables(text, "mw,heat")?;
     let input_rows = input_table.rows(COST_NAMES)?;
     let segments = segment_table.rows(["mw", "heat"])?;
-    let mws: Vec<u64> = segments.iter().map(|[mw, _]| natural(mw.value)).collect();
-    let heats: Vec<u64> = segments.iter().map(|[_, h]| natural(h.value)).collect();
+    let (mws, heats) = lists(&segments);
     let inputs = inputs_of(input_rows[0].map(|cell| cell.value));
     figures(inputs, &mws, &heats).map_err(|refusal| match refusal {
         Refusal::Range => out_of_inputs(&input_rows, &segment_table, &segments),
+        _ => refusal.into(),
+    })
+}
+
+/// The bid curve of a text of inputs and points.
+pub fn read_curve(text: &[u8]) -> Result<Vec<Segment>, Fault> {
+    let (input_table, point_table) = two_tables(text, "level,rate")?;
+    let input_rows = input_table.rows(CURVE_NAMES)?;
+    let points = point_table.rows(["level", "rate"])?;
+    let (levels, rates) = lists(&points);
+    let inputs = curve_inputs_of(input_rows[0].map(|cell| cell.value));
+    curve(inputs, &levels, &rates).map_err(|refusal| match refusal {
+        Refusal::Range => out_of_curve(&input_rows, &point_table, &points),
+        Refusal::Levels => not_rising(&points),
         _ => refusal.into(),
     })
 }
@@ -141,6 +157,39 @@ fn out_of_inputs(input_rows: &[[Cell; 15]], table: &Table, segments: &[[Cell; 2]
     })
 }
 
+/// The first value of a curve's inputs or points that is outside its range, or else the number of points.
+fn out_of_curve(input_rows: &[[Cell; 4]], table: &Table, points: &[[Cell; 2]]) -> Fault {
+    let inputs = curve_inputs_of(in_order());
+    first_out(CURVE_NAMES, input_rows, |values| {
+        curve(curve_inputs_of(values), &[1, 2], &[1, 1]).err()
+    })
+    .or_else(|| {
+        // one point twice: what is in its range is refused for its levels
+        first_out(["level", "rate"], points, |[level, rate]| {
+            curve(inputs, &[natural(level); 2], &[natural(rate); 2]).err()
+        })
+    })
+    .unwrap_or_else(|| {
+        let said = format!(
+            "the number of points, {}, is outside its range",
+            points.len()
+        );
+        Fault::in_line(Refusal::Range, table.line(), said)
+    })
+}
+
+/// The first level that is not over the one before it.
+fn not_rising(points: &[[Cell; 2]]) -> Fault {
+    let falls = |pair: &&[[Cell; 2]]| pair[1][0].value <= pair[0][0].value;
+    match points.windows(2).find(falls) {
+        Some([[before, _], [level, _]]) => {
+            let said = format!("level {} is not over {}", level.field, before.field);
+            Fault::at(Refusal::Levels, level.field, said)
+        }
+        _ => Refusal::Levels.into(),
+    }
+}
+
 /// The first cell that is outside its range when it alone takes its place among values in order. The library is asked, so that the ranges stand
 /// there alone.
 fn first_out<const N: usize>(
@@ -172,6 +221,13 @@ fn natural(value: Value) -> u64 {
     value
         .and_then(|number| u64::try_from(number).ok())
         .unwrap_or(BEYOND)
+}
+
+/// The two columns of a table.
+fn lists(rows: &[[Cell; 2]]) -> (Vec<u64>, Vec<u64>) {
+    rows.iter()
+        .map(|row| row.map(|cell| natural(cell.value)).into())
+        .unzip()
 }
 
 fn price(value: Value) -> i64 {
@@ -219,5 +275,16 @@ fn inputs_of(values: [Value; 15]) -> CostInputs {
         minutes,
         start_adder,
         load_adder,
+    }
+}
+
+/// The inputs of the values under `CURVE_NAMES`.
+fn curve_inputs_of(values: [Value; 4]) -> CurveInputs {
+    let [gas, om, gmc, adder] = values.map(natural);
+    CurveInputs {
+        gas,
+        om,
+        gmc,
+        adder,
     }
 }

@@ -60,7 +60,7 @@ impl Refusal {
             Refusal::Shape => "pmin is over pmax, or pmax times block is over 500 MW",
             Refusal::Horizon => "there are no prices, or more than 2,976",
             Refusal::Segments => "the segments' MW do not add up",
-            Refusal::Length => "a slice is too short, or a schedule is of another length",
+            Refusal::Length => "a slice is too short, or lists are of unequal length",
             Refusal::Scratch => "the scratch is shorter than the case needs",
             Refusal::NoSchedule => "no schedule keeps the case",
             Refusal::NotKept => "the schedule handed in does not keep the case",

@@ -1,4 +1,7 @@
-//! A drawing of prices and output over the intervals, for a person to look at. A run tells its times and earnings where the pointer is on it.
+//! Drawings for a person to look at: prices and output over the intervals here, where a run tells its times and earnings where the pointer is on it;
+//! a bid curve in `curve`.
+
+pub mod curve;
 
 use crate::amounts::{beginning, dollars, ending, quarters, time_of_day, PER_DAY};
 use crate::explanation::Explanation;
@@ -114,16 +117,24 @@ pub fn draw(prices: &[i64], schedule: &[u64], told: &Explanation) -> String {
 
 fn heading(out: &mut String, told: &Explanation) {
     let [_, hours, mwh] = told.usages;
-    let _ = writeln!(
-        out,
-        r##"<svg xmlns="http://www.w3.org/2000/svg" width="{WIDTH}" height="{HEIGHT}" viewBox="0 0 {WIDTH} {HEIGHT}" font-family="sans-serif" font-size="12">
-{STYLE}
-<rect width="{WIDTH}" height="{HEIGHT}" fill="white"/>
-<text x="{LEFT}" y="28" font-size="17">Plan of {} quarter-hours: profit {}, {} run-hours, {} MWh</text>"##,
+    let said = format!(
+        "Plan of {} quarter-hours: profit {}, {} run-hours, {} MWh",
         told.intervals,
         dollars(told.profit),
         quarters(hours.used),
         quarters(mwh.used),
+    );
+    open(out, &said);
+    let _ = writeln!(out, "{STYLE}");
+}
+
+/// A white sheet with a line above.
+fn open(out: &mut String, said: &str) {
+    let _ = writeln!(
+        out,
+        r##"<svg xmlns="http://www.w3.org/2000/svg" width="{WIDTH}" height="{HEIGHT}" viewBox="0 0 {WIDTH} {HEIGHT}" font-family="sans-serif" font-size="12">
+<rect width="{WIDTH}" height="{HEIGHT}" fill="white"/>
+<text x="{LEFT}" y="28" font-size="17">{said}</text>"##
     );
 }
 
@@ -185,10 +196,7 @@ fn times(out: &mut String, across: &Across) {
     let step = STEPS.into_iter().find(fits).unwrap_or(8 * PER_DAY);
     for place in (0..across.intervals).step_by(step.min(PER_DAY)) {
         let at = across.x(place);
-        let _ = writeln!(
-            out,
-            r##"<line x1="{at:.1}" y1="{PRICE_TOP}" x2="{at:.1}" y2="{BOTTOM}" stroke="#dddddd"/>"##
-        );
+        upright(out, at);
         if place % step == 0 {
             let said = match place % PER_DAY {
                 0 => format!("day {}", place / PER_DAY + 1),
@@ -204,6 +212,14 @@ fn times(out: &mut String, across: &Across) {
     }
 }
 
+/// A pale line from top to bottom.
+fn upright(out: &mut String, at: f64) {
+    let _ = writeln!(
+        out,
+        r##"<line x1="{at:.1}" y1="{PRICE_TOP}" x2="{at:.1}" y2="{BOTTOM}" stroke="#dddddd"/>"##
+    );
+}
+
 /// About so many values stand beside a panel.
 const LEVELS: f64 = 5.0;
 
@@ -217,7 +233,8 @@ fn levels(panel: &Panel) -> impl Iterator<Item = f64> {
         .find(|step| *step >= least)
         .unwrap_or(least);
     let (first, last) = ((panel.low / step).ceil(), (panel.high / step).floor());
-    (first as i64..=last as i64).map(move |level| level as f64 * step)
+    // to the cent: 3 times 0.2 is not quite 0.6
+    (first as i64..=last as i64).map(move |level| (level as f64 * step * 100.0).round() / 100.0)
 }
 
 /// Round values at the left of a panel with lines across, and its unit.

@@ -1,5 +1,5 @@
 //! The texts' form and what is said of its faults: lines, fields and values, each with its place, and tables by the names of their columns.
-//! The case, the schedule handed in and the cost inputs are all read by this module (`reader`).
+//! The case, the schedule handed in, the cost inputs and a curve's points are all read by this module (`reader`).
 
 use crate::Refusal;
 use std::fmt;

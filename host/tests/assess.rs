@@ -183,4 +183,9 @@ fn the_order_of_causes() {
     assert!(Refusal::Form.precedes(Refusal::Horizon));
     assert!(!Refusal::NotKept.precedes(Refusal::Length));
     assert!(!Refusal::Name.precedes(Refusal::Name));
+    assert_eq!(
+        Refusal::ALL.map(Refusal::number),
+        [1, 2, 3, 11, 4, 5, 6, 7, 8, 9, 10]
+    );
+    assert!(Refusal::Levels.precedes(Refusal::Shape) && Refusal::Range.precedes(Refusal::Levels));
 }

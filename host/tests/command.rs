@@ -53,7 +53,7 @@ fn stops(answer: &Output, status: i32, stdout: &str, said: &str) {
 
 /// Words, and what is said of them.
 #[rustfmt::skip]
-const BAD_ARGUMENTS: [(&[&str], &str); 14] = [
+const BAD_ARGUMENTS: [(&[&str], &str); 16] = [
     (&[], "<CASE>...; usage: ralwinga <CASE>..."),
     (&["--unknown", "case"], "'--unknown'"),
     (&["--cells"], "usage: ralwinga "),
@@ -64,6 +64,8 @@ const BAD_ARGUMENTS: [(&[&str], &str); 14] = [
     (&["assess", "case"], "usage: ralwinga assess <CASE> <LISTING>"),
     (&["assess", "-", "-"], "cannot both be standard input"),
     (&["costs", "one", "two"], "'two'"),
+    (&["curve"], "usage: ralwinga curve "),
+    (&["curve", "one", "--html", "page"], "'--html'"),
     (&["explain"], "usage: ralwinga explain "),
     (&["completion", "no-shell"], "'no-shell'"),
     (&["one", "two", "--svg", "drawing"], "--svg and --html are for one case"),
@@ -83,6 +85,7 @@ fn bad_files() {
     for words in [
         &["no such file"][..],
         &["costs", "no such file"],
+        &["curve", "no such file"],
         &["explain", "no such file"],
         &["assess", "/dev/null", "no such file"],
     ] {
@@ -114,12 +117,13 @@ fn refusals_and_drawings_that_fail() {
 }
 
 #[rustfmt::skip]
-const HELP: [(&[&str], &str); 7] = [
+const HELP: [(&[&str], &str); 8] = [
     (&["--help"], "What is proved: "),
     (&["-h"], "Usage: ralwinga [OPTIONS] <CASE>..."),
     (&["plan", "--help"], "Usage: ralwinga plan [OPTIONS] <CASE>..."),
     (&["assess", "--help"], "Usage: ralwinga assess <CASE> <LISTING>"),
     (&["costs", "--help"], "Usage: ralwinga costs <INPUTS>"),
+    (&["curve", "--help"], "Usage: ralwinga curve [OPTIONS] <INPUTS>"),
     (&["explain", "--help"], "Usage: ralwinga explain [OPTIONS] <CASE>"),
     (&["completion", "--help"], "Usage: ralwinga completion <SHELL>"),
 ];
@@ -196,7 +200,13 @@ fn output_that_is_not_taken() {
 fn completion() {
     let script = ralwinga(["completion", "bash"]).output().expect("runs");
     let script = String::from_utf8(script.stdout).expect("text");
-    for (words, offered) in [("ex", "explain"), ("plan --o", "--out"), ("--ht", "--html")] {
+    for (words, offered) in [
+        ("ex", "explain"),
+        ("plan --o", "--out"),
+        ("--ht", "--html"),
+        ("cu", "curve"),
+        ("curve --s", "--svg"),
+    ] {
         let last = words.rsplit(' ').next().expect("a word");
         let count = words.split(' ').count();
         let asked = format!(

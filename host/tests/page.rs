@@ -6,6 +6,7 @@ mod support;
 use ralwinga::amounts::dollars;
 use std::path::{Path, PathBuf};
 use support::browser::Browser;
+use support::points::WORKED;
 use support::{month, paper, ralwinga, Folder, Random, C1};
 
 /// The page of a case and what the command prints beside it.
@@ -156,6 +157,25 @@ fn the_drawing_by_itself() {
         "1"
     );
     assert!(text_at(&browser, ".run .tip").contains("day 31 22:00 to day 31 24:00"));
+}
+
+#[test]
+fn a_bid_curve_by_itself() {
+    let folder = Folder::new("bid-curve");
+    let browser = Browser::new();
+    let inputs = folder.file("unit.csv", WORKED);
+    let drawing = folder.path("unit.svg");
+    let words = ["curve".as_ref(), inputs.as_os_str(), "--svg".as_ref()];
+    let mut command = ralwinga(words);
+    command.arg(&drawing).output().expect("runs");
+    opened(&browser, &drawing);
+    assert_eq!(browser.text("document.documentElement.nodeName"), "svg");
+    let told =
+        "[...document.querySelectorAll('.segment title')].map(t => t.textContent).join(', ')";
+    let segments = "70 to 150 MW: $82.15 per MWh, 150 to 300 MW: $82.52 per MWh";
+    assert_eq!(browser.text(told), segments);
+    let corners = browser.text("document.querySelector('polyline').points.numberOfItems");
+    assert_eq!(corners, "4");
 }
 
 #[test]

@@ -51,6 +51,12 @@ fn the_explanation_and_the_costs() {
 }
 
 #[test]
+fn the_curve() {
+    let inputs = block("gas,om,gmc,adder\n");
+    assert_eq!(printed(&["curve", "-"], inputs), block("from,to,price\n"));
+}
+
+#[test]
 fn the_table_and_the_message() {
     let folder = Folder::new("readme-table");
     folder.file("north.csv", case());

@@ -3,9 +3,11 @@
 
 pub mod browser;
 mod cases;
+pub mod fractions;
 pub mod inputs;
 mod lent;
 pub mod paper;
+pub mod points;
 mod random;
 pub mod recursion;
 mod running;
@@ -18,7 +20,7 @@ pub use running::{answer_on, proved_program, ralwinga, run_on, run_unread, Folde
 pub use texts::{damage_text, shuffled_table, text_of};
 
 /// Each of these numbers came up more often than now and then.
-pub fn each_came_up(seen: &[usize; 11], numbers: &[usize]) {
+pub fn each_came_up(seen: &[usize], numbers: &[usize]) {
     println!("answers by number, 0 no refusal: {seen:?}");
     for number in numbers {
         let times = seen[*number];

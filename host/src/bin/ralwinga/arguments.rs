@@ -4,10 +4,10 @@ use clap::{Args, CommandFactory, Parser, Subcommand, ValueHint};
 use clap_complete::Shell;
 use std::path::PathBuf;
 
-const PROVED: &str = "What is proved: each plan, profit, opportunity cost and cost figure is an answer of the proved static library: the plan \
-is the best of all schedules that keep the case, and the figures are what the specification defines. A case of at most 12,288 bytes is read by the \
-proved reader too. What is not proved, but tested: this command, its readers of longer cases, of listings and of cost inputs, the sums of `explain`, \
-the drawing and the page.";
+const PROVED: &str = "What is proved: each plan, profit, opportunity cost, cost figure and bid curve is an answer of the proved static library: the plan \
+is the best of all schedules that keep the case, and the figures and the curve are what the specification defines. A case of at most 12,288 bytes is \
+read by the proved reader too. What is not proved, but tested: this command, its readers of longer cases, of listings, of cost inputs and of a curve's \
+points, the sums of `explain`, the drawings and the page.";
 
 const EXITS: &str = "Exit status: 0 when all was answered, 1 when a case was refused or a file could not be read or written, 2 for bad arguments.";
 
@@ -42,6 +42,8 @@ pub enum Command {
     Assess(AssessWords),
     /// Print the cost figures vec, suc and mlc of a unit
     Costs(CostsWords),
+    /// Print the bid curve of a unit as segments with a price each
+    Curve(CurveWords),
     /// Tell the plan of a case as runs, limitations used and adders for the bid
     Explain(ExplainWords),
     /// Print the completion of the command for a shell
@@ -101,6 +103,16 @@ pub struct CostsWords {
     /// A file with cost inputs, or - for standard input
     #[arg(value_name = "INPUTS", value_hint = ValueHint::FilePath)]
     pub inputs: PathBuf,
+}
+
+#[derive(Args)]
+pub struct CurveWords {
+    /// A file with the inputs and the points of a bid curve, or - for standard input
+    #[arg(value_name = "INPUTS", value_hint = ValueHint::FilePath)]
+    pub inputs: PathBuf,
+    /// Draw the curve to FILE
+    #[arg(long, value_name = "FILE", value_hint = ValueHint::FilePath)]
+    pub svg: Option<PathBuf>,
 }
 
 #[derive(Args)]

@@ -1,9 +1,10 @@
 //! The subcommands that are one call of the library.
 
-use crate::arguments::{AssessWords, CostsWords};
+use crate::arguments::{AssessWords, CostsWords, CurveWords};
 use crate::planning::text_of;
 use crate::stop::{is_standard_input, print, Stop};
-use ralwinga::reader::{read_case, read_figures, read_schedule};
+use ralwinga::reader::{read_case, read_curve, read_figures, read_schedule};
+use ralwinga::Segment;
 
 /// `profit,N` of a schedule handed in. Of the causes of the two texts the one that comes first is given.
 pub fn assess(words: &AssessWords) -> Result<(), Stop> {
@@ -36,4 +37,14 @@ pub fn costs(words: &CostsWords) -> Result<(), Stop> {
         figures.vec, figures.suc, figures.mlc
     );
     print(lines.as_bytes())
+}
+
+/// `from,to,price` and a line to each segment of a bid curve, which is drawn where that is asked for.
+pub fn curve(words: &CurveWords) -> Result<(), Stop> {
+    let text = text_of(&words.inputs)?;
+    let segments = read_curve(&text).map_err(|fault| Stop::refused(&words.inputs, fault))?;
+    let line = |Segment { from, to, price }: &Segment| format!("{from},{to},{price}\n");
+    let lines: String = segments.iter().map(line).collect();
+    print(format!("from,to,price\n{lines}").as_bytes())?;
+    words.draw(&segments)
 }

@@ -42,6 +42,7 @@ fn run(words: Arguments) -> Result<bool, Stop> {
         Command::Plan(words) => return plan(&words),
         Command::Assess(words) => calls::assess(&words)?,
         Command::Costs(words) => calls::costs(&words)?,
+        Command::Curve(words) => calls::curve(&words)?,
         Command::Explain(words) => one::explain(&words.case, &words.options)?,
         Command::Completion(words) => complete(&words)?,
     }

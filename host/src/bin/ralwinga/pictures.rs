@@ -1,14 +1,23 @@
-//! The drawing and the page of a case, where they are asked for.
+//! The drawing and the page of a case and the drawing of a curve, where they are asked for.
 
-use crate::arguments::CaseOptions;
+use crate::arguments::{CaseOptions, CurveWords};
 use crate::planning::{Planned, Prepared};
 use crate::stop::{shown, Stop};
 use ralwinga::explanation::Explanation;
-use ralwinga::{html, svg};
+use ralwinga::{html, svg, Segment};
 use std::path::Path;
 
 fn write(file: &Path, content: String) -> Result<(), Stop> {
     std::fs::write(file, content).map_err(|error| Stop::unwritten(file, error))
+}
+
+impl CurveWords {
+    pub fn draw(&self, segments: &[Segment]) -> Result<(), Stop> {
+        match &self.svg {
+            Some(file) => write(file, svg::curve::draw(segments)),
+            None => Ok(()),
+        }
+    }
 }
 
 impl CaseOptions {
