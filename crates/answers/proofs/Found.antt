@@ -1,7 +1,7 @@
 -- What is found of a text before anything is written and by the work, in turn; and what it says that a text passed.
 use mathlib.Core.Path.{_≡_, refl, sym, ap, _∙_}
-use mathlib.Core.Bool.{Bool, true, false, _&&_}
-use mathlib.Core.List.{List}
+use mathlib.Core.Bool.{Bool, true, false, _&&_, cond}
+use mathlib.Core.List.{List, []}
 use Prim.Native.Nat.{ℕ, _≤_}
 use Rattle.lists.proofs.Conjunctions.{both}
 use borrow.Author.Tests.{leb-true}
@@ -9,20 +9,21 @@ use lib.Dec.{leb}
 use lib.IntN.{ℤ}
 use lib.ListN.{length}
 use Rattle.commitment.specs.declared.Cause.{Cause}
-use Rattle.commitment.specs.declared.Cause.the-variants.{Length}
+use Rattle.commitment.specs.declared.Cause.the-variants.{Length, NoSchedule}
 use Rattle.commitment.specs.declared.Checked.{Checked}
 use Rattle.commitment.specs.declared.Checked.the-variants.{Passed, Refused}
 use Rattle.commitment.specs.declared.UnitRecord.{UnitRecord}
+use Rattle.commitment.specs.Best.{best}
 use Rattle.commitment.specs.Causes.{unless, firstOf}
 use Rattle.commitment.specs.Ranges.{pricesKept}
 use Rattle.commitment.proofs.Causes.{checkedThen, in-turn, unless-passed, then-passed}
 use Rattle.commitment.proofs.Passing.{Passing, passing}
 use Rattle.casefile.specs.Reading.{unitIn, pricesIn, writtenChecks, roomChecks, textChecked}
 use Rattle.casefile.proofs.Checking.{text-passed}
-use Rattle.planner.specs.Planning.{slicesChecks, lentChecked, scheduleChecks, scheduleChecked, planChecked}
+use Rattle.planner.specs.Planning.{hasSchedule, slicesChecks, lentChecked, scheduleChecks, scheduleChecked, planChecked}
 use Rattle.planner.proofs.Lent.{lent-turn, plan-turn}
 use Rattle.answers.specs.declared.Lent.{Lent}
-use Rattle.answers.specs.Answering.{mostPrinted, longEnough, lentChecks, lentFound, allFound}
+use Rattle.answers.specs.Answering.{mostPrinted, longEnough, lentChecks, serves, lentFound, allFound, unwritten, printedFor, printed}
 
 module _ (text : List ℕ) (lent : Lent) where
   abbrev unit : UnitRecord
@@ -63,8 +64,24 @@ module _ (text : List ℕ) (lent : Lent) where
 
   -- ---- a text that passed
 
+  -- what is found by the work is no 7
+  pub all-written : lentFound text lent ≡ Passed → (served : Bool) → unwritten (allFound text lent) served ≡ false
+  all-written e served =
+      ap (λ (k : Checked). unwritten k served) (all-in-turn ∙ ap (λ (k : Checked). checkedThen k (scheduleChecked unit prices)) e)
+      ∙ by (hasSchedule (best unit prices))
+    where
+      by : (t : Bool) → unwritten (unless t NoSchedule Passed) served ≡ false
+      by true = refl
+      by false = refl
+
   pub case-passing : textChecked text (lent .prices) ≡ Passed → Passing unit (pricesKept prices) count
   case-passing e = passing unit (pricesKept prices) count (text-passed text (lent .prices) e .checks)
+
+  -- so that it is written as it is
+  pub all-lines : lentFound text lent ≡ Passed → printedFor (allFound text lent) unit prices ≡ printed text lent
+  unfolding printed
+  all-lines e =
+      ap (λ (t : Bool). cond t [] (printedFor (allFound text lent) unit prices)) (sym (all-written e (serves count (lent .bytes))))
 
   pub record Read : Type 0 where
     pub case : Passing unit (pricesKept prices) count

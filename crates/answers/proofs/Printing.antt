@@ -1,16 +1,19 @@
 -- What is printed and answered, by what was found of a case and reported.
-use mathlib.Core.Path.{_≡_, sym, ap, _∙_}
-use mathlib.Core.List.{List}
+use mathlib.Core.Path.{_≡_, refl, sym, ap, _∙_}
+use mathlib.Core.Bool.{Bool, cond}
+use mathlib.Core.List.{List, []}
 use Prim.Native.Nat.{ℕ, _≤_}
+use native.Mathlib.Omega.{arith}
+use borrow.Author.Tests.{le-leb}
 use lib.IntN.{ℤ}
 use lib.ListN.{length, take}
-use Rattle.commitment.specs.declared.Cause.{Cause}
 use Rattle.commitment.specs.declared.Checked.{Checked}
 use Rattle.commitment.specs.declared.UnitRecord.{UnitRecord}
 use Rattle.commitment.specs.Best.{best}
-use Rattle.commitment.specs.Causes.{numberOf}
 use Rattle.commitment.specs.Valuing.{outcomesOf}
-use Rattle.listing.specs.Listing.{listing, refusal, bufferAfter}
+use Rattle.listing.specs.declared.Fit.{Fit}
+use Rattle.listing.specs.declared.Fit.the-variants.{Bytes, TooLong}
+use Rattle.listing.specs.Listing.{writtenBy, bytesIn, bufferAfter}
 use Rattle.listing.proofs.Fitting.{bytes-fit}
 use Rattle.planner.specs.declared.Report.{Report}
 use Rattle.planner.specs.declared.Reported.{Reported}
@@ -25,6 +28,15 @@ use Rattle.answers.specs.Answering.{reportFor, reportPrinted, printedFor
 pub answered-as : {number n bytes b : ℕ} → number ≡ n → bytes ≡ b
     → _≡_ {A = Answered} (record { number = number; bytes = bytes }) (record { number = n; bytes = b })
 answered-as e i = rw (e, i)
+
+-- no lines take no bytes and change none
+pub nothing-written : (number : ℕ) (out : List ℕ)
+    → (_≡_ {A = Answered} (record { number = number; bytes = 0 }) (answeredIn number [] (length out))) × (out ≡ bufferAfter [] out)
+nothing-written number out =
+    let fits = sym (le-leb 0 (length out) (omega arith)) in (
+      answered-as refl (ap (λ (t : Bool). bytesIn (writtenBy (cond {A = Fit} t (Bytes 0) TooLong))) fits),
+      ap (λ (t : Bool). cond t out out) fits,
+    )
 
 module _ (found : Checked) (u : UnitRecord) (prices : List ℤ) where
   abbrev part : List ℕ

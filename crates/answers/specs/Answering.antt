@@ -1,12 +1,15 @@
 -- The answer to the text of a case (specification 12, 14, 15): what is found before anything is written, the lines printed, and what becomes
 -- of the slices lent.
-use mathlib.Core.Bool.{Bool, _&&_}
-use mathlib.Core.List.{List, _++_}
+use mathlib.Core.Bool.{Bool, false, _&&_, not, cond}
+use mathlib.Core.List.{List, [], _++_}
 use Prim.Native.Nat.{ℕ, _+_, _*_}
-use lib.Dec.{leb}
+use lib.Dec.{leb, eqb}
 use lib.IntN.{ℤ}
 use lib.ListN.{length}
+use Rattle.commitment.specs.declared.Cause.{Cause}
 use Rattle.commitment.specs.declared.Checked.{Checked}
+use Rattle.commitment.specs.declared.Checked.the-variants.{Passed}
+use Rattle.commitment.specs.declared.Checked.the-variants as checked
 use Rattle.commitment.specs.declared.UnitRecord.{UnitRecord}
 use Rattle.commitment.specs.Best.{best}
 use Rattle.commitment.specs.Causes.{numberOf, Check, firstOf}
@@ -33,9 +36,13 @@ lengths prices scratch schedule out =
 abbrev pub mostPrinted : ℕ → ℕ
 mostPrinted n = 9 * n + 136
 
+-- whether a buffer of so many bytes serves for so many intervals
+abbrev pub serves : ℕ → ℕ → Bool
+serves n bytes = leb (mostPrinted n) bytes
+
 -- whether price slice, schedule slice and buffer suffice for so many intervals
 abbrev pub longEnough : ℕ → Lent → Bool
-longEnough n lent = leb n (lent .prices) && (leb n (lent .entries) && leb (mostPrinted n) (lent .bytes))
+longEnough n lent = leb n (lent .prices) && (leb n (lent .entries) && serves n (lent .bytes))
 
 abbrev pub lentChecks : List ℕ → Lent → List Check
 lentChecks text lent =
@@ -71,14 +78,25 @@ answeredFor found u prices room = answeredIn (reportedNumber (reportFor found u 
 
 -- ---- of a text
 
+-- into a buffer that does not serve no line of a 7 is written: it is as it was
+abbrev pub unwritten : Checked → Bool → Bool
+unwritten Passed served = false
+unwritten (checked.Refused cause) served = eqb (numberOf cause) 7 && not served
+
+abbrev pub linesFor : Checked → Bool → UnitRecord → List ℤ → List ℕ
+linesFor found served u prices = cond (unwritten found served) [] (printedFor found u prices)
+
+abbrev pub refusedLines : List ℕ → Cause → ℕ → List ℕ
+refusedLines text cause bytes = linesFor (checked.Refused cause) (serves (length (pricesIn text)) bytes) (unitIn text) (pricesIn text)
+
 abbrev pub reportOn : List ℕ → Lent → Reported
 reportOn text lent = reportFor (allFound text lent) (unitIn text) (pricesIn text)
 
-unfoldable pub answered : List ℕ → Lent → Answered
-answered text lent = answeredFor (allFound text lent) (unitIn text) (pricesIn text) (lent .bytes)
-
 unfoldable pub printed : List ℕ → Lent → List ℕ
-printed text lent = printedFor (allFound text lent) (unitIn text) (pricesIn text)
+printed text lent = linesFor (allFound text lent) (serves (length (pricesIn text)) (lent .bytes)) (unitIn text) (pricesIn text)
+
+unfoldable pub answered : List ℕ → Lent → Answered
+answered text lent = answeredIn (reportedNumber (reportOn text lent)) (printed text lent) (lent .bytes)
 
 -- ---- the slices: as they were where the text is refused before the work, prices read and needed cells 0 after it, the plan in front of the schedule slice
 

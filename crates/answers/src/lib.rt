@@ -5,9 +5,7 @@ use commitment::Checked;
 use commitment::UnitRecord;
 use planner::Reported;
 ghost use mathlib.Core.Path.{_≡_};
-ghost use Prim.Native.Nat.{_≤_};
 ghost use lib.ListN.{length};
-ghost use Rattle.commitment.specs.Bounds.{mostIntervals};
 ghost use Rattle.commitment.specs.declared.Checked.the-variants.{Passed};
 ghost use Rattle.commitment.specs.Causes.{numberOf};
 ghost use Rattle.commitment.specs.Cells.{cellsNeeded};
@@ -15,8 +13,9 @@ ghost use Rattle.casefile.specs.Answers.{pricesLeft};
 ghost use Rattle.casefile.specs.Reading.{unitIn, pricesIn};
 ghost use Rattle.listing.specs.Listing.{refusal, bufferAfter};
 ghost use Rattle.planner.specs.Planning.{planChecked, scheduleLeft, scratchLeft, scratchAfter};
-ghost use Rattle.answers.specs.Answering.{lengths, mostPrinted, lentFound, answeredIn, answeredFor, printedFor};
+ghost use Rattle.answers.specs.Answering.{lengths, lentFound, answeredIn, answeredFor, printedFor, refusedLines};
 ghost use Rattle.answers.specs.Answering.{answered, printed, pricesAfter, scheduleAnswered, scratchAnswered};
+ghost use Rattle.answers.specs.Answering as answering;
 ghost use Rattle.answers.specs.Sizes.{programLends};
 
 // What the program lends. specs/Sizes.antt has the same.
@@ -83,7 +82,7 @@ pub fn answer_into(
         bytes: out.len(),
     };
     match check(text, lent) {
-        Checked::Refused(cause) => refuse(cause, out),
+        Checked::Refused(cause) => refuse_text(text, cause, out),
         Checked::Passed => report(text, prices, scratch, schedule, out),
     }
 }
@@ -97,17 +96,20 @@ fn check(text: &[u8], lent: Lent) -> Checked
         Checked::Passed => {
             let unit = casefile::fields::unit_in(text);
             let count = casefile::pricing::prices_counted(text);
-            let long = (count <= lent.entries) & (most_printed(count) <= lent.bytes);
+            let long = (count <= lent.entries) & serves(count, lent.bytes);
             planner::checks::check_slices(unit, count, long, lent.cells)
         }
     }
 }
 
-fn most_printed(intervals: usize) -> usize
-    requires { ⌜ intervals ≤ mostIntervals ⌝ }
-    ensures { λ r. ⌜ r ≡ mostPrinted intervals ⌝ }
+// Whether a buffer has 9 bytes for each interval and 136 more. Nothing is multiplied, so that any count will do.
+fn serves(intervals: usize, bytes: usize) -> bool
+    ensures { λ r. ⌜ r ≡ answering.serves intervals bytes ⌝ }
 {
-    9 * intervals + 136
+    if bytes < 136 {
+        return false;
+    }
+    intervals <= (bytes - 136) / 9
 }
 
 // A case that passed its checks: read, planned, valued and listed; or 9.
@@ -167,6 +169,20 @@ fn report_case(
             }
         }
     }
+}
+
+// The refusal of a text: into a buffer that does not serve for its prices no line of a 7 is written.
+fn refuse_text(text: &[u8], cause: Cause, out: &mut [u8]) -> Answered
+    ensures { λ r. ⌜ r
+        ≡ answeredIn (numberOf cause) (refusedLines (now (text .entry)) cause (length (now (out .entry)))) (length (now (out .entry))) ⌝ }
+    ensures { λ _. ⌜ now (out .exit) ≡ bufferAfter (refusedLines (now (text .entry)) cause (length (now (out .entry)))) (now (out .entry)) ⌝ }
+{
+    let number = commitment::number_of(cause);
+    let count = casefile::pricing::prices_counted(text);
+    if (number == 7) & !serves(count, out.len()) {
+        return Answered { number, bytes: 0 };
+    }
+    refuse(cause, out)
 }
 
 // The line of a refusal; where it does not fit, the number alone.

@@ -1,4 +1,4 @@
--- The answer of `curve_into` and the three lent lists after it.
+-- The answer of `curve_into` and the three lent lists after it (specification 14, 15).
 use mathlib.Core.List.{List, map, _++_}
 use Prim.Native.Nat.{ℕ, min}
 use lib.IntN.{ℤ}
@@ -26,7 +26,7 @@ curvedBy (checked.Refused cause) curve = Refused cause
 unfoldable pub curved : CurveInputs → List ℕ → List ℕ → ℕ → Curved
 curved k levels rates entries = curvedBy (curveChecked k levels rates entries) (finalCurve k levels rates)
 
--- ---- a lent list: "Lists written from here on fill the front of their slice, and the rest is untouched"; on a refusal all of it is
+-- ---- a lent list: its front is filled, and the rest is untouched; on a refusal all of it is
 
 abbrev pub filled : {A : Type 0} → (Segment → A) → List Segment → List A → List A
 filled part curve was = map part curve ++ drop (length curve) was

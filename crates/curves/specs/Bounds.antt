@@ -1,4 +1,4 @@
--- The ends of the ranges that bid curves alone have. Levels end as MW do, rates, gas, om and gmc as in the cost figures.
+-- The ends of the ranges that bid curves alone have (specification 21). Levels end as MW do, rates, gas, om and gmc as in the cost figures.
 use Prim.Native.Nat.{ℕ}
 
 -- the points of a curve

@@ -1,4 +1,5 @@
--- The bid curve of points of level and average heat rate: the price of each segment, raised to that of the one before; equal neighbours merged.
+-- The bid curve of points of level and average heat rate (specification 21): the price of each segment, raised to that of the one before;
+-- equal neighbours merged.
 use mathlib.Core.Bool.{Bool, cond, _&&_}
 use mathlib.Core.List.{List, [], _∷_}
 use Prim.Native.Nat.{ℕ, _+_, _-_, _*_}
@@ -12,16 +13,16 @@ use Rattle.curves.specs.declared.Segment.{Segment}
 
 -- ---- a segment's own price, between two neighbouring points
 
--- "the change in level × rate over the change in level"
+-- the change in level × rate over the change in level
 abbrev pub incrementalRate : ℕ → ℕ → ℕ → ℕ → SignedFraction
 incrementalRate level rate level′ rate′ = (pos (level′ * rate′) -ℤ pos (level * rate)) overℤ (level′ - level)
 
--- "incremental rate × gas / 1000 + om + gmc + a given adder"
+-- incremental rate × gas / 1000 + om + gmc + adder
 abbrev pub priceFraction : CurveInputs → ℕ → ℕ → ℕ → ℕ → SignedFraction
 priceFraction k level rate level′ rate′ =
     incrementalRate level rate level′ rate′ timesℤ signed (k .gas over 1000) plusℤ signed (whole (k .om + k .gmc + k .adder))
 
--- "rounded once, a half going up, below zero too"
+-- rounded once
 unfoldable pub ownPrice : CurveInputs → ℕ → ℕ → ℕ → ℕ → ℤ
 ownPrice k level rate level′ rate′ = roundedℤ (priceFraction k level rate level′ rate′)
 
@@ -40,7 +41,7 @@ ownSegments k [] rates = []
 ownSegments k (level ∷ levels) [] = []
 ownSegments k (level ∷ levels) (rate ∷ rates) = ownFrom k level rate levels rates
 
--- ---- "A segment priced under the one before takes that price": as it was raised
+-- ---- a segment priced under the one before takes that price, as it was raised
 
 abbrev pub priced : ℤ → Segment → Segment
 priced price s = segment (s .from) (s .to) price
@@ -53,7 +54,7 @@ abbrev pub raised : List Segment → List Segment
 raised [] = []
 raised (s ∷ segments) = s ∷ raisedFrom (s .price) segments
 
--- ---- "neighbours of equal price merge"
+-- ---- neighbours of equal price merge
 
 abbrev pub equal : ℤ → ℤ → Bool
 equal x y = leZ x y && leZ y x

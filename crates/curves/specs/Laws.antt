@@ -1,4 +1,4 @@
--- What is proved of every final curve: it rises strictly, covers the levels without a gap, and asks the greatest own price up to there.
+-- What is proved of every final curve (specification 21): it rises strictly, covers the levels without a gap, and asks the greatest own price up to there.
 use mathlib.Core.Path.{_≡_}
 use mathlib.Core.Bool.{cond}
 use mathlib.Core.List.{List, [], _∷_}
@@ -9,7 +9,7 @@ use lib.Signed.{_≤ℤ_, _<ℤ_}
 use Rattle.integers.specs.Maximum.{maxℤ}
 use Rattle.curves.specs.declared.Segment.{Segment}
 
--- "The final curve rises strictly": from a price on
+-- it rises strictly: from a price on
 abbrev pub RisesFrom : ℤ → List Segment → Type 0
 RisesFrom before [] = Unit {0}
 RisesFrom before (s ∷ curve) = (before <ℤ s .price) × RisesFrom (s .price) curve

@@ -1,4 +1,4 @@
--- The ranges of the inputs of a bid curve, and the check of them before anything is worked out.
+-- The ranges of the inputs of a bid curve (specification 21), and the check of them before anything is worked out.
 use mathlib.Core.Bool.{Bool, true, _&&_}
 use mathlib.Core.List.{List, [], _∷_}
 use Prim.Native.Nat.{ℕ, _-_}

@@ -61,10 +61,14 @@ pub fn curve_into(
     tos: &mut [u64],
     prices: &mut [i64],
 ) -> Curved
-    ensures { λ r. ⌜ r ≡ curved inputs (now (levels .entry)) (now (rates .entry)) (answers.room (now (froms .entry)) (now (tos .entry)) (now (prices .entry))) ⌝ }
-    ensures { λ _. ⌜ now (froms .exit) ≡ fromsLeft inputs (now (levels .entry)) (now (rates .entry)) (now (froms .entry)) (now (tos .entry)) (now (prices .entry)) ⌝ }
-    ensures { λ _. ⌜ now (tos .exit) ≡ tosLeft inputs (now (levels .entry)) (now (rates .entry)) (now (froms .entry)) (now (tos .entry)) (now (prices .entry)) ⌝ }
-    ensures { λ _. ⌜ now (prices .exit) ≡ pricesLeft inputs (now (levels .entry)) (now (rates .entry)) (now (froms .entry)) (now (tos .entry)) (now (prices .entry)) ⌝ }
+    ensures { λ r. ⌜ r
+        ≡ curved inputs (now (levels .entry)) (now (rates .entry)) (answers.room (now (froms .entry)) (now (tos .entry)) (now (prices .entry))) ⌝ }
+    ensures { λ _. ⌜ now (froms .exit)
+        ≡ fromsLeft inputs (now (levels .entry)) (now (rates .entry)) (now (froms .entry)) (now (tos .entry)) (now (prices .entry)) ⌝ }
+    ensures { λ _. ⌜ now (tos .exit)
+        ≡ tosLeft inputs (now (levels .entry)) (now (rates .entry)) (now (froms .entry)) (now (tos .entry)) (now (prices .entry)) ⌝ }
+    ensures { λ _. ⌜ now (prices .exit)
+        ≡ pricesLeft inputs (now (levels .entry)) (now (rates .entry)) (now (froms .entry)) (now (tos .entry)) (now (prices .entry)) ⌝ }
 {
     let room = integers::smaller(froms.len(), integers::smaller(tos.len(), prices.len()));
     match check_curve(inputs, levels, rates, room) {

@@ -61,10 +61,14 @@ pub extern "C" fn ralwinga_curve(
     tos: &mut [u64],
     prices: &mut [i64],
 ) -> CurveNumbers
-    ensures { λ r. ⌜ r ≡ curveNumbers (curved inputs (now (levels .entry)) (now (rates .entry)) (room (now (froms .entry)) (now (tos .entry)) (now (prices .entry)))) ⌝ }
-    ensures { λ _. ⌜ now (froms .exit) ≡ fromsLeft inputs (now (levels .entry)) (now (rates .entry)) (now (froms .entry)) (now (tos .entry)) (now (prices .entry)) ⌝ }
-    ensures { λ _. ⌜ now (tos .exit) ≡ tosLeft inputs (now (levels .entry)) (now (rates .entry)) (now (froms .entry)) (now (tos .entry)) (now (prices .entry)) ⌝ }
-    ensures { λ _. ⌜ now (prices .exit) ≡ pricesLeft inputs (now (levels .entry)) (now (rates .entry)) (now (froms .entry)) (now (tos .entry)) (now (prices .entry)) ⌝ }
+    ensures { λ r. ⌜ r
+        ≡ curveNumbers (curved inputs (now (levels .entry)) (now (rates .entry)) (room (now (froms .entry)) (now (tos .entry)) (now (prices .entry)))) ⌝ }
+    ensures { λ _. ⌜ now (froms .exit)
+        ≡ fromsLeft inputs (now (levels .entry)) (now (rates .entry)) (now (froms .entry)) (now (tos .entry)) (now (prices .entry)) ⌝ }
+    ensures { λ _. ⌜ now (tos .exit)
+        ≡ tosLeft inputs (now (levels .entry)) (now (rates .entry)) (now (froms .entry)) (now (tos .entry)) (now (prices .entry)) ⌝ }
+    ensures { λ _. ⌜ now (prices .exit)
+        ≡ pricesLeft inputs (now (levels .entry)) (now (rates .entry)) (now (froms .entry)) (now (tos .entry)) (now (prices .entry)) ⌝ }
 {
     numbers::of_curve(curves::curve_into(inputs, levels, rates, froms, tos, prices))
 }

@@ -49,7 +49,7 @@ module _ (k : CurveInputs) (levels rates froms tos : List ℕ) (prices : List �
     causes.list-untouched k levels rates _ priceOf prices e,
   )
 
-  -- else the segments stand in front of each, and "the rest is untouched"
+  -- else the segments stand in front of each, and the rest is untouched
 
   pub lists-filled :
       (n : ℕ) → curved k levels rates (room froms tos prices) ≡ Segments n →
@@ -63,14 +63,14 @@ module _ (k : CurveInputs) (levels rates froms tos : List ℕ) (prices : List �
     answers.list-filled k levels rates _ e priceOf prices,
   )
 
--- ---- a segment's own price is "rounded once, a half going up, below zero too", and so within half a cent of its fraction
+-- ---- a segment's own price is rounded once, a half going up, below zero too, and so within half a cent of its fraction
 
 pub own-half-up :
     (k : CurveInputs) (level rate level′ rate′ : ℕ) → level < level′ →
     HalfUp (ownPrice k level rate level′ rate′) (priceFraction k level rate level′ rate′)
 own-half-up = curve.own-half-up
 
--- ---- "The final curve rises strictly and covers the same levels"
+-- ---- the final curve rises strictly and covers the same levels
 
 pub curve-rises : (k : CurveInputs) (levels rates : List ℕ) → Rises (finalCurve k levels rates)
 curve-rises = curve.rises

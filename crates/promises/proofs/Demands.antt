@@ -1,10 +1,11 @@
 -- The three demands, clause by clause, of the answers that the contracts give the calls. What each statement is made of is defined in specs/ of this
 -- crate or of the one that owns it; each proof cites the file that does the work.
 use mathlib.Core.Path.{_≡_, refl}
-use mathlib.Core.Bool.{true}
+use mathlib.Core.Bool.{true, false, _&&_, not, cond}
 use mathlib.Core.List.{List, [], _++_}
 use mathlib.Core.Logic.{_↔_}
 use Prim.Native.Nat.{ℕ, _≤_, _<_}
+use lib.Dec.{eqb}
 use lib.IntN.{ℤ, pos}
 use lib.ListN.{length, take, drop}
 use Rattle.commitment.specs.declared.Cause.{Cause}
@@ -51,7 +52,7 @@ use Rattle.planner.specs.Planning.{planned, plannedNumber, plannedProfit, plann
 use Rattle.planner.specs.Reporting.{reported, reportedNumber, reportedProfit, reportedCount, reportedOutcomes}
 use Rattle.planner.specs.Valuing.{valued, valuedNumber, valuedOutcomes}
 use Rattle.answers.specs.declared.Lent.{Lent}
-use Rattle.answers.specs.Answering.{lentFound, reportOn, answered, printed, pricesAfter, scheduleAnswered, scratchAnswered}
+use Rattle.answers.specs.Answering.{serves, lentFound, reportOn, answered, printed, pricesAfter, scheduleAnswered, scratchAnswered}
 use Rattle.answers.specs.Sizes.{outRoom, programLends}
 use Rattle.promises.specs.Causes.{FirstOf, NoneOf, ReadCause, CostCause, HandCause, PlanCause, ValueCause}
 use Rattle.promises.specs.Causes.{AnswerCause, readingOrder, costOrder, handInOrder, planningOrder, valuingOrder, answeringOrder}
@@ -197,15 +198,20 @@ pub report-untouched : (u : UnitRecord) (prices : List ℤ) (cells : ℕ) (slice
     → (scheduleLeft u prices cells slice ≡ slice) × (partGiven u prices cells (length slice) ≡ [])
 report-untouched = untouched.report-untouched
 
--- answering a text: its number is the report's; on 7, 8 and what comes before, every slice but the buffer is as it was, and the buffer has the line of
--- the refusal, or where that does not fit is as it was and 0 bytes are counted; on 9 the schedule slice is as it was
+-- answering a text: its number is the report's; on 7, 8 and what comes before, every slice but the buffer is as it was. The buffer has the line of the
+-- refusal; on 7 where it does not serve for what the text may print, and wherever the line does not fit, it is as it was too. On 9 the schedule slice
+-- is as it was.
 
 pub answer-number : (text : List ℕ) (lent : Lent) → answered text lent .number ≡ reportedNumber (reportOn text lent)
 answer-number = printing.answer-number
 
 pub answer-refusal : (text : List ℕ) (lent : Lent) {cause : Cause} → reportOn text lent ≡ reporting.Refused cause
-    → printed text lent ≡ refusal (numberOf cause)
+    → printed text lent ≡ cond (eqb (numberOf cause) 7 && not (serves (length (pricesIn text)) (lent .bytes))) [] (refusal (numberOf cause))
 answer-refusal = printing.answer-refusal
+
+pub seven-untouched : (text : List ℕ) (lent : Lent) (out : List ℕ) → reportOn text lent ≡ reporting.Refused Length
+    → serves (length (pricesIn text)) (lent .bytes) ≡ false → bufferAfter (printed text lent) out ≡ out
+seven-untouched = printing.seven-untouched
 
 pub short-buffer-untouched : (text : List ℕ) (lent : Lent) (out : List ℕ) → lent .bytes ≡ length out → lent .bytes < length (printed text lent)
     → (answered text lent .bytes ≡ 0) × (bufferAfter (printed text lent) out ≡ out)

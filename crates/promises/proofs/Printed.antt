@@ -1,6 +1,6 @@
 -- An answer fits its buffer where no cause is found before the work; so the program's buffer holds what is printed for any text.
 use mathlib.Core.Path.{_≡_, refl, sym, ap, ap₂, _∙_}
-use mathlib.Core.Bool.{Bool, true, false, cond, _&&_}
+use mathlib.Core.Bool.{Bool, true, false, cond, _&&_, not}
 use mathlib.Core.List.{List, [], _∷_, _++_}
 use mathlib.Core.Logic.{inl, ⊎-elim}
 use Prim.Native.Nat.{ℕ, suc, _+_, _*_, _≤_, _<_}
@@ -37,9 +37,10 @@ use Rattle.planner.specs.declared.Reported.the-variants as reports
 use Rattle.planner.specs.Planning.{plannedPart}
 use Rattle.planner.specs.Reporting.{reportedBy, reportedNumber}
 use Rattle.answers.specs.declared.Lent.{Lent}
-use Rattle.answers.specs.Answering.{mostPrinted, longEnough, lentFound, allFound, reportPrinted, printedFor, reportOn, answered, printed}
+use Rattle.answers.specs.Answering.{mostPrinted, serves, longEnough, lentFound, allFound, reportPrinted, printedFor}
+use Rattle.answers.specs.Answering.{unwritten, linesFor, reportOn, answered, printed}
 use Rattle.answers.specs.Sizes.{priceRoom, outRoom, programLends}
-use Rattle.answers.proofs.Found.{passed, refused-in-all}
+use Rattle.answers.proofs.Found.{passed, all-lines, refused-in-all}
 use Rattle.casetext.specs.Form.{mostBytes, formKept}
 use Rattle.promises.specs.Causes.{FirstOf, AnswerCause}
 use Rattle.promises.proofs.Causes.{answering-refused}
@@ -107,10 +108,10 @@ written-whole text lent fits =
 
 -- where no cause was found before the work, the buffer has that room
 pub passed-whole : (text : List ℕ) (lent : Lent) → lentFound text lent ≡ Passed → answered text lent .bytes ≡ length (printed text lent)
-unfolding printed
 passed-whole text lent e =
     let r = passed text lent e in
-    written-whole text lent (omega (arith, case-most (unitIn text) (pricesIn text) (r .case .order) (allFound text lent), r .bytes))
+    let most = case-most (unitIn text) (pricesIn text) (r .case .order) (allFound text lent) in
+    written-whole text lent (omega (arith, ap length (all-lines text lent e), most, r .bytes))
 
 -- and the program's buffer has it for any text
 pub every-text-is-answered : (text : List ℕ)
@@ -118,12 +119,20 @@ pub every-text-is-answered : (text : List ℕ)
 unfolding printed
 every-text-is-answered text = by (lentFound text (programLends outRoom)) refl
   where
+    served : Bool
+    served = serves (length (pricesIn text)) outRoom
+
+    line-most : (t : Bool) (cause : Cause) → length (cond t [] (refusal (numberOf cause))) ≤ 29
+    line-most true cause = omega arith
+    line-most false cause = refusal-most cause
+
     by : (k : Checked) → lentFound text (programLends outRoom) ≡ k
         → answered text (programLends outRoom) .bytes ≡ length (printed text (programLends outRoom))
     by Passed e = passed-whole text (programLends outRoom) e
     by (Refused cause) e =
-        let line = ap (λ (found : Checked). printedFor found (unitIn text) (pricesIn text)) (refused-in-all text (programLends outRoom) cause e) in
-        written-whole text (programLends outRoom) (omega (arith, ap length line, refusal-most cause))
+        let found = refused-in-all text (programLends outRoom) cause e in
+        let line = ap (λ (k : Checked). linesFor k served (unitIn text) (pricesIn text)) found in
+        written-whole text (programLends outRoom) (omega (arith, ap length line, line-most (unwritten (Refused cause) served) cause))
 
 -- ---- what a refusal prints
 
@@ -131,11 +140,31 @@ pub answer-number : (text : List ℕ) (lent : Lent) → answered text lent .numb
 unfolding answered
 answer-number text lent = refl
 
+-- the line of its number; nothing on 7 where the buffer does not serve
 pub answer-refusal : (text : List ℕ) (lent : Lent) {cause : Cause} → reportOn text lent ≡ reports.Refused cause
-    → printed text lent ≡ refusal (numberOf cause)
+    → printed text lent ≡ cond (eqb (numberOf cause) 7 && not (serves (length (pricesIn text)) (lent .bytes))) [] (refusal (numberOf cause))
 unfolding printed
-answer-refusal text lent e =
-    ap (λ (r : Reported). reportPrinted r (plannedPart (allFound text lent) (best (unitIn text) (pricesIn text)))) e
+answer-refusal text lent {cause} e = by (allFound text lent) (best (unitIn text) (pricesIn text)) e
+  where
+    served : Bool
+    served = serves (length (pricesIn text)) (lent .bytes)
+
+    line : Cause → List ℕ
+    line c = cond (eqb (numberOf c) 7 && not served) [] (refusal (numberOf c))
+
+    by : (k : Checked) (b : Plan) → reportedBy k b (outcomesOf (unitIn text) (pricesIn text)) ≡ reports.Refused cause
+        → cond (unwritten k served) [] (reportPrinted (reportedBy k b (outcomesOf (unitIn text) (pricesIn text))) (plannedPart k b)) ≡ line cause
+    by Passed nothing e = let same : NoSchedule ≡ cause = cc in ap line same
+    by Passed (plan s p) e = let z : _≡_ {A = ℕ} 0 1 = cc in absurd (omega arith)
+    by (Refused given) b e = let same : given ≡ cause = cc in ap line same
+
+-- so that on 7 a buffer that does not serve is as it was, and so is one that a line does not fit
+pub seven-untouched : (text : List ℕ) (lent : Lent) (out : List ℕ) → reportOn text lent ≡ reports.Refused Length
+    → serves (length (pricesIn text)) (lent .bytes) ≡ false → bufferAfter (printed text lent) out ≡ out
+seven-untouched text lent out e short =
+    let none : printed text lent ≡ [] =
+    answer-refusal text lent e ∙ ap (λ (t : Bool). cond (not t) [] (refusal (numberOf Length))) short in
+    ap (λ (lines : List ℕ). bufferAfter lines out) none ∙ ap (λ (t : Bool). cond t out out) (le-leb 0 (length out) (omega arith))
 
 pub short-buffer-untouched : (text : List ℕ) (lent : Lent) (out : List ℕ) → lent .bytes ≡ length out → lent .bytes < length (printed text lent)
     → (answered text lent .bytes ≡ 0) × (bufferAfter (printed text lent) out ≡ out)

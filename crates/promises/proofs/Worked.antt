@@ -11,6 +11,7 @@ use Rattle.tabletext.specs.Bytes.{isOf}
 use Rattle.tabletext.specs.Values.{isName, isValue, valueOf, numeral}
 use Rattle.listing.specs.Listing.{listing, refusal}
 use Rattle.listing.specs.Numbers.{number, decimal}
+use Rattle.rounding.specs.Rounding.{rounded}
 use Rattle.commitment.specs.Twelve.{saidOfTwelve}
 use Rattle.costs.specs.Answers.{costed}
 use Rattle.costs.specs.Ranges.{inputsKept, segmentsKept, inputsChecked}
@@ -71,5 +72,5 @@ c1-whole = refl
 -- ---- the calls answer what the specification says of all twelve
 
 pub twelve : answersOfTwelve ≡ saidOfTwelve
-unfolding planChecked valueChecked costed inputsChecked inputsKept segmentsKept rangesKept pricesKept
+unfolding rounded planChecked valueChecked costed inputsChecked inputsKept segmentsKept rangesKept pricesKept
 twelve = refl

@@ -1,4 +1,5 @@
--- Rounding to a whole number by quotient and rest, of natural and of signed fractions. What a half does is said in `goesUp` alone.
+-- Rounding to a whole number by quotient and rest, of natural and of signed fractions (specification 10, 21). What a half does is said in
+-- `goesUp` alone.
 use mathlib.Core.Bool.{Bool, cond}
 use Prim.Native.Nat.{ℕ, suc, _+_, _-_, _*_, _/_, _%_}
 use lib.Dec.{leb}
@@ -6,7 +7,7 @@ use lib.IntN.{ℤ, pos, negsuc, _+ℤ_, _*ℤ_}
 use lib.Signed.{_≤ℤ_, _<ℤ_}
 use Rattle.rounding.specs.Fractions.{Fraction, SignedFraction}
 
--- whether the rest of a division takes its quotient to the next whole number: from a half on, "a half going up"
+-- whether the rest of a division takes its quotient to the next whole number: from a half on
 abbrev pub goesUp : ℕ → ℕ → Bool
 goesUp rest den = leb den (2 * rest)
 
@@ -23,7 +24,7 @@ abbrev pub restOf : ℤ → ℕ → ℕ
 restOf (pos n) den = n % den
 restOf (negsuc n) den = den - suc (n % den)
 
--- "a half going up, below zero too"
+-- a half goes up below zero too
 unfoldable pub roundedℤ : SignedFraction → ℤ
 roundedℤ a = cond (goesUp (restOf (a .num) (a .den)) (a .den)) (floorOf (a .num) (a .den) +ℤ pos 1) (floorOf (a .num) (a .den))
 

@@ -1,6 +1,7 @@
 -- By what is found before anything is written: the line of its cause, or the report of the case.
 use mathlib.Core.Path.{sym, ap, _∙_}
 use mathlib.Core.List.{List}
+use Prim.Native.Nat.{ℕ}
 use lib.IntN.{ℤ}
 use lib.ListN.{length}
 use Rattle.commitment.specs.declared.Checked.{Checked}
@@ -10,8 +11,10 @@ use Rattle.casefile.specs.Answers.{pricesLeft}
 use Rattle.casefile.specs.Reading.{unitIn, pricesIn}
 use Rattle.listing.specs.Listing.{bufferAfter}
 use Rattle.planner.specs.Planning.{scheduleAfter, scratchAfter}
+use Rattle.planner.specs.Reporting.{reportedNumber}
+use Rattle.answers.specs.declared.Answered.{Answered}
 use Rattle.answers.specs.declared.Lent.{Lent}
-use Rattle.answers.specs.Answering.{lengths, printedFor, answeredFor, answered, printed}
+use Rattle.answers.specs.Answering.{lengths, serves, reportFor, linesFor, answeredIn, answered, printed}
 use borrow.Author.Needs.{needs}
 use Rattle.answers.proofs.Found.{refused-in-all}
 use Rattle.answers.proofs.answer_into.Statement.{statement}
@@ -20,7 +23,17 @@ use Rattle.answers.proofs.answer_into.Tie as tie
 abbrev lent : tie.Start → Lent
 lent s = lengths (s .args .prices .now) (s .args .scratch .now) (s .args .schedule .now) (s .args .out .now)
 
--- the slices by what was found
+-- the lines, the answer and the slices by what was found
+abbrev lines : tie.Start → Checked → List ℕ
+lines s found =
+    let text = s .args .text .now in
+    linesFor found (serves (length (pricesIn text)) (length (s .args .out .now))) (unitIn text) (pricesIn text)
+
+abbrev said : tie.Start → Checked → Answered
+said s found =
+    let text = s .args .text .now in
+    answeredIn (reportedNumber (reportFor found (unitIn text) (pricesIn text))) (lines s found) (length (s .args .out .now))
+
 abbrev prices : tie.Start → Checked → List ℤ
 prices s found = pricesLeft found (pricesIn (s .args .text .now)) (s .args .prices .now)
 
@@ -46,9 +59,9 @@ returns c =
     let cause = told .cause .given .0 .0 in
     let refused = sym (check .check .ensures) ∙ told .cause .given .1 in
     let all = sym (refused-in-all text (lent s) cause refused) in (
-      w .refuse .ensures .0 ∙ ap (λ (found : Checked). answeredFor found (unitIn text) (pricesIn text) (length (s .args .out .now))) all,
+      w .refuse-text .ensures .0 ∙ ap (said s) all,
       (
-        w .refuse .ensures .1 ∙ ap (λ (found : Checked). bufferAfter (printedFor found (unitIn text) (pricesIn text)) (s .args .out .now)) all,
+        w .refuse-text .ensures .1 ∙ ap (λ (found : Checked). bufferAfter (lines s found) (s .args .out .now)) all,
         (
           ap (prices s) (sym refused),
           (

@@ -1,6 +1,5 @@
 -- The causes of the text, then those of the slices.
 use mathlib.Core.Path.{_≡_, sym, ap, _∙_}
-use native.Mathlib.Omega.{arith}
 use lib.ListN.{length}
 use Rattle.commitment.specs.declared.Checked.{Checked}
 use Rattle.commitment.specs.Ranges.{pricesKept}
@@ -28,12 +27,9 @@ passing-of c =
     let t = c .before .before in
     case-passing (t .before .before .args .text .now) (t .before .before .args .lent) (sym (t .check-text .ensures) ∙ c .enum-told .given .1)
 
-most-printed-requires : tie.Need-most-printed-requires
-most-printed-requires c κs = omega (arith, c .before .prices-counted .ensures, passing-of (c .before .before .before) .order .short)
-
 check-slices-requires : tie.Need-check-slices-requires
 check-slices-requires c κs =
-    let counted = c .before .before .before in
+    let counted = c .before .before in
     rw (counted .before .unit-in .ensures, counted .prices-counted .ensures) (passing-of (counted .before .before) .order)
 
 returns : tie.Need-returns
@@ -41,11 +37,11 @@ returns c = found (c .before .before .before) (c .before .cause .given .1)
 
 returns-2 : tie.Need-returns-2
 returns-2 c =
-    let printed = c .before .before in
-    let counted = printed .before .before in
+    let served = c .before in
+    let counted = served .before .before in
     let unit = counted .before in
     let told = unit .before in
-    let sliced = rw (printed .most-printed .ensures, counted .prices-counted .ensures, unit .unit-in .ensures) at (c .check-slices .ensures) in
+    let sliced = rw (served .serves .ensures, counted .prices-counted .ensures, unit .unit-in .ensures) at (c .check-slices .ensures) in
     sliced ∙ found (told .before .before) (told .enum-told .given .1)
 
 pub check-spec : {M : Type 1} → statement M
@@ -53,7 +49,7 @@ check-spec =
     tie.close
     (tie.spec
     (λ c κs. search needs) (λ c. search needs) (λ c. search needs) (λ c κs. search needs) (λ c κs. search needs)
-    most-printed-requires
+    (λ c κs. search needs)
     check-slices-requires
     returns
     returns-2)
