@@ -23,9 +23,9 @@ pub const TEXT_ROOM: usize = 12289;
 
 pub const OUT_ROOM: usize = 26920;
 
-const PRICE_ROOM: usize = 6144;
+pub const PRICE_ROOM: usize = 6144;
 
-const CELL_ROOM: usize = 4000;
+pub const CELL_ROOM: usize = 4000;
 
 // 0 or the number of the cause, and how many bytes were written to the front of the buffer.
 pub struct Answered {

@@ -1,14 +1,14 @@
 -- A text has the form exactly when a writer of two tables makes it.
 use mathlib.Core.Path.{_≡_, refl, sym, ap, ap₂, _∙_}
 use mathlib.Core.Bool.{Bool, true, false, _&&_, not, cond}
-use mathlib.Core.List.{List, [], _∷_, _++_, map}
+use mathlib.Core.List.{List, [], _∷_, map}
 use mathlib.Core.Logic.{_↔_}
-use Prim.Native.Nat.{ℕ, suc, _≤_, _<_}
+use Prim.Native.Nat.{ℕ, _<_}
 use native.Mathlib.Omega.{arith}
-use borrow.Author.Tests.{leb-true, le-leb, eqb-true, eq-eqb}
+use borrow.Author.Tests.{le-leb, eqb-true}
 use lib.Dec.{leb, ltb, eqb}
 use lib.IntN.{pos, negℤ}
-use lib.ListN.{length, getD, drop, length-map}
+use lib.ListN.{length, getD, drop}
 use Rattle.lists.specs.Every.{every}
 use Rattle.lists.proofs.Conjunctions.{both}
 use Rattle.tabletext.specs.declared.Class.{Class}
@@ -17,9 +17,9 @@ use Rattle.tabletext.specs.declared.Value.the-variants.{Malformed, WordNone, Nu
 use Rattle.tabletext.specs.Bytes.{between, rank, classOf, isOf, same}
 use Rattle.tabletext.specs.Pieces.{onto, linesOf, lastClosed, fieldsOf}
 use Rattle.tabletext.specs.Tables.{nameLine, valueLine}
-use Rattle.tabletext.specs.Values.{isName, isValue, valueOf, numeral, leadKept, fromDigits, negated, negative, noneWord, wellFormed}
+use Rattle.tabletext.specs.Values.{isName, isValue, valueOf, numeral, leadKept, fromDigits, negative, noneWord, wellFormed}
 use Rattle.tabletext.proofs.Alike.{same-eq}
-use Rattle.casetext.specs.Form.{mostBytes, unitHead, unitRow, emptyLine, priceHead, priceRows, isEmpty, tableFormed, formKept}
+use Rattle.casetext.specs.Form.{mostBytes, unitHead, unitRow, priceHead, priceRows, isEmpty, tableFormed, formKept}
 use Rattle.casefile.proofs.Checking.{every-map}
 use Rattle.writing.specs.Writing.{joined, closing}
 use Rattle.writing.proofs.AsWritten.{formed-is, lines-are}

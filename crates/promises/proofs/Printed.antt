@@ -32,7 +32,6 @@ use Rattle.listing.specs.declared.Fit.the-variants.{Bytes, TooLong}
 use Rattle.listing.specs.Listing.{intervalLine, intervalLines, listing, refusal, writtenBy, bytesIn, bufferAfter}
 use Rattle.listing.proofs.Numbers.{number-short, number-digits}
 use Rattle.listing.proofs.Lengths.{signed-short, outcome-short, line-length, profit-length, outcomes-length, listing-length, refusal-length}
-use Rattle.planner.specs.declared.Reported.{Reported}
 use Rattle.planner.specs.declared.Reported.the-variants as reports
 use Rattle.planner.specs.Planning.{plannedPart}
 use Rattle.planner.specs.Reporting.{reportedBy, reportedNumber}

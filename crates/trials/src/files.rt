@@ -25,10 +25,9 @@ fn try_argument(i: usize) {
     let n = os::arg(i, &mut path);
     text(&path[..n]);
     text(b"\n");
-    // One byte more than a text may have, so that a longer one shows.
-    let mut bytes = [0u8; 12289];
+    let mut bytes = [0u8; answers::TEXT_ROOM];
     let size = contents(&path[..n], &mut bytes);
-    let mut prices = [0i64; 6144];
+    let mut prices = [0i64; answers::PRICE_ROOM];
     try_text(&bytes[..size], &mut prices);
     text(b"\n");
 }
@@ -59,7 +58,7 @@ fn try_text(bytes: &[u8], prices: &mut [i64]) {
 }
 
 fn try_case(unit: UnitRecord, prices: &[i64]) {
-    let mut scratch = [0i64; 4000];
+    let mut scratch = [0i64; answers::CELL_ROOM];
     match planner::value(unit, prices, &mut scratch) {
         Valued::Refused(cause) => refused(commitment::number_of(cause)),
         Valued::Outcomes(outcomes) => try_plan(unit, prices, outcomes),
@@ -67,8 +66,8 @@ fn try_case(unit: UnitRecord, prices: &[i64]) {
 }
 
 fn try_plan(unit: UnitRecord, prices: &[i64], outcomes: Outcomes) {
-    let mut scratch = [0i64; 4000];
-    let mut schedule = [0u64; 6144];
+    let mut scratch = [0i64; answers::CELL_ROOM];
+    let mut schedule = [0u64; answers::PRICE_ROOM];
     let mut number = 0;
     let mut profit = 0;
     let plan = planner::plan(

@@ -5,7 +5,7 @@ use Rattle.commitment.specs.declared.Checked.{Checked}
 use Rattle.commitment.specs.Ranges.{pricesKept}
 use Rattle.commitment.proofs.Causes.{checkedThen}
 use Rattle.commitment.proofs.Passing.{Passing}
-use Rattle.casefile.specs.Reading.{unitIn, pricesIn, textChecked}
+use Rattle.casefile.specs.Reading.{unitIn, pricesIn}
 use Rattle.answers.specs.Answering.{lentFound}
 use borrow.Author.Needs.{needs}
 use Rattle.answers.proofs.Found.{slices, lent-in-turn, case-passing}
