@@ -7,7 +7,7 @@ use Rattle.commitment.specs.declared.Cause.the-variants.{Form, Name, Ran
 use Rattle.commitment.specs.declared.Checked.{Checked}
 use Rattle.commitment.specs.declared.Checked.the-variants.{Passed, Refused}
 
--- the number of each cause, by the specification's table, in the order in which causes are given
+-- the number of each cause, in the order in which causes are given
 abbrev pub numberOf : Cause → ℕ
 numberOf Form = 1
 numberOf Name = 2

@@ -72,7 +72,7 @@ pub struct Limits {
     pub mwh: Limit,
 }
 
-// The unit record of the specification, in its groups.
+// The unit record (specification 2), in its groups.
 pub struct UnitRecord {
     pub generator: Generator,
     pub costs: Costs,
@@ -321,7 +321,7 @@ pub fn margin(price: i64, output: u64, vec: u64, least: u64, mlc: u64) -> i64
     price * m - cost - integers::signed(mlc)
 }
 
-// The number of a cause in the specification's table.
+// The number of a cause (specification 15).
 pub fn number_of(cause: Cause) -> u64
     ensures { λ r. ⌜ r ≡ numberOf cause ⌝ }
 {

@@ -23,7 +23,7 @@ ghost use Rattle.exports.specs.Answers as answers;
 // `none` as the number of a limitation.
 pub const NONE: u64 = 18446744073709551615;
 
-// The unit record, in the specification's order.
+// The unit record, in the order of its fields (specification 16).
 #[repr(C)]
 pub struct UnitNumbers {
     pub block: u64,

@@ -1,4 +1,4 @@
-// The table of the specification's cells in a scratch that is lent: layer t holds, for every cell, the best profit from interval t + 1 on. Cells go
+// The table of cells (specification 14) in a scratch that is lent: layer t holds, for every cell, the best profit from interval t + 1 on. Cells go
 // by what is left of the limitations, so the first layer has the best profit of every smaller limitation too: one fill serves the plan and all
 // runs of valuing. Layers are filled from the last to the first, stretch by stretch over cells that stand side by side, with no division and no
 // test in the innermost loop: a cell without a schedule holds a number so low that no profit reaches it. Where MWh is not limited a cell

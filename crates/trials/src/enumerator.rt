@@ -1,4 +1,4 @@
-// Every list of outputs of a small case, tried in the specification's order and judged by its words. It shares nothing with the planner.
+// Every list of outputs of a small case, tried in order (specification 7) and judged by the rules of specification 4 to 6. It shares nothing with the planner.
 // Money is kept as what is earned and what is spent, two natural numbers, so that no sum is signed.
 
 use crate::numbers::difference;
@@ -62,7 +62,7 @@ pub enum Which {
     Mwh,
 }
 
-// What a limitation is worth: the specification's four outcomes.
+// What a limitation is worth: the four outcomes (specification 9).
 pub enum Worth {
     None,
     Empty,
@@ -118,7 +118,7 @@ pub fn lists_of(case: Case) -> u64 {
     lists
 }
 
-// The number's digits, the first interval's the most significant: counting up goes by the specification's order.
+// The number's digits, the first interval's the most significant: counting up goes by the order of schedules.
 pub fn list_of(case: Case, number: u64) -> [u32; 6] {
     let outputs = outputs_of(case);
     let mut list = [0u32; 6];

@@ -31,7 +31,7 @@ fn try_refusals(mws: &[u64], heats: &[u64]) {
     try_inputs(b"two heat rates", unit, mws, &[9790, 9790]);
 }
 
-// A line of the figures, in the specification's sequence, or of the refusal.
+// A line of the figures, in the sequence vec, suc, mlc, or of the refusal.
 fn try_inputs(name: &[u8], inputs: CostInputs, mws: &[u64], heats: &[u64]) {
     text(name);
     match costs::figures(inputs, mws, heats) {

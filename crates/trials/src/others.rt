@@ -1,4 +1,4 @@
-// What the specification says of C1 besides its plan: the cells that it needs, slices too short, schedules handed in.
+// C1 besides its plan: the cells that it needs, slices too short, schedules handed in.
 
 use crate::files::contents;
 use crate::files::hand_in;
