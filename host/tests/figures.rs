@@ -18,7 +18,14 @@ fn worked_cases() {
         rate: 531_148,
         ..UNIT
     };
-    assert_eq!(of(c11).mlc, 580_037);
+    assert_eq!((of(c11).vec, of(c11).mlc), (6340, 648_835));
+    let of_one_mw = CostInputs {
+        block: 1,
+        pmin: 1,
+        pmax: 81,
+        ..c11
+    };
+    assert_eq!(of(of_one_mw).mlc, 9269);
     let c12 = CostInputs {
         fuel: 100,
         aux: 2,
@@ -28,6 +35,34 @@ fn worked_cases() {
         ..UNIT
     };
     assert_eq!(of(c12).suc, 66_875);
+}
+
+/// 500 blocks of 1 MW have no segment beside them.
+#[test]
+fn tops_of_all_ranges() {
+    let tops = CostInputs {
+        block: 1,
+        pmin: 500,
+        pmax: 500,
+        gas: 10_000,
+        transport: 10_000,
+        allowance: 10_000,
+        om: 10_000,
+        gmc: 10_000,
+        rate: 1_000_000,
+        min_heat: 50_000,
+        fuel: 100_000,
+        aux: 1000,
+        minutes: 1440,
+        start_adder: 10_000_000,
+        load_adder: 10_000_000,
+    };
+    let dearest = CostFigures {
+        vec: 0,
+        suc: 2_270_000_000,
+        mlc: 545_000_000,
+    };
+    assert_eq!(figures(tops, &[], &[]), Ok(dearest));
 }
 
 #[test]

@@ -43,11 +43,12 @@ sucFraction k =
     whole (k .fuel * fuelPrice k) plus whole (k .aux * 10 * k .gas) plus whole (k .fuel) times allowanceCost k plus whole (k .«start_adder»)
     plus (pminMw k * k .minutes) over 60 times k .gmc over 2
 
--- ---- (3) mlc, as printed: heat rate × Pmin MW × (gas + transport) / 1000 + allowance × rate / 10,000,000 × heat rate / 1000 + om × Pmin MW
+-- ---- (3) mlc: heat rate × Pmin MW × (gas + transport) / 1000 + allowance × rate / 10,000,000 × heat rate / 1000 × Pmin MW + om × Pmin MW
 -- + load adder + gmc × Pmin MW
 
+-- the appendix prints this term without Pmin MW, the guide to bid generation multiplies by it: the guide is followed
 abbrev pub allowanceAtMinimum : CostInputs → Fraction
-allowanceAtMinimum k = allowanceCost k times k .«min_heat» over 1000
+allowanceAtMinimum k = allowanceCost k times k .«min_heat» over 1000 times whole (pminMw k)
 
 abbrev pub mlcFraction : CostInputs → Fraction
 mlcFraction k =

@@ -1,10 +1,13 @@
--- C10, C11 and C12 of the specification by the whole answer of `figures`, check and all.
+-- C10, C11 and C12 of the specification and the largest figures, by the whole answer of `figures`, check and all.
 use mathlib.Core.Path.{_≡_, refl}
 use mathlib.Core.List.{[], _∷_}
 use Rattle.rounding.specs.Rounding.{rounded}
 use Rattle.commitment.specs.declared.CostInputs.{CostInputs}
+use Rattle.commitment.specs.Bounds.{mostBlocks}
 use Rattle.commitment.specs.Twelve.{c10-but}
 use Rattle.costs.specs.declared.Costed.{Costed}
+use Rattle.costs.specs.declared.Costed.the-variants.{Figures}
+use Rattle.costs.specs.Bounds.{mostTariff, mostRate, mostHeat, mostFuel, mostAux, mostMinutes, mostAdder}
 use Rattle.costs.specs.Ranges.{inputsKept, segmentsKept, inputsChecked}
 use Rattle.costs.specs.Answers.{costed, costedVec, costedSuc, costedMlc}
 
@@ -12,8 +15,37 @@ use Rattle.costs.specs.Answers.{costed, costedVec, costedSuc, costedMlc}
 abbrev answer : CostInputs → Costed
 answer k = costed k (80 ∷ []) (9790 ∷ [])
 
+abbrev c11 : CostInputs
+c11 = c10-but 280 50 1300 531148 0 0 0
+
+-- C11's vec too: the allowances above minimum load
 pub cases :
-    costedVec (answer (c10-but 280 0 0 0 0 0 0)) ∷ costedMlc (answer (c10-but 280 50 1300 531148 0 0 0)) ∷ costedSuc (answer (c10-but 0 50 0 0 100 2 30)) ∷ []
-    ≡ 5665 ∷ 580037 ∷ 66875 ∷ []
+    costedVec (answer (c10-but 280 0 0 0 0 0 0)) ∷ costedMlc (answer c11) ∷ costedVec (answer c11) ∷ costedSuc (answer (c10-but 0 50 0 0 100 2 30)) ∷ []
+    ≡ 5665 ∷ 648835 ∷ 6340 ∷ 66875 ∷ []
 unfolding costed inputsChecked inputsKept segmentsKept rounded
 cases = refl
+
+-- every input at the top of its range, on 500 blocks of 1 MW; it has no segments
+abbrev tops : CostInputs
+tops =
+    record {
+      block = 1;
+      pmin = mostBlocks;
+      pmax = mostBlocks;
+      gas = mostTariff;
+      transport = mostTariff;
+      allowance = mostTariff;
+      om = mostTariff;
+      gmc = mostTariff;
+      rate = mostRate;
+      «min_heat» = mostHeat;
+      fuel = mostFuel;
+      aux = mostAux;
+      minutes = mostMinutes;
+      «start_adder» = mostAdder;
+      «load_adder» = mostAdder;
+    }
+
+pub at-the-tops : costed tops [] [] ≡ Figures (record { vec = 0; suc = 2270000000; mlc = 545000000 })
+unfolding costed inputsChecked inputsKept segmentsKept rounded
+at-the-tops = refl

@@ -11,7 +11,7 @@ use Rattle.rounding.specs.Fractions.{_over_}
 use Rattle.rounding.specs.Rounding.{rounded}
 use Rattle.commitment.specs.Figures.{pminMw, fuelPrice, allowanceCost, allowanceAtMinimum, segmentCost, totalMw, weightedCost}
 use Rattle.commitment.specs.Figures.{vecFraction, sucFraction, mlcFraction, vecOf, sucOf, mlcOf}
-use Rattle.costs.specs.Numerators.{units, startUnits, heatPrice, segmentUnits, weightedUnits, sucUnits, allowanceUnits, mlcUnits}
+use Rattle.costs.specs.Numerators.{units, startUnits, heatPrice, segmentUnits, weightedUnits, sucUnits, mlcUnits}
 use Rattle.rounding.proofs.Fractions.{Worth, worth-over, worth-whole, worth-plus, worth-times, worth-as, worth-scaled}
 use Rattle.rounding.proofs.Rounding.{rounded-same}
 
@@ -72,8 +72,9 @@ module _ (k : CostInputs) where
 
   -- ---- (3)
 
-  allowances-worth : Worth units (allowanceUnits k) (allowanceAtMinimum k)
-  allowances-worth = worth-times {d = 10000000} {e = 1000} allowance-worth (worth-over (lit< tt))
+  allowances-worth : Worth units (k .allowance * k .rate * k .«min_heat» * pminMw k) (allowanceAtMinimum k)
+  allowances-worth =
+      worth-times {d = units} {e = 1} (worth-times {d = 10000000} {e = 1000} allowance-worth (worth-over (lit< tt))) (worth-over (lit< tt))
 
   pub mlc-worth : Worth units (mlcUnits k) (mlcFraction k)
   mlc-worth =

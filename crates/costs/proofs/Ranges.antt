@@ -172,6 +172,7 @@ module _ (k : CostInputs) (range : InRange k) where
     pub load-sizes : LoadSizes k
     load-sizes =
         let heat = mul-le-mul (range .min-heat) pmin-mw in
+        let allowance-heat = mul-le-mul (heat-sizes .allowance) (range .min-heat) in
         record {
           price = heat-sizes .price;
           mw = pmin-mw;
@@ -181,5 +182,6 @@ module _ (k : CostInputs) (range : InRange k) where
           gmc = mul-le-mul (range .gmc) pmin-mw;
           adder = range .load-adder;
           allowance = heat-sizes .allowance;
-          allowances = mul-le-mul (heat-sizes .allowance) (range .min-heat);
+          allowance-heat = allowance-heat;
+          allowances = mul-le-mul allowance-heat pmin-mw;
         }

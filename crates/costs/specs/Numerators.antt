@@ -35,10 +35,7 @@ sucUnits k =
 
 -- ---- (3)
 
--- the allowances at minimum load
-abbrev pub allowanceUnits : CostInputs → ℕ
-allowanceUnits k = k .allowance * k .rate * k .«min_heat»
-
 abbrev pub mlcUnits : CostInputs → ℕ
 mlcUnits k =
-    k .«min_heat» * pminMw k * fuelPrice k * 10000000 + allowanceUnits k + (k .om * pminMw k + k .«load_adder» + k .gmc * pminMw k) * units
+    k .«min_heat» * pminMw k * fuelPrice k * 10000000 + k .allowance * k .rate * k .«min_heat» * pminMw k
+    + (k .om * pminMw k + k .«load_adder» + k .gmc * pminMw k) * units

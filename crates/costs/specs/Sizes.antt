@@ -32,4 +32,5 @@ pub record LoadSizes (k : CostInputs) : Type 0 where
   pub gmc : k .gmc * (k .pmin * k .block) ≤ mostTariff * mostMw
   pub adder : k .«load_adder» ≤ mostAdder
   pub allowance : k .allowance * k .rate ≤ mostTariff * mostRate
-  pub allowances : k .allowance * k .rate * k .«min_heat» ≤ mostTariff * mostRate * mostHeat
+  pub allowance-heat : k .allowance * k .rate * k .«min_heat» ≤ mostTariff * mostRate * mostHeat
+  pub allowances : k .allowance * k .rate * k .«min_heat» * (k .pmin * k .block) ≤ mostTariff * mostRate * mostHeat * mostMw

@@ -15,7 +15,7 @@ ghost use Rattle.commitment.specs.Figures.{vecOf, sucOf, mlcOf, totalMw};
 ghost use Rattle.costs.specs.Ranges.{oneTo, sizesKept, tariffsKept, ratesKept, startKept, inputsKept, segmentsKept, outputsKept, inputsChecked};
 ghost use Rattle.costs.specs.Answers.{costed, threeFigures};
 ghost use Rattle.costs.specs.Sizes.{HeatSizes, StartSizes, LoadSizes};
-ghost use Rattle.costs.specs.Numerators.{heatPrice, weightedUnits, sucUnits, mlcUnits, allowanceUnits};
+ghost use Rattle.costs.specs.Numerators.{heatPrice, weightedUnits, sucUnits, mlcUnits};
 
 // The ends of the ranges. specs/Bounds.antt has the same.
 const MOST_MW: u64 = 500;
@@ -251,7 +251,7 @@ fn suc_units(inputs: CostInputs) -> u64
     cents * START_UNITS + allowances * 120 + grid * 10000000
 }
 
-// (3) as printed
+// (3)
 fn mlc_of(inputs: CostInputs) -> u64
     requires { ⌜ LoadSizes inputs ⌝ }
     ensures { λ r. ⌜ r ≡ mlcOf inputs ⌝ }
@@ -266,14 +266,7 @@ fn mlc_units(inputs: CostInputs) -> u64
 {
     let mw = inputs.pmin * inputs.block;
     let fuel = inputs.min_heat * mw * (inputs.gas + inputs.transport);
+    let allowances = inputs.allowance * inputs.rate * inputs.min_heat * mw;
     let cents = inputs.om * mw + inputs.load_adder + inputs.gmc * mw;
-    fuel * 10000000 + allowance_at_minimum(inputs) + cents * UNITS
-}
-
-// The term of (3) that Pmin MW does not scale.
-fn allowance_at_minimum(inputs: CostInputs) -> u64
-    requires { ⌜ LoadSizes inputs ⌝ }
-    ensures { λ r. ⌜ r ≡ allowanceUnits inputs ⌝ }
-{
-    inputs.allowance * inputs.rate * inputs.min_heat
+    fuel * 10000000 + allowances + cents * UNITS
 }

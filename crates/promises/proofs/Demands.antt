@@ -16,7 +16,10 @@ use Rattle.commitment.specs.declared.Limitation.{Limitation}
 use Rattle.commitment.specs.declared.Outcome.the-variants.{Never}
 use Rattle.commitment.specs.declared.Outcomes.{Outcomes}
 use Rattle.commitment.specs.declared.UnitRecord.{UnitRecord}
+use Rattle.rounding.specs.Fractions.{signed}
+use Rattle.rounding.specs.Rounding.{HalfUp}
 use Rattle.commitment.specs.Causes.{numberOf}
+use Rattle.commitment.specs.Figures.{pminMw}
 use Rattle.commitment.specs.Order.{earlier}
 use Rattle.commitment.specs.Profit.{profit}
 use Rattle.commitment.specs.Ranges.{pricesKept, caseChecked}
@@ -56,9 +59,11 @@ use Rattle.answers.specs.Answering.{serves, lentFound, reportOn, answered, prin
 use Rattle.answers.specs.Sizes.{outRoom, programLends}
 use Rattle.promises.specs.Causes.{FirstOf, NoneOf, ReadCause, CostCause, HandCause, PlanCause, ValueCause}
 use Rattle.promises.specs.Causes.{AnswerCause, readingOrder, costOrder, handInOrder, planningOrder, valuingOrder, answeringOrder}
+use Rattle.promises.specs.Appendix.{mlcPrinted}
 use Rattle.promises.specs.Outcomes.{outcomeFor}
 use Rattle.promises.specs.Sequences.{InSomeSequence}
 use Rattle.promises.specs.Tables.{TwoTables}
+use Rattle.promises.proofs.Appendix as appendix
 use Rattle.promises.proofs.Causes as causes
 use Rattle.promises.proofs.Forms as forms
 use Rattle.promises.proofs.Names as names
@@ -252,6 +257,12 @@ passed-exactly = passed.passed-exactly
 pub rounded-once : (k : CostInputs) (mws heats : List ℕ) (figures : CostFigures) → costed k mws heats ≡ costing.Figures figures
     → RoundedOnce k mws heats figures
 rounded-once = rounding.rounded-once
+
+-- The allowances of (3) are multiplied by Pmin MW; a unit of 1 MW has the mlc of the formula as printed.
+
+pub one-mw-as-printed : (k : CostInputs) → pminMw k ≡ 1 → (mws heats : List ℕ) (figures : CostFigures) → costed k mws heats ≡ costing.Figures figures
+    → HalfUp (pos (figures .mlc)) (signed (mlcPrinted k))
+one-mw-as-printed = appendix.one-mw-as-printed
 
 -- ---- Demand 3. No rival earns more than the plan, and none that earns as much is earlier. The plan is the first n entries
 -- of the schedule slice, n the count given; the entries behind are as they were.

@@ -1,4 +1,4 @@
-// The cost figures: C10 to C12, and each cause for which there are none.
+// The cost figures: C10 to C12, a unit of 1 MW, the tops of all ranges, and each cause for which there are no figures.
 
 use crate::printing::line;
 use crate::printing::row;
@@ -20,6 +20,8 @@ fn try_gas_unit(mws: &[u64], heats: &[u64]) {
     try_inputs(b"c10", unit, mws, heats);
     try_inputs(b"c11", with_allowances(unit), mws, heats);
     try_inputs(b"c12", with_start(unit), mws, heats);
+    try_inputs(b"c11 at 1 mw", of_one_mw(with_allowances(unit)), mws, heats);
+    try_inputs(b"tops", tops(), &[], &[]);
 }
 
 // A heat rate too high, pmin over pmax, 80 MW of segments for 90, and more heat rates than segments.
@@ -75,6 +77,36 @@ fn with_start(unit: CostInputs) -> CostInputs {
     inputs.minutes = 30;
     inputs.gmc = 50;
     inputs
+}
+
+// The same span of 80 MW, above 1 MW.
+fn of_one_mw(unit: CostInputs) -> CostInputs {
+    let mut inputs = unit;
+    inputs.block = 1;
+    inputs.pmin = 1;
+    inputs.pmax = 81;
+    inputs
+}
+
+// Every input at the top of its range; 500 blocks are of 1 MW.
+fn tops() -> CostInputs {
+    CostInputs {
+        block: 1,
+        pmin: 500,
+        pmax: 500,
+        gas: 10000,
+        transport: 10000,
+        allowance: 10000,
+        om: 10000,
+        gmc: 10000,
+        rate: 1000000,
+        min_heat: 50000,
+        fuel: 100000,
+        aux: 1000,
+        minutes: 1440,
+        start_adder: 10000000,
+        load_adder: 10000000,
+    }
 }
 
 fn with_pmin(unit: CostInputs, pmin: u64) -> CostInputs {

@@ -314,7 +314,7 @@ pub fn figures(k: &CostInputs, mws: &[u64], heats: &[u64]) -> Result<CostFigures
     let heat = int(k.min_heat);
     let mlc = rounded(
         heat * pmin_mw * (gas + transport) * scale
-            + allowance * rate * heat
+            + allowance * rate * heat * pmin_mw
             + (om * pmin_mw + int(k.load_adder) + gmc * pmin_mw) * 1000 * scale,
         1000 * scale,
     );
