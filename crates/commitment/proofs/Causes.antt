@@ -1,4 +1,4 @@
--- The laws of a list of checks: what passes it, what it refuses, and one list after another.
+-- The laws of a list of checks: what passes it, and one list after another.
 use mathlib.Core.Path.{_≡_, refl}
 use mathlib.Core.Bool.{Bool, true, false}
 use mathlib.Core.List.{List, [], _∷_, _++_}
@@ -14,8 +14,6 @@ use Rattle.commitment.specs.Causes.{Check, unless, firstOf}
 pub unless-passed : (t : Bool) (cause : Cause) (rest : Checked) → unless t cause rest ≡ Passed → (t ≡ true) × (rest ≡ Passed)
 unless-passed true cause rest e = (refl, e)
 unless-passed false cause rest e = let z : _≡_ {A = ℕ} 0 1 = cc in absurd (omega arith)
-
--- ---- one that refuses gives the first cause that holds, and no cause before it does
 
 -- ---- further checks, after those that come first
 

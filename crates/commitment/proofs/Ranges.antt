@@ -24,7 +24,6 @@ pub record GeneratorRanges (g : Generator) : Type 0 where
   pub block-most : g .block ≤ mostMw
   pub pmin-least : 1 ≤ g .pmin
   pub pmin-most : g .pmin ≤ mostBlocks
-  pub pmax-least : 1 ≤ g .pmax
   pub pmax-most : g .pmax ≤ mostBlocks
   pub mot-least : 1 ≤ g .mot
   pub mot-most : g .mot ≤ mostTime
@@ -62,7 +61,6 @@ generator-ranges g e =
       block-most = leb-true (g .block) mostMw (f2 .1);
       pmin-least = leb-true 1 (g .pmin) (f3 .1);
       pmin-most = leb-true (g .pmin) mostBlocks (f4 .1);
-      pmax-least = leb-true 1 (g .pmax) (f5 .1);
       pmax-most = leb-true (g .pmax) mostBlocks (f6 .1);
       mot-least = leb-true 1 (g .mot) (f7 .1);
       mot-most = leb-true (g .mot) mostTime (f8 .1);

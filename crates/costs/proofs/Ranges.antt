@@ -1,6 +1,6 @@
 -- What the check of the inputs says, as orders of numbers; and so how large the products of the code get.
-use mathlib.Core.Path.{_≡_, refl}
-use mathlib.Core.Bool.{Bool, true, false, _&&_}
+use mathlib.Core.Path.{_≡_}
+use mathlib.Core.Bool.{true, _&&_}
 use mathlib.Core.List.{List}
 use Prim.Native.Nat.{ℕ, _-_, _*_, _≤_}
 use native.Mathlib.Nat.{le-refl, mul-le-mul, mul-le-mul-right}
@@ -11,16 +11,14 @@ use lib.ListN.{length}
 use Rattle.costs.specs.Bounds.{mostTariff, mostRate, mostHeat, mostSegments, mostFuel, mostAux, mostMinutes, mostAdder}
 use Rattle.commitment.specs.Bounds.{mostMw, mostBlocks}
 use Rattle.commitment.specs.declared.CostInputs.{CostInputs}
-use Rattle.commitment.specs.declared.Cause.{Cause}
 use Rattle.commitment.specs.declared.Cause.the-variants.{Range, Shape, Segments, Length}
-use Rattle.commitment.specs.declared.Checked.{Checked}
 use Rattle.commitment.specs.declared.Checked.the-variants.{Passed}
-use Rattle.commitment.specs.Causes.{unless}
 use Rattle.lists.specs.Every.{every}
 use Rattle.commitment.specs.Figures.{totalMw}
 use Rattle.costs.specs.Ranges.{oneTo, countKept, sizesKept, tariffsKept, ratesKept, startKept}
 use Rattle.costs.specs.Ranges.{inputsKept, segmentsKept, outputsKept, rangeMw, inputsChecked}
 use Rattle.costs.specs.Sizes.{HeatSizes, StartSizes, LoadSizes}
+use Rattle.commitment.proofs.Causes.{unless-passed}
 use Rattle.lists.proofs.Conjunctions.{both}
 
 -- ---- the inputs but for the segments
@@ -93,7 +91,6 @@ in-shape k e =
 
 pub record InSegments (mws heats : List ℕ) : Type 0 where
   pub mw-count : length mws ≤ mostSegments
-  pub heat-count : length heats ≤ mostSegments
   pub mws-kept : every (oneTo mostMw) mws ≡ true
   pub heats-kept : every (oneTo mostHeat) heats ≡ true
 
@@ -105,16 +102,11 @@ in-segments mws heats e =
     let f2 = both (countKept (length mws)) (countKept (length heats)) (f3 .0) in
     record {
       mw-count = leb-true (length mws) mostSegments (f2 .0);
-      heat-count = leb-true (length heats) mostSegments (f2 .1);
       mws-kept = f3 .1;
       heats-kept = f4 .1;
     }
 
 -- ---- the whole check
-
-passed : (kept : Bool) (cause : Cause) (rest : Checked) → unless kept cause rest ≡ Passed → (kept ≡ true) × (rest ≡ Passed)
-passed true cause rest e = (refl, e)
-passed false cause rest e = let z : _≡_ {A = ℕ} 0 1 = cc in absurd (omega arith)
 
 pub record Accepted (k : CostInputs) (mws heats : List ℕ) : Type 0 where
   pub inputs : InRange k
@@ -126,10 +118,10 @@ pub record Accepted (k : CostInputs) (mws heats : List ℕ) : Type 0 where
 pub accepted : (k : CostInputs) (mws heats : List ℕ) → inputsChecked k mws heats ≡ Passed → Accepted k mws heats
 unfolding inputsChecked
 accepted k mws heats e =
-    let ranges = passed (inputsKept k && segmentsKept mws heats) Range _ e in
-    let shape = passed (outputsKept k) Shape _ (ranges .1) in
-    let total = passed (eqb (totalMw mws) (rangeMw k)) Segments _ (shape .1) in
-    let lengths = passed (eqb (length mws) (length heats)) Length _ (total .1) in
+    let ranges = unless-passed (inputsKept k && segmentsKept mws heats) Range _ e in
+    let shape = unless-passed (outputsKept k) Shape _ (ranges .1) in
+    let total = unless-passed (eqb (totalMw mws) (rangeMw k)) Segments _ (shape .1) in
+    let lengths = unless-passed (eqb (length mws) (length heats)) Length _ (total .1) in
     let f = both (inputsKept k) (segmentsKept mws heats) (ranges .0) in
     record {
       inputs = in-range k (f .0);

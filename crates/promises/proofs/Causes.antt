@@ -1,94 +1,124 @@
 -- A number is given exactly where its cause is the first of the call's order that holds, and an answer exactly where none holds.
 use mathlib.Core.Path.{_≡_, refl, sym, ap, _∙_}
-use mathlib.Core.Bool.{Bool, true, false, _&&_}
-use mathlib.Core.List.{List, [], _∷_, _++_, map}
-use mathlib.Core.Logic.{_↔_, _⊎_, inl, inr, ⊎-elim, Iff·rfl, Iff·trans}
+use mathlib.Core.Bool.{Bool, true, false, _&&_, not}
+use mathlib.Core.List.{List, [], _∷_, _++_}
+use mathlib.Core.Logic.{_↔_, inl, inr, ⊎-elim, Iff·rfl, Iff·trans}
 use Prim.Native.Nat.{ℕ, _<_}
 use native.Mathlib.Omega.{arith}
-use borrow.Author.Tests.{leb-false, lt-leb, eqb-false, ne-eqb}
+use borrow.Author.Tests.{leb-false, lt-leb, eqb-false, ne-eqb, not-true}
 use lib.Dec.{leb, eqb}
 use lib.IntN.{ℤ}
 use lib.ListN.{length}
 use Rattle.lists.proofs.Conjunctions.{both}
 use Rattle.commitment.specs.declared.Cause.{Cause}
-use Rattle.commitment.specs.declared.Cause.the-variants.{NoSchedule}
+use Rattle.commitment.specs.declared.Cause.the-variants.{Length, Scratch, NoSchedule}
 use Rattle.commitment.specs.declared.Checked.{Checked}
 use Rattle.commitment.specs.declared.Checked.the-variants.{Passed, Refused}
 use Rattle.commitment.specs.declared.CostInputs.{CostInputs}
 use Rattle.commitment.specs.declared.Outcomes.{Outcomes}
 use Rattle.commitment.specs.declared.UnitRecord.{UnitRecord}
 use Rattle.commitment.specs.Best.{Plan, nothing, plan, best}
-use Rattle.commitment.specs.Causes.{Check, unless, firstOf}
+use Rattle.commitment.specs.Causes.{numberOf, Check, _else_, unless, firstOf}
 use Rattle.commitment.specs.Cells.{cellsNeeded}
 use Rattle.commitment.specs.Figures.{totalMw}
 use Rattle.commitment.specs.Profit.{profit}
-use Rattle.commitment.specs.Ranges.{rangesKept, shapeKept, pricesKept}
+use Rattle.commitment.specs.Ranges.{rangesKept, shapeKept, pricesKept, caseChecks}
 use Rattle.commitment.specs.Valuing.{outcomesOf}
 use Rattle.commitment.proofs.Causes.{in-turn, unless-passed, then-passed}
 use Rattle.optimality.proofs.Optimal.{no-schedule-exactly}
 use Rattle.casefile.specs.declared.CaseRead.the-variants as read
 use Rattle.casefile.specs.Answers.{readBy, readCase}
-use Rattle.casefile.specs.Reading.{unitIn, pricesIn, textChecks, textChecked}
+use Rattle.casefile.specs.Reading.{unitIn, pricesIn, writtenChecks, roomChecks, textChecks, textChecked}
 use Rattle.costs.specs.Ranges.{rangeMw, inputsChecks, inputsChecked}
 use Rattle.costs.specs.declared.Costed.the-variants as cost
 use Rattle.costs.specs.Answers.{threeFigures, costedBy, costed}
 use Rattle.assessment.specs.declared.Assessed.the-variants as hand
-use Rattle.assessment.specs.Assessed.{handInChecks, handInChecked, assessedBy, assessed}
+use Rattle.assessment.specs.Assessed.{handedChecks, handInChecks, handInChecked, assessedBy, assessed}
 use Rattle.planner.specs.declared.Planned.the-variants as plans
 use Rattle.planner.specs.declared.Report.{Report}
 use Rattle.planner.specs.declared.Reported.the-variants as reports
 use Rattle.planner.specs.declared.Valued.the-variants as values
-use Rattle.planner.specs.Planning.{hasSchedule, scheduleChecks, scheduleChecked, lentChecks, planChecks, planChecked, plannedBy, planned}
+use Rattle.planner.specs.Planning.{hasSchedule, slicesChecks, scheduleChecks, scheduleChecked, lentChecks, planChecks, planChecked, plannedBy, planned}
 use Rattle.planner.specs.Reporting.{reportedBy, reported}
 use Rattle.planner.specs.Valuing.{valueChecks, valueChecked, valuedBy, valued}
 use Rattle.answers.specs.declared.Lent.{Lent}
-use Rattle.answers.specs.Answering.{allFound, reportOn}
+use Rattle.answers.specs.Answering.{longEnough, allFound, reportOn}
 use Rattle.answers.specs.Answering as answers
-use Rattle.promises.specs.Causes.{FirstOf, NoneOf, ReadCause, CostCause, HandCause, NoRival, PlanCause, ValueCause}
-use Rattle.promises.specs.Causes.{AnswerCause, readingOrder, costOrder, handInOrder, planningOrder, valuingOrder, answeringOrder}
+use Rattle.promises.specs.Causes.{Reason, _when_, FirstOf, NoneOf, caseCauses, textCauses, readingCauses, costCauses, handedCauses, handInCauses}
+use Rattle.promises.specs.Causes.{NoRival, tableCauses, planningCauses, valuingCauses, answeringCauses}
 
 -- ---- along any list of checks: each fails exactly where its cause holds, where those before it are kept
 
-module _ (Holds : Cause → Type 0) where
-  abbrev pub Judged : List Check → Type 0
-  Judged [] = Unit {0}
-  Judged (check ∷ checks) = ((check .kept ≡ false) ↔ Holds (check .cause)) × (check .kept ≡ true → Judged checks)
+abbrev pub Judged : List Check → List Reason → Type 0
+Judged [] [] = Unit {0}
+Judged [] (reason ∷ reasons) = ⊥
+Judged (check ∷ checks) [] = ⊥
+Judged (check ∷ checks) (reason ∷ reasons) =
+    (check .cause ≡ reason .cause) × ((check .kept ≡ false) ↔ reason .Holds) × (check .kept ≡ true → Judged checks reasons)
 
-  abbrev pub order : List Check → List Cause
-  order checks = map (λ (check : Check). check .cause) checks
+-- a check that is kept has no cause that holds
+kept-none : {t : Bool} {Holds : Type 0} → (t ≡ false) ↔ Holds → t ≡ true → Holds → ⊥
+kept-none judged i holds =
+    let no : true ≡ false = sym i ∙ judged .1 holds in
+    let z : _≡_ {A = ℕ} 0 1 = cc in
+    absurd (omega arith)
 
-  -- a check that is kept has no cause that holds
-  kept-none : {t : Bool} {first : Cause} → (t ≡ false) ↔ Holds first → t ≡ true → Holds first → ⊥
-  kept-none judged i holds =
-      let no : true ≡ false = sym i ∙ judged .1 holds in
-      let z : _≡_ {A = ℕ} 0 1 = cc in
-      absurd (omega arith)
+module _ (first : Cause) (reason : Reason) (same : first ≡ reason .cause) (rest : Checked) (later : List Reason) where
+  refused-step : {cause : Cause} (t : Bool) → (t ≡ false) ↔ reason .Holds → (t ≡ true → (rest ≡ Refused cause) ↔ FirstOf later cause)
+      → (unless t first rest ≡ Refused cause) ↔ FirstOf (reason ∷ later) cause
+  refused-step true judged next =
+      let none = kept-none judged refl in
+      (λ e. inr (none, next refl .0 e), ⊎-elim (λ this. absurd (none (this .1))) (λ further. next refl .1 (further .1)))
+  refused-step {cause} false judged next =
+      let holds = judged .0 refl in (
+        λ e. let here : first ≡ cause = cc in inl (sym same ∙ here, holds),
+        ⊎-elim (λ this. ap Refused (same ∙ this .0)) (λ further. absurd (further .0 holds)),
+      )
 
-  module _ (first : Cause) (rest : Checked) (later : List Cause) where
-    refused-step : {cause : Cause} (t : Bool) → (t ≡ false) ↔ Holds first → (t ≡ true → (rest ≡ Refused cause) ↔ FirstOf Holds later cause)
-        → (unless t first rest ≡ Refused cause) ↔ FirstOf Holds (first ∷ later) cause
-    refused-step true judged next =
-        let none = kept-none judged refl in
-        (λ e. inr (none, next refl .0 e), ⊎-elim (λ this. absurd (none (this .1))) (λ further. next refl .1 (further .1)))
-    refused-step {cause} false judged next =
-        let holds = judged .0 refl in
-        (λ e. let here : first ≡ cause = cc in inl (here, holds), ⊎-elim (λ this. ap Refused (this .0)) (λ further. absurd (further .0 holds)))
+  passed-step : (t : Bool) → (t ≡ false) ↔ reason .Holds → (t ≡ true → (rest ≡ Passed) ↔ NoneOf later)
+      → (unless t first rest ≡ Passed) ↔ NoneOf (reason ∷ later)
+  passed-step true judged next = (λ e. (kept-none judged refl, next refl .0 e), λ none. next refl .1 (none .1))
+  passed-step false judged next =
+      (λ e. let z : _≡_ {A = ℕ} 0 1 = cc in absurd (omega arith), λ none. absurd (none .0 (judged .0 refl)))
 
-    passed-step : (t : Bool) → (t ≡ false) ↔ Holds first → (t ≡ true → (rest ≡ Passed) ↔ NoneOf Holds later)
-        → (unless t first rest ≡ Passed) ↔ NoneOf Holds (first ∷ later)
-    passed-step true judged next = (λ e. (kept-none judged refl, next refl .0 e), λ none. next refl .1 (none .1))
-    passed-step false judged next =
-        (λ e. let z : _≡_ {A = ℕ} 0 1 = cc in absurd (omega arith), λ none. absurd (none .0 (judged .0 refl)))
+pub refused-first : (checks : List Check) (reasons : List Reason) {cause : Cause} → Judged checks reasons
+    → (firstOf checks ≡ Refused cause) ↔ FirstOf reasons cause
+refused-first [] [] judged = (λ e. let z : _≡_ {A = ℕ} 0 1 = cc in absurd (omega arith), λ none. absurd none)
+refused-first [] (reason ∷ reasons) judged = absurd judged
+refused-first (check ∷ checks) [] judged = absurd judged
+refused-first (check ∷ checks) (reason ∷ reasons) judged =
+    refused-step (check .cause) reason (judged .0) (firstOf checks) reasons (check .kept) (judged .1) (λ i. refused-first checks reasons (judged .2 i))
 
-  pub refused-first : (checks : List Check) {cause : Cause} → Judged checks → (firstOf checks ≡ Refused cause) ↔ FirstOf Holds (order checks) cause
-  refused-first [] judged = (λ e. let z : _≡_ {A = ℕ} 0 1 = cc in absurd (omega arith), λ none. absurd none)
-  refused-first (check ∷ checks) judged =
-      refused-step (check .cause) (firstOf checks) (order checks) (check .kept) (judged .0) (λ i. refused-first checks (judged .1 i))
+pub passed-none : (checks : List Check) (reasons : List Reason) → Judged checks reasons → (firstOf checks ≡ Passed) ↔ NoneOf reasons
+passed-none [] [] judged = (λ e. tt, λ none. refl)
+passed-none [] (reason ∷ reasons) judged = absurd judged
+passed-none (check ∷ checks) [] judged = absurd judged
+passed-none (check ∷ checks) (reason ∷ reasons) judged =
+    passed-step (check .cause) reason (judged .0) (firstOf checks) reasons (check .kept) (judged .1) (λ i. passed-none checks reasons (judged .2 i))
 
-  pub passed-none : (checks : List Check) → Judged checks → (firstOf checks ≡ Passed) ↔ NoneOf Holds (order checks)
-  passed-none [] judged = (λ e. tt, λ none. refl)
-  passed-none (check ∷ checks) judged =
-      passed-step (check .cause) (firstOf checks) (order checks) (check .kept) (judged .0) (λ i. passed-none checks (judged .1 i))
+-- a cause that stands once in a list is given only where it holds and none before it does
+abbrev pub apart : Cause → List Reason → Bool
+apart cause [] = true
+apart cause (reason ∷ reasons) = not (eqb (numberOf (reason .cause)) (numberOf cause)) && apart cause reasons
+
+module _ (reason : Reason) where
+  other : (first : Reason) → not (eqb (numberOf (first .cause)) (numberOf (reason .cause))) ≡ true → first .cause ≡ reason .cause → ⊥
+  other first away same = eqb-false _ _ (not-true _ away) (ap numberOf same)
+
+  not-given : (reasons : List Reason) → apart (reason .cause) reasons ≡ true → FirstOf reasons (reason .cause) → ⊥
+  not-given [] away given = given
+  not-given (first ∷ later) away given =
+      let k = both (not (eqb (numberOf (first .cause)) (numberOf (reason .cause)))) (apart (reason .cause) later) away in
+      ⊎-elim (λ this. other first (k .0) (this .0)) (λ further. not-given later (k .1) (further .1)) given
+
+  pub given-once : (before after : List Reason) → apart (reason .cause) before ≡ true → apart (reason .cause) after ≡ true
+      → FirstOf (before ++ (reason ∷ after)) (reason .cause) → NoneOf before × reason .Holds
+  given-once [] after clear away given = ⊎-elim (λ this. (tt, this .1)) (λ further. absurd (not-given after away (further .1))) given
+  given-once (first ∷ before) after clear away given =
+      let k = both (not (eqb (numberOf (first .cause)) (numberOf (reason .cause)))) (apart (reason .cause) before) clear in
+      ⊎-elim (λ this. absurd (other first (k .0) (this .0)))
+      (λ further. let rest = given-once before after (k .1) away (further .1) in ((further .0, rest .0), rest .1))
+      given
 
 -- the checks of the specification: a sum of ranges, at most, as many
 pub at-most : (a b : ℕ) → (leb a b ≡ false) ↔ (b < a)
@@ -97,23 +127,39 @@ at-most a b = (leb-false a b, lt-leb a b)
 pub as-many : (a b : ℕ) → (eqb a b ≡ false) ↔ (a ≡ b → ⊥)
 as-many a b = (eqb-false a b, ne-eqb a b)
 
+-- ---- the checks of a case, and of a text, before those of a call, which may rest on what the case kept
+
+module _ (u : UnitRecord) (prices : List ℤ) where
+  abbrev CaseKept : Type 0 → Type 0
+  CaseKept Then = (rangesKept u && pricesKept prices) ≡ true → shapeKept (u .generator) ≡ true → Then
+
+  case-judged : (checks : List Check) (reasons : List Reason) → CaseKept (Judged checks reasons)
+      → Judged (caseChecks u (pricesKept prices) (length prices) ++ checks) (caseCauses u prices ++ reasons)
+  case-judged checks reasons next = (refl, Iff·rfl, λ ranges. (refl, Iff·rfl, λ shape. (refl, Iff·rfl, λ _. next ranges shape)))
+
+text-judged : (text : List ℕ) (checks : List Check) (reasons : List Reason) → CaseKept (unitIn text) (pricesIn text) (Judged checks reasons)
+    → Judged (writtenChecks text ++ checks) (textCauses text ++ reasons)
+text-judged text checks reasons next =
+    (refl, Iff·rfl, λ _. (refl, Iff·rfl, λ _. case-judged (unitIn text) (pricesIn text) checks reasons next))
+
 -- ---- reading
 
 module _ (text : List ℕ) (room : ℕ) where
-  read-judged : Judged (ReadCause text room) (textChecks text room)
-  read-judged = (Iff·rfl, λ _. (Iff·rfl, λ _. (Iff·rfl, λ _. (Iff·rfl, λ _. (Iff·rfl, λ _. (at-most (length (pricesIn text)) room, λ _. tt))))))
+  read-judged : Judged (textChecks text room) (readingCauses text room)
+  read-judged =
+      text-judged text (roomChecks text room) ((Length when room < length (pricesIn text)) ∷ []) (λ _ _. (refl, at-most (length (pricesIn text)) room, λ _. tt))
 
-  pub reading-refused : {cause : Cause} → (readCase text room ≡ read.Refused cause) ↔ FirstOf (ReadCause text room) readingOrder cause
+  pub reading-refused : {cause : Cause} → (readCase text room ≡ read.Refused cause) ↔ FirstOf (readingCauses text room) cause
   unfolding readCase textChecked
-  reading-refused {cause} = Iff·trans (by (textChecked text room)) (refused-first (ReadCause text room) (textChecks text room) read-judged)
+  reading-refused {cause} = Iff·trans (by (textChecked text room)) (refused-first (textChecks text room) (readingCauses text room) read-judged)
     where
       by : (k : Checked) → (readBy k (unitIn text) (length (pricesIn text)) ≡ read.Refused cause) ↔ (k ≡ Refused cause)
       by Passed = (λ e. let z : _≡_ {A = ℕ} 0 1 = cc in absurd (omega arith), λ e. let z : _≡_ {A = ℕ} 0 1 = cc in absurd (omega arith))
       by (Refused given) = (λ e. let same : given ≡ cause = cc in ap Refused same, λ e. let same : given ≡ cause = cc in ap read.Refused same)
 
-  pub reading-answered : (readCase text room ≡ read.Case (unitIn text) (length (pricesIn text))) ↔ NoneOf (ReadCause text room) readingOrder
+  pub reading-answered : (readCase text room ≡ read.Case (unitIn text) (length (pricesIn text))) ↔ NoneOf (readingCauses text room)
   unfolding readCase textChecked
-  reading-answered = Iff·trans (by (textChecked text room)) (passed-none (ReadCause text room) (textChecks text room) read-judged)
+  reading-answered = Iff·trans (by (textChecked text room)) (passed-none (textChecks text room) (readingCauses text room) read-judged)
     where
       by : (k : Checked) → (readBy k (unitIn text) (length (pricesIn text)) ≡ read.Case (unitIn text) (length (pricesIn text))) ↔ (k ≡ Passed)
       by Passed = (λ e. refl, λ e. refl)
@@ -122,21 +168,24 @@ module _ (text : List ℕ) (room : ℕ) where
 -- ---- cost figures
 
 module _ (k : CostInputs) (mws heats : List ℕ) where
-  cost-judged : Judged (CostCause k mws heats) (inputsChecks k mws heats)
-  cost-judged =
-      (Iff·rfl, λ _. (Iff·rfl, λ _. (as-many (totalMw mws) (rangeMw k), λ _. (as-many (length mws) (length heats), λ _. tt))))
+  cost-judged : Judged (inputsChecks k mws heats) (costCauses k mws heats)
+  cost-judged = (
+    refl,
+    Iff·rfl,
+    λ _. (refl, Iff·rfl, λ _. (refl, as-many (totalMw mws) (rangeMw k), λ _. (refl, as-many (length mws) (length heats), λ _. tt))),
+  )
 
-  pub figures-refused : {cause : Cause} → (costed k mws heats ≡ cost.Refused cause) ↔ FirstOf (CostCause k mws heats) costOrder cause
+  pub figures-refused : {cause : Cause} → (costed k mws heats ≡ cost.Refused cause) ↔ FirstOf (costCauses k mws heats) cause
   unfolding costed inputsChecked
-  figures-refused {cause} = Iff·trans (by (inputsChecked k mws heats)) (refused-first (CostCause k mws heats) (inputsChecks k mws heats) cost-judged)
+  figures-refused {cause} = Iff·trans (by (inputsChecked k mws heats)) (refused-first (inputsChecks k mws heats) (costCauses k mws heats) cost-judged)
     where
       by : (c : Checked) → (costedBy c (threeFigures k mws heats) ≡ cost.Refused cause) ↔ (c ≡ Refused cause)
       by Passed = (λ e. let z : _≡_ {A = ℕ} 0 1 = cc in absurd (omega arith), λ e. let z : _≡_ {A = ℕ} 0 1 = cc in absurd (omega arith))
       by (Refused given) = (λ e. let same : given ≡ cause = cc in ap Refused same, λ e. let same : given ≡ cause = cc in ap cost.Refused same)
 
-  pub figures-answered : (costed k mws heats ≡ cost.Figures (threeFigures k mws heats)) ↔ NoneOf (CostCause k mws heats) costOrder
+  pub figures-answered : (costed k mws heats ≡ cost.Figures (threeFigures k mws heats)) ↔ NoneOf (costCauses k mws heats)
   unfolding costed inputsChecked
-  figures-answered = Iff·trans (by (inputsChecked k mws heats)) (passed-none (CostCause k mws heats) (inputsChecks k mws heats) cost-judged)
+  figures-answered = Iff·trans (by (inputsChecked k mws heats)) (passed-none (inputsChecks k mws heats) (costCauses k mws heats) cost-judged)
     where
       by : (c : Checked) → (costedBy c (threeFigures k mws heats) ≡ cost.Figures (threeFigures k mws heats)) ↔ (c ≡ Passed)
       by Passed = (λ e. refl, λ e. refl)
@@ -145,21 +194,23 @@ module _ (k : CostInputs) (mws heats : List ℕ) where
 -- ---- handing in
 
 module _ (u : UnitRecord) (prices : List ℤ) (s : List ℕ) where
-  hand-judged : Judged (HandCause u prices s) (handInChecks u prices s)
-  hand-judged = (Iff·rfl, λ _. (Iff·rfl, λ _. (Iff·rfl, λ _. (as-many (length s) (length prices), λ _. (Iff·rfl, λ _. tt)))))
+  hand-judged : Judged (handInChecks u prices s) (handInCauses u prices s)
+  hand-judged =
+      case-judged u prices (handedChecks u prices s) (handedCauses u prices s)
+      (λ _ _. (refl, as-many (length s) (length prices), λ _. (refl, Iff·rfl, λ _. tt)))
 
-  pub handing-in-refused : {cause : Cause} → (assessed u prices s ≡ hand.Refused cause) ↔ FirstOf (HandCause u prices s) handInOrder cause
+  pub handing-in-refused : {cause : Cause} → (assessed u prices s ≡ hand.Refused cause) ↔ FirstOf (handInCauses u prices s) cause
   unfolding handInChecked
-  handing-in-refused {cause} = Iff·trans (by (handInChecked u prices s)) (refused-first (HandCause u prices s) (handInChecks u prices s) hand-judged)
+  handing-in-refused {cause} = Iff·trans (by (handInChecked u prices s)) (refused-first (handInChecks u prices s) (handInCauses u prices s) hand-judged)
     where
       by : (k : Checked) → (assessedBy k (profit u prices s) ≡ hand.Refused cause) ↔ (k ≡ Refused cause)
       by Passed = (λ e. let z : _≡_ {A = ℕ} 0 1 = cc in absurd (omega arith), λ e. let z : _≡_ {A = ℕ} 0 1 = cc in absurd (omega arith))
       by (Refused given) = (λ e. let same : given ≡ cause = cc in ap Refused same, λ e. let same : given ≡ cause = cc in ap hand.Refused same)
 
   -- it is passed, with formula (7)
-  pub handing-in-passed : (assessed u prices s ≡ hand.Profit (profit u prices s)) ↔ NoneOf (HandCause u prices s) handInOrder
+  pub handing-in-passed : (assessed u prices s ≡ hand.Profit (profit u prices s)) ↔ NoneOf (handInCauses u prices s)
   unfolding handInChecked
-  handing-in-passed = Iff·trans (by (handInChecked u prices s)) (passed-none (HandCause u prices s) (handInChecks u prices s) hand-judged)
+  handing-in-passed = Iff·trans (by (handInChecked u prices s)) (passed-none (handInChecks u prices s) (handInCauses u prices s) hand-judged)
     where
       by : (k : Checked) → (assessedBy k (profit u prices s) ≡ hand.Profit (profit u prices s)) ↔ (k ≡ Passed)
       by Passed = (λ e. refl, λ e. refl)
@@ -174,6 +225,13 @@ module _ (u : UnitRecord) (prices : List ℤ) where
 
   no-rival : (rangesKept u && pricesKept prices) ≡ true → shapeKept (u .generator) ≡ true → (hasSchedule (best u prices) ≡ false) ↔ NoRival u prices
   no-rival ranges shape = Iff·trans (no-plan (best u prices)) (no-schedule-exactly u (both (rangesKept u) (pricesKept prices) ranges .0) shape prices)
+
+  -- 8 and 9
+  abbrev tableChecks : ℕ → List Check
+  tableChecks cells = (leb (cellsNeeded u (length prices)) cells else Scratch) ∷ scheduleChecks u prices
+
+  table-judged : (cells : ℕ) → CaseKept u prices (Judged (tableChecks cells) (tableCauses u prices cells))
+  table-judged cells ranges shape = (refl, at-most (cellsNeeded u (length prices)) cells, λ _. (refl, no-rival ranges shape, λ _. tt))
 
   -- a list of checks that ends with the schedule's passes where there is a plan
   found : (checks : List Check) → firstOf (checks ++ scheduleChecks u prices) ≡ Passed → best u prices ≡ nothing → ⊥
@@ -208,25 +266,22 @@ module _ (u : UnitRecord) (prices : List ℤ) where
             lie e = let z : _≡_ {A = ℕ} 0 1 = cc in absurd (omega arith)
 
   module _ (cells entries : ℕ) where
-    plan-judged : Judged (PlanCause u prices cells entries) (planChecks u prices cells entries)
-    plan-judged = (
-      Iff·rfl,
-      λ ranges. (
-        Iff·rfl,
-        λ shape. (Iff·rfl, λ _. (at-most (length prices) entries, λ _. (at-most (cellsNeeded u (length prices)) cells, λ _. (no-rival ranges shape, λ _. tt)))),
-      ),
-    )
+    plan-judged : Judged (planChecks u prices cells entries) (planningCauses u prices cells entries)
+    plan-judged =
+        case-judged u prices (slicesChecks u (length prices) (leb (length prices) entries) cells ++ scheduleChecks u prices)
+        ((Length when entries < length prices) ∷ tableCauses u prices cells)
+        (λ ranges shape. (refl, at-most (length prices) entries, λ _. table-judged cells ranges shape))
 
     plan-found : planChecked u prices cells entries ≡ Passed → best u prices ≡ nothing → ⊥
     unfolding planChecked
     plan-found passed none = found (lentChecks u prices (leb (length prices) entries) cells) passed none
 
     pub planning-refused : {cause : Cause} → (planned u prices cells entries ≡ plans.Refused cause)
-        ↔ FirstOf (PlanCause u prices cells entries) planningOrder cause
+        ↔ FirstOf (planningCauses u prices cells entries) cause
     unfolding planChecked
     planning-refused {cause} =
         Iff·trans (by (planChecked u prices cells entries) (best u prices) refl refl)
-        (refused-first (PlanCause u prices cells entries) (planChecks u prices cells entries) plan-judged)
+        (refused-first (planChecks u prices cells entries) (planningCauses u prices cells entries) plan-judged)
       where
         by : (k : Checked) (b : Plan) → planChecked u prices cells entries ≡ k → best u prices ≡ b → (plannedBy k b ≡ plans.Refused cause) ↔ (k ≡ Refused cause)
         by Passed nothing i none = absurd (plan-found i none)
@@ -234,17 +289,17 @@ module _ (u : UnitRecord) (prices : List ℤ) where
         by (Refused given) b i is = (λ e. let same : given ≡ cause = cc in ap Refused same, λ e. let same : given ≡ cause = cc in ap plans.Refused same)
 
     pub reporting-refused : {cause : Cause} → (reported u prices cells entries ≡ reports.Refused cause)
-        ↔ FirstOf (PlanCause u prices cells entries) planningOrder cause
+        ↔ FirstOf (planningCauses u prices cells entries) cause
     unfolding planChecked
     reporting-refused =
         Iff·trans (report-refused (planChecked u prices cells entries) plan-found)
-        (refused-first (PlanCause u prices cells entries) (planChecks u prices cells entries) plan-judged)
+        (refused-first (planChecks u prices cells entries) (planningCauses u prices cells entries) plan-judged)
 
-    pub planning-answered : ((n : ℕ) × (p : ℤ) × (planned u prices cells entries ≡ plans.Plan n p)) ↔ NoneOf (PlanCause u prices cells entries) planningOrder
+    pub planning-answered : ((n : ℕ) × (p : ℤ) × (planned u prices cells entries ≡ plans.Plan n p)) ↔ NoneOf (planningCauses u prices cells entries)
     unfolding planChecked
     planning-answered =
         Iff·trans (by (planChecked u prices cells entries) (best u prices) refl refl)
-        (passed-none (PlanCause u prices cells entries) (planChecks u prices cells entries) plan-judged)
+        (passed-none (planChecks u prices cells entries) (planningCauses u prices cells entries) plan-judged)
       where
         by : (k : Checked) (b : Plan) → planChecked u prices cells entries ≡ k → best u prices ≡ b
             → ((n : ℕ) × (p : ℤ) × (plannedBy k b ≡ plans.Plan n p)) ↔ (k ≡ Passed)
@@ -255,28 +310,28 @@ module _ (u : UnitRecord) (prices : List ℤ) where
             lie : {n : ℕ} {p : ℤ} → plans.Refused given ≡ plans.Plan n p → Refused given ≡ Passed
             lie e = let z : _≡_ {A = ℕ} 0 1 = cc in absurd (omega arith)
 
-    pub reporting-answered : ((r : Report) × (reported u prices cells entries ≡ reports.Report r)) ↔ NoneOf (PlanCause u prices cells entries) planningOrder
+    pub reporting-answered : ((r : Report) × (reported u prices cells entries ≡ reports.Report r)) ↔ NoneOf (planningCauses u prices cells entries)
     unfolding planChecked
     reporting-answered =
         Iff·trans (report-given (planChecked u prices cells entries) plan-found)
-        (passed-none (PlanCause u prices cells entries) (planChecks u prices cells entries) plan-judged)
+        (passed-none (planChecks u prices cells entries) (planningCauses u prices cells entries) plan-judged)
 
   module _ (cells : ℕ) where
-    value-judged : Judged (ValueCause u prices cells) (valueChecks u prices cells)
-    value-judged =
-        (Iff·rfl, λ ranges. (Iff·rfl, λ shape. (Iff·rfl, λ _. (at-most (cellsNeeded u (length prices)) cells, λ _. (no-rival ranges shape, λ _. tt)))))
+    value-judged : Judged (valueChecks u prices cells) (valuingCauses u prices cells)
+    value-judged = case-judged u prices (tableChecks cells) (tableCauses u prices cells) (table-judged cells)
 
-    pub valuing-refused : {cause : Cause} → (valued u prices cells ≡ values.Refused cause) ↔ FirstOf (ValueCause u prices cells) valuingOrder cause
+    pub valuing-refused : {cause : Cause} → (valued u prices cells ≡ values.Refused cause) ↔ FirstOf (valuingCauses u prices cells) cause
     unfolding valueChecked
-    valuing-refused {cause} = Iff·trans (by (valueChecked u prices cells)) (refused-first (ValueCause u prices cells) (valueChecks u prices cells) value-judged)
+    valuing-refused {cause} =
+        Iff·trans (by (valueChecked u prices cells)) (refused-first (valueChecks u prices cells) (valuingCauses u prices cells) value-judged)
       where
         by : (k : Checked) → (valuedBy k (outcomesOf u prices) ≡ values.Refused cause) ↔ (k ≡ Refused cause)
         by Passed = (λ e. let z : _≡_ {A = ℕ} 0 1 = cc in absurd (omega arith), λ e. let z : _≡_ {A = ℕ} 0 1 = cc in absurd (omega arith))
         by (Refused given) = (λ e. let same : given ≡ cause = cc in ap Refused same, λ e. let same : given ≡ cause = cc in ap values.Refused same)
 
-    pub valuing-answered : (valued u prices cells ≡ values.Outcomes (outcomesOf u prices)) ↔ NoneOf (ValueCause u prices cells) valuingOrder
+    pub valuing-answered : (valued u prices cells ≡ values.Outcomes (outcomesOf u prices)) ↔ NoneOf (valuingCauses u prices cells)
     unfolding valueChecked
-    valuing-answered = Iff·trans (by (valueChecked u prices cells)) (passed-none (ValueCause u prices cells) (valueChecks u prices cells) value-judged)
+    valuing-answered = Iff·trans (by (valueChecked u prices cells)) (passed-none (valueChecks u prices cells) (valuingCauses u prices cells) value-judged)
       where
         by : (k : Checked) → (valuedBy k (outcomesOf u prices) ≡ values.Outcomes (outcomesOf u prices)) ↔ (k ≡ Passed)
         by Passed = (λ e. refl, λ e. refl)
@@ -285,42 +340,25 @@ module _ (u : UnitRecord) (prices : List ℤ) where
 -- ---- answering a text
 
 module _ (text : List ℕ) (lent : Lent) where
-  answer-judged : Judged (AnswerCause text lent) (answers.lentChecks text lent ++ scheduleChecks (unitIn text) (pricesIn text))
-  answer-judged = (
-    Iff·rfl,
-    λ _. (
-      Iff·rfl,
-      λ _. (
-        Iff·rfl,
-        λ ranges. (
-          Iff·rfl,
-          λ shape. (
-            Iff·rfl,
-            λ _. (
-              Iff·rfl,
-              λ _. (
-                at-most (cellsNeeded (unitIn text) (length (pricesIn text))) (lent .cells),
-                λ _. (no-rival (unitIn text) (pricesIn text) ranges shape, λ _. tt),
-              ),
-            ),
-          ),
-        ),
-      ),
-    ),
-  )
+  answer-judged : Judged (answers.lentChecks text lent ++ scheduleChecks (unitIn text) (pricesIn text)) (answeringCauses text lent)
+  answer-judged =
+      let count = length (pricesIn text) in
+      text-judged text (slicesChecks (unitIn text) count (longEnough count lent) (lent .cells) ++ scheduleChecks (unitIn text) (pricesIn text))
+      ((Length when longEnough count lent ≡ false) ∷ tableCauses (unitIn text) (pricesIn text) (lent .cells))
+      (λ ranges shape. (refl, Iff·rfl, λ _. table-judged (unitIn text) (pricesIn text) (lent .cells) ranges shape))
 
   answer-found : allFound text lent ≡ Passed → best (unitIn text) (pricesIn text) ≡ nothing → ⊥
   unfolding allFound
   answer-found passed none = found (unitIn text) (pricesIn text) (answers.lentChecks text lent) passed none
 
-  pub answering-refused : {cause : Cause} → (reportOn text lent ≡ reports.Refused cause) ↔ FirstOf (AnswerCause text lent) answeringOrder cause
+  pub answering-refused : {cause : Cause} → (reportOn text lent ≡ reports.Refused cause) ↔ FirstOf (answeringCauses text lent) cause
   unfolding allFound
   answering-refused =
       Iff·trans (report-refused (unitIn text) (pricesIn text) (allFound text lent) answer-found)
-      (refused-first (AnswerCause text lent) (answers.lentChecks text lent ++ scheduleChecks (unitIn text) (pricesIn text)) answer-judged)
+      (refused-first (answers.lentChecks text lent ++ scheduleChecks (unitIn text) (pricesIn text)) (answeringCauses text lent) answer-judged)
 
-  pub answering-answered : ((r : Report) × (reportOn text lent ≡ reports.Report r)) ↔ NoneOf (AnswerCause text lent) answeringOrder
+  pub answering-answered : ((r : Report) × (reportOn text lent ≡ reports.Report r)) ↔ NoneOf (answeringCauses text lent)
   unfolding allFound
   answering-answered =
       Iff·trans (report-given (unitIn text) (pricesIn text) (allFound text lent) answer-found)
-      (passed-none (AnswerCause text lent) (answers.lentChecks text lent ++ scheduleChecks (unitIn text) (pricesIn text)) answer-judged)
+      (passed-none (answers.lentChecks text lent ++ scheduleChecks (unitIn text) (pricesIn text)) (answeringCauses text lent) answer-judged)

@@ -18,7 +18,7 @@ use Rattle.curves.specs.Ranges.{curveChecks, curveChecked}
 use Rattle.curves.specs.Curve.{finalCurve}
 use Rattle.curves.specs.Answers.{curvedBy, curved, leftBy, curveLeft}
 use Rattle.promises.specs.Causes.{FirstOf, NoneOf}
-use Rattle.promises.specs.Curves.{CurveCause, curveOrder}
+use Rattle.promises.specs.Curves.{curveCauses}
 use Rattle.promises.proofs.Causes.{Judged, refused-first, passed-none, at-most, as-many}
 
 -- one of two checks fails
@@ -27,12 +27,15 @@ either true b f g = (λ e. inr (g .0 e), ⊎-elim (λ x. let no : true ≡ false
 either false b f g = (λ e. inl (f .0 refl), λ w. refl)
 
 module _ (k : CurveInputs) (levels rates : List ℕ) (room : ℕ) where
-  judged : Judged (CurveCause k levels rates room) (curveChecks k levels rates room)
+  judged : Judged (curveChecks k levels rates room) (curveCauses k levels rates room)
   judged = (
+    refl,
     Iff·rfl,
     λ _. (
+      refl,
       Iff·rfl,
       λ _. (
+        refl,
         either (eqb (length levels) (length rates)) (leb (length levels - 1) room) (as-many (length levels) (length rates))
             (at-most (length levels - 1) room),
         λ _. tt,
@@ -40,20 +43,20 @@ module _ (k : CurveInputs) (levels rates : List ℕ) (room : ℕ) where
     ),
   )
 
-  pub curve-refused : {cause : Cause} → (curved k levels rates room ≡ curve.Refused cause) ↔ FirstOf (CurveCause k levels rates room) curveOrder cause
+  pub curve-refused : {cause : Cause} → (curved k levels rates room ≡ curve.Refused cause) ↔ FirstOf (curveCauses k levels rates room) cause
   unfolding curved curveChecked
   curve-refused {cause} =
-      Iff·trans (by (curveChecked k levels rates room)) (refused-first (CurveCause k levels rates room) (curveChecks k levels rates room) judged)
+      Iff·trans (by (curveChecked k levels rates room)) (refused-first (curveChecks k levels rates room) (curveCauses k levels rates room) judged)
     where
       by : (c : Checked) → (curvedBy c (finalCurve k levels rates) ≡ curve.Refused cause) ↔ (c ≡ Refused cause)
       by Passed = (λ e. let z : _≡_ {A = ℕ} 0 1 = cc in absurd (omega arith), λ e. let z : _≡_ {A = ℕ} 0 1 = cc in absurd (omega arith))
       by (Refused given) = (λ e. let same : given ≡ cause = cc in ap Refused same, λ e. let same : given ≡ cause = cc in ap curve.Refused same)
 
   pub curve-answered :
-      (curved k levels rates room ≡ curve.Segments (length (finalCurve k levels rates))) ↔ NoneOf (CurveCause k levels rates room) curveOrder
+      (curved k levels rates room ≡ curve.Segments (length (finalCurve k levels rates))) ↔ NoneOf (curveCauses k levels rates room)
   unfolding curved curveChecked
   curve-answered =
-      Iff·trans (by (curveChecked k levels rates room)) (passed-none (CurveCause k levels rates room) (curveChecks k levels rates room) judged)
+      Iff·trans (by (curveChecked k levels rates room)) (passed-none (curveChecks k levels rates room) (curveCauses k levels rates room) judged)
     where
       by : (c : Checked) → (curvedBy c (finalCurve k levels rates) ≡ curve.Segments (length (finalCurve k levels rates))) ↔ (c ≡ Passed)
       by Passed = (λ e. refl, λ e. refl)

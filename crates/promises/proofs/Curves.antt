@@ -16,19 +16,19 @@ use Rattle.curves.specs.Laws.{Rises, firstLevel, lastLevel, Covers, Greatest}
 use Rattle.curves.proofs.Curve as curve
 use Rattle.curves.proofs.Answers as answers
 use Rattle.promises.specs.Causes.{FirstOf, NoneOf}
-use Rattle.promises.specs.Curves.{CurveCause, curveOrder}
+use Rattle.promises.specs.Curves.{curveCauses}
 use Rattle.promises.proofs.CurveCauses as causes
 
 -- ---- 3, then 11, then 7: a number is given only where its cause holds, and every cause that holds is met by a refusal
 
 pub curve-refused :
     (k : CurveInputs) (levels rates : List ℕ) (room : ℕ) (cause : Cause) →
-    (curved k levels rates room ≡ Refused cause) ↔ FirstOf (CurveCause k levels rates room) curveOrder cause
+    (curved k levels rates room ≡ Refused cause) ↔ FirstOf (curveCauses k levels rates room) cause
 curve-refused k levels rates room cause = causes.curve-refused k levels rates room
 
 pub curve-answered :
     (k : CurveInputs) (levels rates : List ℕ) (room : ℕ) →
-    (curved k levels rates room ≡ Segments (length (finalCurve k levels rates))) ↔ NoneOf (CurveCause k levels rates room) curveOrder
+    (curved k levels rates room ≡ Segments (length (finalCurve k levels rates))) ↔ NoneOf (curveCauses k levels rates room)
 curve-answered = causes.curve-answered
 
 -- with a refusal come its number and count 0

@@ -57,8 +57,7 @@ use Rattle.planner.specs.Valuing.{valued, valuedNumber, valuedOutcomes}
 use Rattle.answers.specs.declared.Lent.{Lent}
 use Rattle.answers.specs.Answering.{serves, lentFound, reportOn, answered, printed, pricesAfter, scheduleAnswered, scratchAnswered}
 use Rattle.answers.specs.Sizes.{outRoom, programLends}
-use Rattle.promises.specs.Causes.{FirstOf, NoneOf, ReadCause, CostCause, HandCause, PlanCause, ValueCause}
-use Rattle.promises.specs.Causes.{AnswerCause, readingOrder, costOrder, handInOrder, planningOrder, valuingOrder, answeringOrder}
+use Rattle.promises.specs.Causes.{FirstOf, NoneOf, readingCauses, costCauses, handInCauses, planningCauses, valuingCauses, answeringCauses}
 use Rattle.promises.specs.Appendix.{mlcPrinted}
 use Rattle.promises.specs.Outcomes.{outcomeFor}
 use Rattle.promises.specs.Sequences.{InSomeSequence}
@@ -92,31 +91,31 @@ longer-text-is-refused = printing.longer-refused
 -- before it holds and there is no rival.
 
 pub reading-refused : (text : List ℕ) (room : ℕ) (cause : Cause)
-    → (readCase text room ≡ reading.Refused cause) ↔ FirstOf (ReadCause text room) readingOrder cause
+    → (readCase text room ≡ reading.Refused cause) ↔ FirstOf (readingCauses text room) cause
 reading-refused text room cause = causes.reading-refused text room
 
 pub figures-refused : (k : CostInputs) (mws heats : List ℕ) (cause : Cause)
-    → (costed k mws heats ≡ costing.Refused cause) ↔ FirstOf (CostCause k mws heats) costOrder cause
+    → (costed k mws heats ≡ costing.Refused cause) ↔ FirstOf (costCauses k mws heats) cause
 figures-refused k mws heats cause = causes.figures-refused k mws heats
 
 pub handing-in-refused : (u : UnitRecord) (prices : List ℤ) (s : List ℕ) (cause : Cause)
-    → (assessed u prices s ≡ assessing.Refused cause) ↔ FirstOf (HandCause u prices s) handInOrder cause
+    → (assessed u prices s ≡ assessing.Refused cause) ↔ FirstOf (handInCauses u prices s) cause
 handing-in-refused u prices s cause = causes.handing-in-refused u prices s
 
 pub planning-refused : (u : UnitRecord) (prices : List ℤ) (cells entries : ℕ) (cause : Cause)
-    → (planned u prices cells entries ≡ planning.Refused cause) ↔ FirstOf (PlanCause u prices cells entries) planningOrder cause
+    → (planned u prices cells entries ≡ planning.Refused cause) ↔ FirstOf (planningCauses u prices cells entries) cause
 planning-refused u prices cells entries cause = causes.planning-refused u prices cells entries
 
 pub reporting-refused : (u : UnitRecord) (prices : List ℤ) (cells entries : ℕ) (cause : Cause)
-    → (reported u prices cells entries ≡ reporting.Refused cause) ↔ FirstOf (PlanCause u prices cells entries) planningOrder cause
+    → (reported u prices cells entries ≡ reporting.Refused cause) ↔ FirstOf (planningCauses u prices cells entries) cause
 reporting-refused u prices cells entries cause = causes.reporting-refused u prices cells entries
 
 pub valuing-refused : (u : UnitRecord) (prices : List ℤ) (cells : ℕ) (cause : Cause)
-    → (valued u prices cells ≡ valuing.Refused cause) ↔ FirstOf (ValueCause u prices cells) valuingOrder cause
+    → (valued u prices cells ≡ valuing.Refused cause) ↔ FirstOf (valuingCauses u prices cells) cause
 valuing-refused u prices cells cause = causes.valuing-refused u prices cells
 
 pub answering-refused : (text : List ℕ) (lent : Lent) (cause : Cause)
-    → (reportOn text lent ≡ reporting.Refused cause) ↔ FirstOf (AnswerCause text lent) answeringOrder cause
+    → (reportOn text lent ≡ reporting.Refused cause) ↔ FirstOf (answeringCauses text lent) cause
 answering-refused text lent cause = causes.answering-refused text lent
 
 -- A text has the form, so that 1 does not hold, exactly when a writer of two tables makes it within its bytes.
@@ -133,31 +132,31 @@ names-exactly = names.names-exactly
 -- and every cause that holds is met by a refusal: there is an answer exactly where none holds
 
 pub reading-answered : (text : List ℕ) (room : ℕ)
-    → (readCase text room ≡ reading.Case (unitIn text) (length (pricesIn text))) ↔ NoneOf (ReadCause text room) readingOrder
+    → (readCase text room ≡ reading.Case (unitIn text) (length (pricesIn text))) ↔ NoneOf (readingCauses text room)
 reading-answered = causes.reading-answered
 
 pub figures-answered : (k : CostInputs) (mws heats : List ℕ)
-    → (costed k mws heats ≡ costing.Figures (threeFigures k mws heats)) ↔ NoneOf (CostCause k mws heats) costOrder
+    → (costed k mws heats ≡ costing.Figures (threeFigures k mws heats)) ↔ NoneOf (costCauses k mws heats)
 figures-answered = causes.figures-answered
 
 pub handing-in-passed : (u : UnitRecord) (prices : List ℤ) (s : List ℕ)
-    → (assessed u prices s ≡ assessing.Profit (profit u prices s)) ↔ NoneOf (HandCause u prices s) handInOrder
+    → (assessed u prices s ≡ assessing.Profit (profit u prices s)) ↔ NoneOf (handInCauses u prices s)
 handing-in-passed = causes.handing-in-passed
 
 pub planning-answered : (u : UnitRecord) (prices : List ℤ) (cells entries : ℕ)
-    → ((n : ℕ) × (p : ℤ) × (planned u prices cells entries ≡ planning.Plan n p)) ↔ NoneOf (PlanCause u prices cells entries) planningOrder
+    → ((n : ℕ) × (p : ℤ) × (planned u prices cells entries ≡ planning.Plan n p)) ↔ NoneOf (planningCauses u prices cells entries)
 planning-answered = causes.planning-answered
 
 pub reporting-answered : (u : UnitRecord) (prices : List ℤ) (cells entries : ℕ)
-    → ((r : Report) × (reported u prices cells entries ≡ reporting.Report r)) ↔ NoneOf (PlanCause u prices cells entries) planningOrder
+    → ((r : Report) × (reported u prices cells entries ≡ reporting.Report r)) ↔ NoneOf (planningCauses u prices cells entries)
 reporting-answered = causes.reporting-answered
 
 pub valuing-answered : (u : UnitRecord) (prices : List ℤ) (cells : ℕ)
-    → (valued u prices cells ≡ valuing.Outcomes (outcomesOf u prices)) ↔ NoneOf (ValueCause u prices cells) valuingOrder
+    → (valued u prices cells ≡ valuing.Outcomes (outcomesOf u prices)) ↔ NoneOf (valuingCauses u prices cells)
 valuing-answered = causes.valuing-answered
 
 pub answering-answered : (text : List ℕ) (lent : Lent)
-    → ((r : Report) × (reportOn text lent ≡ reporting.Report r)) ↔ NoneOf (AnswerCause text lent) answeringOrder
+    → ((r : Report) × (reportOn text lent ≡ reporting.Report r)) ↔ NoneOf (answeringCauses text lent)
 answering-answered = causes.answering-answered
 
 -- with a refusal come the number of its cause, profit 0, every other number 0, every outcome and limitation `none`

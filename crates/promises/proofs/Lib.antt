@@ -1,5 +1,5 @@
--- Demands: the three demands, clause by clause. The proofs that it cites: Appendix (formula (3) as printed), Causes, Forms, Names, Untouched, NoStart (a schedule
--- without a start), Planning, Printed. Worked: a case computed whole. Curves: the bid curve, clause by clause; it cites CurveCauses.
+-- Demands: the three demands, clause by clause. The proofs that it cites: Appendix (formula (3) as printed), Causes, Forms, Names, Untouched, NoStart
+-- (a schedule without a start), Planning, Printed. Worked: a case computed whole. Curves: the bid curve, clause by clause; it cites CurveCauses.
 mod Appendix
 pub mod Causes
 mod Forms

@@ -2,7 +2,7 @@
 use mathlib.Core.Path.{_≡_, refl, sym, ap, ap₂, _∙_}
 use mathlib.Core.Bool.{Bool, true, false, cond, _&&_, not}
 use mathlib.Core.List.{List, [], _∷_, _++_}
-use mathlib.Core.Logic.{inl, ⊎-elim}
+use mathlib.Core.Logic.{inl}
 use Prim.Native.Nat.{ℕ, suc, _+_, _*_, _≤_, _<_}
 use native.Mathlib.Omega.{arith}
 use borrow.Author.Tests.{le-leb, lt-leb, leb-true, eqb-true}
@@ -12,7 +12,7 @@ use lib.ListN.{length, drop, length-append}
 use Rattle.lists.specs.Every.{every}
 use Rattle.lists.proofs.Conjunctions.{both}
 use Rattle.commitment.specs.declared.Cause.{Cause}
-use Rattle.commitment.specs.declared.Cause.the-variants.{Form, Name, Range, Shape, Horizon, Length, Scratch, NoSchedule}
+use Rattle.commitment.specs.declared.Cause.the-variants.{Form, Length, NoSchedule}
 use Rattle.commitment.specs.declared.Checked.{Checked}
 use Rattle.commitment.specs.declared.Checked.the-variants.{Passed, Refused}
 use Rattle.commitment.specs.declared.Generator.{Generator}
@@ -38,11 +38,11 @@ use Rattle.planner.specs.Reporting.{reportedBy, reportedNumber}
 use Rattle.answers.specs.declared.Lent.{Lent}
 use Rattle.answers.specs.Answering.{mostPrinted, serves, longEnough, lentFound, allFound, reportPrinted, printedFor}
 use Rattle.answers.specs.Answering.{unwritten, linesFor, reportOn, answered, printed}
-use Rattle.answers.specs.Sizes.{priceRoom, outRoom, programLends}
+use Rattle.answers.specs.Sizes.{cellRoom, priceRoom, outRoom, programLends}
 use Rattle.answers.proofs.Found.{passed, all-lines, refused-in-all}
 use Rattle.casetext.specs.Form.{mostBytes, formKept}
-use Rattle.promises.specs.Causes.{FirstOf, AnswerCause}
-use Rattle.promises.proofs.Causes.{answering-refused}
+use Rattle.promises.specs.Causes.{Reason, _when_, NoneOf, textCauses, tableCauses}
+use Rattle.promises.proofs.Causes.{answering-refused, given-once}
 
 -- ---- a listing takes no more than is reckoned with
 
@@ -197,37 +197,23 @@ in-order-has-room n kept =
     ap₂ _&&_ entries (ap₂ _&&_ entries (le-leb (mostPrinted n) outRoom (omega (arith, short))))
 
 pub program-has-room : (text : List ℕ) → reportOn text (programLends outRoom) ≡ reports.Refused Length → ⊥
-program-has-room text e = kept (horizonKept (length (pricesIn text))) refl
+program-has-room text e = kept (horizonKept count) refl
   where
-    Holds : Cause → Type 0
-    Holds cause = AnswerCause text (programLends outRoom) cause
+    count : ℕ
+    count = length (pricesIn text)
 
-    past : (first : Cause) (later : List Cause) → (numberOf first ≡ 7 → ⊥) → FirstOf Holds (first ∷ later) Length
-        → (Holds first → ⊥) × FirstOf Holds later Length
-    past first later other given = ⊎-elim (λ this. absurd (other (ap numberOf (this .0)))) (λ further. further) given
+    too-short : Reason
+    too-short = Length when longEnough count (programLends outRoom) ≡ false
 
-    from-length : List Cause
-    from-length = Length ∷ Scratch ∷ NoSchedule ∷ []
+    -- 7 holds, and no cause of the text does
+    seven : NoneOf (textCauses text) × too-short .Holds
+    seven =
+        given-once too-short (textCauses text) (tableCauses (unitIn text) (pricesIn text) cellRoom) refl refl
+        (answering-refused text (programLends outRoom) .0 e)
 
-    horizon : (Holds Horizon → ⊥) × FirstOf Holds from-length Length
-    horizon =
-        let given = answering-refused text (programLends outRoom) .0 e in
-        let form = past Form (Name ∷ Range ∷ Shape ∷ Horizon ∷ from-length) (λ z. absurd (omega arith)) given .1 in
-        let name = past Name (Range ∷ Shape ∷ Horizon ∷ from-length) (λ z. absurd (omega arith)) form .1 in
-        let range = past Range (Shape ∷ Horizon ∷ from-length) (λ z. absurd (omega arith)) name .1 in
-        past Horizon from-length (λ z. absurd (omega arith)) (past Shape (Horizon ∷ from-length) (λ z. absurd (omega arith)) range .1)
-
-    too-short : Holds Length
-    too-short =
-        ⊎-elim (λ this. this .1)
-        (λ further.
-        let scratch = past Scratch (NoSchedule ∷ []) (λ z. absurd (omega arith)) (further .1) .1 in
-        absurd (past NoSchedule [] (λ z. absurd (omega arith)) scratch .1))
-        (horizon .1)
-
-    kept : (t : Bool) → horizonKept (length (pricesIn text)) ≡ t → ⊥
-    kept false i = horizon .0 i
+    kept : (t : Bool) → horizonKept count ≡ t → ⊥
+    kept false i = seven .0 .1 .1 .1 .1 .0 i
     kept true i =
-        let no : true ≡ false = sym (in-order-has-room (length (pricesIn text)) i) ∙ too-short in
+        let no : true ≡ false = sym (in-order-has-room count i) ∙ seven .1 in
         let z : _≡_ {A = ℕ} 0 1 = cc in
         absurd (omega arith)
