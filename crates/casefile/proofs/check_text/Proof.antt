@@ -6,17 +6,11 @@ use borrow.Author.Needs.{needs}
 use Rattle.casefile.proofs.check_text.Statement.{statement}
 use Rattle.casefile.proofs.check_text.Tie as tie
 
-form-kept-requires : tie.Need-form-kept-requires
-form-kept-requires c κs = search needs
-
 returns : tie.Need-returns
 returns c =
     let f = c .before in
     let a = f .before .before .args in
     wrong-form (a .text .now) (a .room) (sym (f .form-kept .ensures) ∙ not-true _ (c .if1 .taken))
-
-names-kept-requires : tie.Need-names-kept-requires
-names-kept-requires c κs = search needs
 
 returns-2 : tie.Need-returns-2
 returns-2 c =
@@ -25,9 +19,6 @@ returns-2 c =
     let a = f .before .before .args in
     let form = sym (f .form-kept .ensures) ∙ not-false _ (n .before .if1 .left) in
     wrong-names (a .text .now) (a .room) form (sym (n .names-kept .ensures) ∙ not-true _ (c .if2 .taken))
-
-check-values-requires : tie.Need-check-values-requires
-check-values-requires c κs = search needs
 
 returns-3 : tie.Need-returns-3
 returns-3 c =
@@ -42,9 +33,9 @@ pub check-text-spec : {M : Type 1} → statement M
 check-text-spec =
     tie.close
     (tie.spec
-    form-kept-requires
+    (λ c κs. search needs)
     returns
-    names-kept-requires
+    (λ c κs. search needs)
     returns-2
-    check-values-requires
+    (λ c κs. search needs)
     returns-3)

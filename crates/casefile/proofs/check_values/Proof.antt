@@ -36,27 +36,6 @@ found c e i =
     ap (λ (k : Checked). checkedThen k (firstOf ((leb (length (pricesIn (c .args .text .now))) (c .args .room) else Length) ∷ []))) (sym i ∙ e)
     ∙ sym (values-turn (c .args .text .now) (c .args .room))
 
-unit-in-requires : tie.Need-unit-in-requires
-unit-in-requires c κs = search needs
-
-prices-kept-requires : tie.Need-prices-kept-requires
-prices-kept-requires c κs = search needs
-
-prices-counted-requires : tie.Need-prices-counted-requires
-prices-counted-requires c κs = search needs
-
-check-case-requires : tie.Need-check-case-requires
-check-case-requires c κs = search needs
-
-enum-known-cause : tie.Need-enum-known-cause
-enum-known-cause c = search needs
-
-enum-told : tie.Need-enum-told
-enum-told c = search needs
-
-check-room-requires : tie.Need-check-room-requires
-check-room-requires c κs = search needs
-
 returns : tie.Need-returns
 returns c = let case = c .before .before .before in found (case .before .before .before .before .before) (case-is case) (c .before .cause .given .1)
 
@@ -72,12 +51,12 @@ pub check-values-spec : {M : Type 1} → statement M
 check-values-spec =
     tie.close
     (tie.spec
-    unit-in-requires
-    prices-kept-requires
-    prices-counted-requires
-    check-case-requires
-    enum-known-cause
-    enum-told
-    check-room-requires
+    (λ c κs. search needs)
+    (λ c κs. search needs)
+    (λ c κs. search needs)
+    (λ c κs. search needs)
+    (λ c. search needs)
+    (λ c. search needs)
+    (λ c κs. search needs)
     returns
     returns-2)

@@ -17,15 +17,6 @@ counted : (c : tie.After-count-of) →
     c .count-of .result ≡ readCount (readCase (a .text .now) (length (a .prices .now)))
 counted c = c .count-of .ensures ∙ ap readCount (c .before .before .before .read-into .ensures .0)
 
-read-into-requires : tie.Need-read-into-requires
-read-into-requires c κs = search needs
-
-number-of-requires : tie.Need-number-of-requires
-number-of-requires c κs = search needs
-
-count-of-requires : tie.Need-count-of-requires
-count-of-requires c κs = search needs
-
 slice-aggregate-result : tie.Need-slice-aggregate-result
 slice-aggregate-result c =
     let k = c .before in
@@ -47,8 +38,8 @@ pub read-spec : {M : Type 1} → statement M
 read-spec =
     tie.close
     (tie.spec
-    read-into-requires
-    number-of-requires
-    count-of-requires
+    (λ c κs. search needs)
+    (λ c κs. search needs)
+    (λ c κs. search needs)
     slice-aggregate-result
     returns)

@@ -5,15 +5,6 @@ use borrow.Author.Needs.{needs}
 use Rattle.casefile.proofs.read_into.Statement.{statement}
 use Rattle.casefile.proofs.read_into.Tie as tie
 
-check-text-requires : tie.Need-check-text-requires
-check-text-requires c κs = search needs
-
-enum-known-found : tie.Need-enum-known-found
-enum-known-found c = search needs
-
-enum-told : tie.Need-enum-told
-enum-told c = search needs
-
 taken-requires : tie.Need-taken-requires
 taken-requires c κs = sym (c .before .before .before .check-text .ensures) ∙ c .before .enum-told .given .1
 
@@ -23,20 +14,14 @@ returns c =
     let a = t .before .before .args in
     answer-refused (a .text .now) (a .prices .now) _ (sym (t .check-text .ensures) ∙ c .before .found .given .1)
 
-same-length : tie.Need-same-length
-same-length c = search needs
-
-returns-2 : tie.Need-returns-2
-returns-2 c = search needs
-
 pub read-into-spec : {M : Type 1} → statement M
 read-into-spec =
     tie.close
     (tie.spec
-    check-text-requires
-    enum-known-found
-    enum-told
+    (λ c κs. search needs)
+    (λ c. search needs)
+    (λ c. search needs)
     taken-requires
     returns
-    same-length
-    returns-2)
+    (λ c. search needs)
+    (λ c. search needs))

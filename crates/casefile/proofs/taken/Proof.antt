@@ -7,19 +7,10 @@ use borrow.Author.Needs.{needs}
 use Rattle.casefile.proofs.taken.Statement.{statement}
 use Rattle.casefile.proofs.taken.Tie as tie
 
-unit-in-requires : tie.Need-unit-in-requires
-unit-in-requires c κs = search needs
-
-prices-counted-requires : tie.Need-prices-counted-requires
-prices-counted-requires c κs = search needs
-
 store-requires : tie.Need-store-requires
 store-requires c κs =
     let s = c .before .before .before .before in
     text-passed (s .args .text .now) (length (s .args .prices .now)) (s .pre) .fits
-
-same-length : tie.Need-same-length
-same-length c = search needs
 
 returns : tie.Need-returns
 returns c =
@@ -33,4 +24,4 @@ returns c =
 pub taken-spec : {M : Type 1} → statement M
 taken-spec =
     tie.close
-    (tie.spec unit-in-requires prices-counted-requires store-requires same-length returns)
+    (tie.spec (λ c κs. search needs) (λ c κs. search needs) store-requires (λ c. search needs) returns)

@@ -5,20 +5,8 @@ use borrow.Author.Needs.{needs}
 use Rattle.casefile.proofs.unit_of.Statement.{statement}
 use Rattle.casefile.proofs.unit_of.Tie as tie
 
-enum-known-answer : tie.Need-enum-known-answer
-enum-known-answer c = search needs
-
-enum-told : tie.Need-enum-told
-enum-told c = search needs
-
-no-unit-requires : tie.Need-no-unit-requires
-no-unit-requires c κs = search needs
-
 returns : tie.Need-returns
 returns c = ap readUnit (sym (c .before .answer .given .1))
 
-returns-2 : tie.Need-returns-2
-returns-2 c = search needs
-
 pub unit-of-spec : {M : Type 1} → statement M
-unit-of-spec = tie.close (tie.spec enum-known-answer enum-told no-unit-requires returns returns-2)
+unit-of-spec = tie.close (tie.spec (λ c. search needs) (λ c. search needs) (λ c κs. search needs) returns (λ c. search needs))

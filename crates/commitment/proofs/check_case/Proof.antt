@@ -12,9 +12,6 @@ ranges-and-prices : (c : tie.After-ranges-kept)
     → (rangesKept (c .before .args .unit) && c .before .args .priced) ≡ (c .ranges-kept .result && c .before .args .priced)
 ranges-and-prices c = ap (λ (t : Bool). t && c .before .args .priced) (sym (c .ranges-kept .ensures))
 
-ranges-kept-requires : tie.Need-ranges-kept-requires
-ranges-kept-requires c κs = search needs
-
 returns : tie.Need-returns
 unfolding caseChecked
 returns c = simp (ranges-and-prices (c .before) ∙ not-true _ (c .if1 .taken))
@@ -27,9 +24,6 @@ unfolding caseChecked
 returns-2 c =
     let first = c .before .before in
     simp (ranges-and-prices (first .before) ∙ not-false _ (first .if1 .left), sym (c .before .shape-kept .ensures) ∙ not-true _ (c .if2 .taken))
-
-horizon-kept-requires : tie.Need-horizon-kept-requires
-horizon-kept-requires c κs = search needs
 
 returns-3 : tie.Need-returns-3
 unfolding caseChecked
@@ -56,4 +50,4 @@ returns-4 c =
 pub check-case-spec : {M : Type 1} → statement M
 check-case-spec =
     tie.close
-    (tie.spec ranges-kept-requires returns shape-kept-requires returns-2 horizon-kept-requires returns-3 returns-4)
+    (tie.spec (λ c κs. search needs) returns shape-kept-requires returns-2 (λ c κs. search needs) returns-3 returns-4)

@@ -4,18 +4,6 @@ use borrow.Author.Needs.{needs}
 use Rattle.commitment.proofs.ranges_kept.Statement.{statement}
 use Rattle.commitment.proofs.ranges_kept.Tie as tie
 
-generator-kept-requires : tie.Need-generator-kept-requires
-generator-kept-requires c κs = search needs
-
-opening-kept-requires : tie.Need-opening-kept-requires
-opening-kept-requires c κs = search needs
-
-costs-kept-requires : tie.Need-costs-kept-requires
-costs-kept-requires c κs = search needs
-
-limits-kept-requires : tie.Need-limits-kept-requires
-limits-kept-requires c κs = search needs
-
 returns : tie.Need-returns
 unfolding rangesKept
 returns c = cc
@@ -24,8 +12,8 @@ pub ranges-kept-spec : {M : Type 1} → statement M
 ranges-kept-spec =
     tie.close
     (tie.spec
-    generator-kept-requires
-    opening-kept-requires
-    costs-kept-requires
-    limits-kept-requires
+    (λ c κs. search needs)
+    (λ c κs. search needs)
+    (λ c κs. search needs)
+    (λ c κs. search needs)
     returns)

@@ -12,8 +12,5 @@ mul-result c =
     let h = in-range (s .args .unit) (s .pre) in
     omega (arith, mul-le-mul (h .generator .pmax-most) (h .generator .block-most))
 
-returns : tie.Need-returns
-returns c = search needs
-
 pub shape-kept-spec : {M : Type 1} → statement M
-shape-kept-spec = tie.close (tie.spec mul-result returns)
+shape-kept-spec = tie.close (tie.spec mul-result (λ c. search needs))

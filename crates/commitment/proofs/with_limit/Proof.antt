@@ -10,15 +10,6 @@ use Rattle.commitment.proofs.with_limit.Tie as tie
 replaced : (c : tie.Start) {a b : Limitation} → a ≡ b → withLimit (c .args .limits) b (c .args .limit) ≡ withLimit (c .args .limits) a (c .args .limit)
 replaced c e = ap (λ (w : Limitation). withLimit (c .args .limits) w (c .args .limit)) (sym e)
 
-enum-told : tie.Need-enum-told
-enum-told c = search needs
-
-enum-told-2 : tie.Need-enum-told-2
-enum-told-2 c = search needs
-
-enum-told-3 : tie.Need-enum-told-3
-enum-told-3 c = search needs
-
 returns : tie.Need-returns
 returns c = replaced (c .before .before) (c .enum-told .given .1)
 
@@ -29,4 +20,4 @@ returns-3 : tie.Need-returns-3
 returns-3 c = replaced (c .before .before) (c .enum-told3 .given .1)
 
 pub with-limit-spec : {M : Type 1} → statement M
-with-limit-spec = tie.close (tie.spec enum-told enum-told-2 enum-told-3 returns returns-2 returns-3)
+with-limit-spec = tie.close (tie.spec (λ c. search needs) (λ c. search needs) (λ c. search needs) returns returns-2 returns-3)

@@ -48,12 +48,6 @@ after-3 c = eq-eqb _ _ (sym (c .before .before .before .total-mw .ensures) ∙ c
 
 -- ---- the needs
 
-inputs-kept-requires : tie.Need-inputs-kept-requires
-inputs-kept-requires c κs = search needs
-
-segments-kept-requires : tie.Need-segments-kept-requires
-segments-kept-requires c κs = search needs
-
 returns : tie.Need-returns
 unfolding inputsChecked
 returns c = simp (ranges (c .before) ∙ not-true _ (c .if1 .taken))
@@ -106,8 +100,8 @@ pub check-inputs-spec : {M : Type 1} → statement M
 check-inputs-spec =
     tie.close
     (tie.spec
-    inputs-kept-requires
-    segments-kept-requires
+    (λ c κs. search needs)
+    (λ c κs. search needs)
     returns
     outputs-kept-requires
     returns-2

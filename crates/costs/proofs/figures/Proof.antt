@@ -6,18 +6,6 @@ use Rattle.costs.specs.Answers.{costed}
 use Rattle.costs.proofs.figures.Statement.{statement}
 use Rattle.costs.proofs.figures.Tie as tie
 
-check-inputs-requires : tie.Need-check-inputs-requires
-check-inputs-requires c κs = search needs
-
-enum-known-found : tie.Need-enum-known-found
-enum-known-found c = search needs
-
-enum-told : tie.Need-enum-told
-enum-told c = search needs
-
-three-figures-requires : tie.Need-three-figures-requires
-three-figures-requires c κs = cc
-
 returns : tie.Need-returns
 unfolding costed
 returns c = rw (sym (c .before .before .before .check-inputs .ensures) ∙ c .before .found .given .1)
@@ -30,9 +18,9 @@ pub figures-spec : {M : Type 1} → statement M
 figures-spec =
     tie.close
     (tie.spec
-    check-inputs-requires
-    enum-known-found
-    enum-told
-    three-figures-requires
+    (λ c κs. search needs)
+    (λ c. search needs)
+    (λ c. search needs)
+    (λ c κs. cc)
     returns
     returns-2)

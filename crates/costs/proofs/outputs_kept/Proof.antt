@@ -11,8 +11,5 @@ mul-result c =
     let h = in-range (c .before .before .args .inputs) (c .before .before .pre) in
     omega (arith, mul-le-mul (h .pmax) (h .block))
 
-returns : tie.Need-returns
-returns c = search needs
-
 pub outputs-kept-spec : {M : Type 1} → statement M
-outputs-kept-spec = tie.close (tie.spec mul-result returns)
+outputs-kept-spec = tie.close (tie.spec mul-result (λ c. search needs))

@@ -15,12 +15,6 @@ returns c =
     let e : countKept (length (a .mws .now)) && countKept (length (a .heats .now)) ≡ false = not-true _ (c .if1 .taken) in
     simp e
 
-every-one-to-requires : tie.Need-every-one-to-requires
-every-one-to-requires c κs = search needs
-
-every-one-to-requires-2 : tie.Need-every-one-to-requires-2
-every-one-to-requires-2 c κs = search needs
-
 returns-2 : tie.Need-returns-2
 unfolding segmentsKept
 returns-2 c =
@@ -29,4 +23,4 @@ returns-2 c =
     simp e (ap₂ _&&_ (c .before .every-one-to .ensures) (c .every-one-to2 .ensures))
 
 pub segments-kept-spec : {M : Type 1} → statement M
-segments-kept-spec = tie.close (tie.spec returns every-one-to-requires every-one-to-requires-2 returns-2)
+segments-kept-spec = tie.close (tie.spec returns (λ c κs. search needs) (λ c κs. search needs) returns-2)

@@ -4,9 +4,6 @@ use Rattle.costs.proofs.Ranges.{accepted, start-sizes, load-sizes}
 use Rattle.costs.proofs.three_figures.Statement.{statement}
 use Rattle.costs.proofs.three_figures.Tie as tie
 
-vec-of-requires : tie.Need-vec-of-requires
-vec-of-requires c κs = search needs
-
 suc-of-requires : tie.Need-suc-of-requires
 suc-of-requires c κs =
     let o = c .before .before .before in
@@ -19,8 +16,5 @@ mlc-of-requires c κs =
     let a = accepted _ _ _ (o .pre) in
     load-sizes (o .args .inputs) (a .inputs) (a .shape)
 
-returns : tie.Need-returns
-returns c = cc
-
 pub three-figures-spec : {M : Type 1} → statement M
-three-figures-spec = tie.close (tie.spec vec-of-requires suc-of-requires mlc-of-requires returns)
+three-figures-spec = tie.close (tie.spec (λ c κs. search needs) suc-of-requires mlc-of-requires (λ c. cc))

@@ -3,8 +3,5 @@ use borrow.Author.Needs.{needs}
 use Rattle.curves.proofs.dearer.Statement.{statement}
 use Rattle.curves.proofs.dearer.Tie as tie
 
-returns : tie.Need-returns
-returns c = search needs
-
 pub dearer-spec : {M : Type 1} → statement M
-dearer-spec = tie.close (tie.spec returns)
+dearer-spec = tie.close (tie.spec (λ c. search needs))

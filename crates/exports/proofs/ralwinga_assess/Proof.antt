@@ -7,15 +7,6 @@ use Rattle.commitment.specs.declared.UnitRecord.{UnitRecord}
 use Rattle.assessment.specs.Assessed.{assessed}
 use Rattle.exports.specs.Answers.{assessNumbers}
 
-record-of-requires : tie.Need-record-of-requires
-record-of-requires c κs = search needs
-
-assess-requires : tie.Need-assess-requires
-assess-requires c κs = search needs
-
-of-assessment-requires : tie.Need-of-assessment-requires
-of-assessment-requires c κs = search needs
-
 returns : tie.Need-returns
 returns c =
     let s = c .before .before .before .before in
@@ -25,4 +16,4 @@ returns c =
 
 pub ralwinga-assess-spec : {M : Type 1} → statement M
 ralwinga-assess-spec =
-    tie.close (tie.spec record-of-requires assess-requires of-assessment-requires returns)
+    tie.close (tie.spec (λ c κs. search needs) (λ c κs. search needs) (λ c κs. search needs) returns)

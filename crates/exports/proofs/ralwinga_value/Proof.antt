@@ -5,18 +5,6 @@ use Rattle.exports.proofs.ralwinga_value.Tie as tie
 use mathlib.Core.Path.{ap, _∙_}
 use Rattle.exports.specs.Answers.{valueNumbers}
 
-record-of-requires : tie.Need-record-of-requires
-record-of-requires c κs = search needs
-
-value-requires : tie.Need-value-requires
-value-requires c κs = search needs
-
-of-value-requires : tie.Need-of-value-requires
-of-value-requires c κs = search needs
-
-same-length : tie.Need-same-length
-same-length c = search needs
-
 returns : tie.Need-returns
 returns c =
     let w = c .before .before in
@@ -25,4 +13,4 @@ returns c =
 
 pub ralwinga-value-spec : {M : Type 1} → statement M
 ralwinga-value-spec =
-    tie.close (tie.spec record-of-requires value-requires of-value-requires same-length returns)
+    tie.close (tie.spec (λ c κs. search needs) (λ c κs. search needs) (λ c κs. search needs) (λ c. search needs) returns)

@@ -5,11 +5,8 @@ use Rattle.integers.proofs.Ranges.{plain, within-at}
 use Rattle.integers.proofs.signed.Statement.{statement}
 use Rattle.integers.proofs.signed.Tie as tie
 
-cast-result : tie.Need-cast-result
-cast-result c = search needs
-
 returns : tie.Need-returns
 returns c = plain (within-at (c .args .x)) (omega arith)
 
 pub signed-spec : {M : Type 1} → statement M
-signed-spec = tie.close (tie.spec cast-result returns)
+signed-spec = tie.close (tie.spec (λ c. search needs) returns)

@@ -8,23 +8,8 @@ use borrow.Author.Needs.{needs}
 use Rattle.casefile.proofs.fields.limit.Statement.{statement}
 use Rattle.casefile.proofs.fields.limit.Tie as tie
 
-enum-told : tie.Need-enum-told
-enum-told c = search needs
-
-enum-told-2 : tie.Need-enum-told-2
-enum-told-2 c = search needs
-
-enum-known-value : tie.Need-enum-known-value
-enum-known-value c = search needs
-
-natural-requires : tie.Need-natural-requires
-natural-requires c κs = search needs
-
 returns : tie.Need-returns
 returns c = ap limitOf (sym (c .enum-told .given .1))
-
-returns-2 : tie.Need-returns-2
-returns-2 c = search needs
 
 returns-3 : tie.Need-returns-3
 returns-3 c =
@@ -34,4 +19,4 @@ returns-3 c =
 pub limit-spec : {M : Type 1} → statement M
 limit-spec =
     tie.close
-    (tie.spec enum-told enum-told-2 enum-known-value natural-requires returns returns-2 returns-3)
+    (tie.spec (λ c. search needs) (λ c. search needs) (λ c. search needs) (λ c κs. search needs) returns (λ c. search needs) returns-3)

@@ -5,14 +5,8 @@ use borrow.Author.Needs.{needs}
 use Rattle.casefile.proofs.fields.limit_under.Statement.{statement}
 use Rattle.casefile.proofs.fields.limit_under.Tie as tie
 
-value-under-requires : tie.Need-value-under-requires
-value-under-requires c κs = search needs
-
-limit-requires : tie.Need-limit-requires
-limit-requires c κs = search needs
-
 returns : tie.Need-returns
 returns c = c .limit .ensures ∙ ap limitOf (c .before .value-under .ensures)
 
 pub limit-under-spec : {M : Type 1} → statement M
-limit-under-spec = tie.close (tie.spec value-under-requires limit-requires returns)
+limit-under-spec = tie.close (tie.spec (λ c κs. search needs) (λ c κs. search needs) returns)

@@ -7,24 +7,6 @@ use borrow.Author.Needs.{needs}
 use Rattle.casefile.proofs.fields.whole.Statement.{statement}
 use Rattle.casefile.proofs.fields.whole.Tie as tie
 
-enum-told : tie.Need-enum-told
-enum-told c = search needs
-
-enum-told-2 : tie.Need-enum-told-2
-enum-told-2 c = search needs
-
-enum-known-value : tie.Need-enum-known-value
-enum-known-value c = search needs
-
-natural-requires : tie.Need-natural-requires
-natural-requires c κs = search needs
-
-returns : tie.Need-returns
-returns c = search needs
-
-returns-2 : tie.Need-returns-2
-returns-2 c = search needs
-
 returns-3 : tie.Need-returns-3
 returns-3 c =
     let v = c .before .before .value .given in
@@ -33,4 +15,4 @@ returns-3 c =
 pub whole-spec : {M : Type 1} → statement M
 whole-spec =
     tie.close
-    (tie.spec enum-told enum-told-2 enum-known-value natural-requires returns returns-2 returns-3)
+    (tie.spec (λ c. search needs) (λ c. search needs) (λ c. search needs) (λ c κs. search needs) (λ c. search needs) (λ c. search needs) returns-3)

@@ -5,14 +5,8 @@ use borrow.Author.Needs.{needs}
 use Rattle.casefile.proofs.fields.whole_under.Statement.{statement}
 use Rattle.casefile.proofs.fields.whole_under.Tie as tie
 
-value-under-requires : tie.Need-value-under-requires
-value-under-requires c κs = search needs
-
-whole-requires : tie.Need-whole-requires
-whole-requires c κs = search needs
-
 returns : tie.Need-returns
 returns c = c .whole .ensures ∙ ap wholeOf (c .before .value-under .ensures)
 
 pub whole-under-spec : {M : Type 1} → statement M
-whole-under-spec = tie.close (tie.spec value-under-requires whole-requires returns)
+whole-under-spec = tie.close (tie.spec (λ c κs. search needs) (λ c κs. search needs) returns)

@@ -9,12 +9,6 @@ use borrow.Author.Needs.{needs}
 use Rattle.casefile.proofs.pricing.prices_counted.Statement.{statement}
 use Rattle.casefile.proofs.pricing.prices_counted.Tie as tie
 
-lines-from-requires : tie.Need-lines-from-requires
-lines-from-requires c κs = search needs
-
-lines-in-requires : tie.Need-lines-in-requires
-lines-in-requires c κs = search needs
-
 returns : tie.Need-returns
 unfolding pricesIn
 returns c =
@@ -23,4 +17,4 @@ returns c =
     c .lines-in .ensures ∙ ap (λ (ls : List (List ℕ)). length ls) (r .lines-from .ensures) ∙ sym (length-map (priceRows text) (priceOf (priceHead text)))
 
 pub prices-counted-spec : {M : Type 1} → statement M
-prices-counted-spec = tie.close (tie.spec lines-from-requires lines-in-requires returns)
+prices-counted-spec = tie.close (tie.spec (λ c κs. search needs) (λ c κs. search needs) returns)

@@ -6,14 +6,8 @@ use borrow.Author.Needs.{needs}
 use Rattle.casefile.proofs.pricing.row_kept.Statement.{statement}
 use Rattle.casefile.proofs.pricing.row_kept.Tie as tie
 
-price-of-requires : tie.Need-price-of-requires
-price-of-requires c κs = search needs
-
-price-kept-requires : tie.Need-price-kept-requires
-price-kept-requires c κs = search needs
-
 returns : tie.Need-returns
 returns c = c .price-kept .ensures ∙ ap priceKept (plain-fits (record { sfits = c .before .price-of .ok }) ∙ c .before .price-of .ensures)
 
 pub row-kept-spec : {M : Type 1} → statement M
-row-kept-spec = tie.close (tie.spec price-of-requires price-kept-requires returns)
+row-kept-spec = tie.close (tie.spec (λ c κs. search needs) (λ c κs. search needs) returns)

@@ -15,11 +15,8 @@ measured : (s : List ℕ) → eqb (length s) 0 ≡ isEmpty s
 measured [] = refl
 measured (b ∷ bs) = ne-eqb (suc (length bs)) 0 (λ e. omega arith)
 
-line-requires : tie.Need-line-requires
-line-requires c κs = search needs
-
 returns : tie.Need-returns
 returns c = ap (λ (s : List ℕ). eqb (length s) 0) (c .line .ensures) ∙ measured (emptyLine (c .before .before .args .text .now))
 
 pub third-empty-spec : {M : Type 1} → statement M
-third-empty-spec = tie.close (tie.spec line-requires returns)
+third-empty-spec = tie.close (tie.spec (λ c κs. search needs) returns)

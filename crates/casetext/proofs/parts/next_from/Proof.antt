@@ -10,12 +10,6 @@ use native.Mathlib.Omega.{arith}
 use Rattle.casetext.proofs.parts.next_from.Statement.{statement}
 use Rattle.casetext.proofs.parts.next_from.Tie as tie
 
-end-from-requires : tie.Need-end-from-requires
-end-from-requires c κs = search needs
-
-add-result : tie.Need-add-result
-add-result c = search needs
-
 returns : tie.Need-returns
 returns c =
     let e = c .before in
@@ -34,4 +28,4 @@ returns-2 c =
     )
 
 pub next-from-spec : {M : Type 1} → statement M
-next-from-spec = tie.close (tie.spec end-from-requires add-result returns returns-2)
+next-from-spec = tie.close (tie.spec (λ c κs. search needs) (λ c. search needs) returns returns-2)

@@ -5,15 +5,6 @@ use Rattle.exports.proofs.numbers.of_plan.Tie as tie
 use mathlib.Core.Path.{refl}
 use Rattle.integers.proofs.Ranges.{plain-fits}
 
-planned-number-requires : tie.Need-planned-number-requires
-planned-number-requires c κs = search needs
-
-planned-count-requires : tie.Need-planned-count-requires
-planned-count-requires c κs = search needs
-
-planned-profit-requires : tie.Need-planned-profit-requires
-planned-profit-requires c κs = search needs
-
 returns : tie.Need-returns
 returns c =
     rw (
@@ -27,4 +18,4 @@ returns c =
 pub of-plan-spec : {M : Type 1} → statement M
 of-plan-spec =
     tie.close
-    (tie.spec planned-number-requires planned-count-requires planned-profit-requires returns)
+    (tie.spec (λ c κs. search needs) (λ c κs. search needs) (λ c κs. search needs) returns)

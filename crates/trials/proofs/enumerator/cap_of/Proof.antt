@@ -5,15 +5,6 @@ use Rattle.trials.specs.Expecting.{capOf}
 use Rattle.trials.proofs.enumerator.cap_of.Statement.{statement}
 use Rattle.trials.proofs.enumerator.cap_of.Tie as tie
 
-enum-told : tie.Need-enum-told
-enum-told c = search needs
-
-enum-told-2 : tie.Need-enum-told-2
-enum-told-2 c = search needs
-
-enum-told-3 : tie.Need-enum-told-3
-enum-told-3 c = search needs
-
 returns : tie.Need-returns
 returns c = ap (capOf (c .before .before .before .args .case)) (sym (c .before .enum-told .given .1))
 
@@ -24,4 +15,4 @@ returns-3 : tie.Need-returns-3
 returns-3 c = ap (capOf (c .before .before .before .args .case)) (sym (c .before .enum-told3 .given .1))
 
 pub cap-of-spec : {M : Type 1} → statement M
-cap-of-spec = tie.close (tie.spec enum-told enum-told-2 enum-told-3 returns returns-2 returns-3)
+cap-of-spec = tie.close (tie.spec (λ c. search needs) (λ c. search needs) (λ c. search needs) returns returns-2 returns-3)

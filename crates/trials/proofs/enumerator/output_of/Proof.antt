@@ -6,21 +6,6 @@ use borrow.Author.Needs.{needs}
 use Rattle.trials.proofs.enumerator.output_of.Statement.{statement}
 use Rattle.trials.proofs.enumerator.output_of.Tie as tie
 
-returns : tie.Need-returns
-returns c = search needs
-
-wide8-requires : tie.Need-wide8-requires
-wide8-requires c κs = search needs
-
-add-result : tie.Need-add-result
-add-result c = search needs
-
-sub-result : tie.Need-sub-result
-sub-result c = search needs
-
-wide8-requires-2 : tie.Need-wide8-requires-2
-wide8-requires-2 c κs = search needs
-
 bounded : (a b : ℕ) → a < 2 ^ 10 → b < 2 ^ 8 → a * b < 2 ^ 18
 bounded a b h k = omega (arith, mul-le-mul {n₁ = a} {m₁ = b} {n₂ = 1023} {m₂ = 255} (omega arith) (omega arith))
 
@@ -36,4 +21,4 @@ returns-2 c = omega (arith, whole c)
 pub output-of-spec : {M : Type 1} → statement M
 output-of-spec =
     tie.close
-    (tie.spec returns wide8-requires add-result sub-result wide8-requires-2 mul-result returns-2)
+    (tie.spec (λ c. search needs) (λ c κs. search needs) (λ c. search needs) (λ c. search needs) (λ c κs. search needs) mul-result returns-2)

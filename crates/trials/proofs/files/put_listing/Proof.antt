@@ -12,15 +12,6 @@ use borrow.Author.Needs.{needs}
 use Rattle.trials.proofs.files.put_listing.Statement.{statement}
 use Rattle.trials.proofs.files.put_listing.Tie as tie
 
-write-listing-requires : tie.Need-write-listing-requires
-write-listing-requires c κs = search needs
-
-bytes-in-requires : tie.Need-bytes-in-requires
-bytes-in-requires c κs = search needs
-
-same-length : tie.Need-same-length
-same-length c = search needs
-
 fits : (c : tie.After-bytes-in) → c .bytes-in .result ≤ length (c .before .before .before .write-listing .last .1 .1 .1 .0)
 fits c =
     let s = c .before .before .before .before .before .before .before in
@@ -32,4 +23,4 @@ returns : tie.Need-returns
 returns c = (fits c, sym (length-take-le _ _ (fits c)))
 
 pub put-listing-spec : {M : Type 1} → statement M
-put-listing-spec = tie.close (tie.spec write-listing-requires bytes-in-requires same-length returns)
+put-listing-spec = tie.close (tie.spec (λ c κs. search needs) (λ c κs. search needs) (λ c. search needs) returns)

@@ -10,15 +10,6 @@ use borrow.Author.Needs.{needs}
 use Rattle.trials.proofs.files.put_refusal.Statement.{statement}
 use Rattle.trials.proofs.files.put_refusal.Tie as tie
 
-write-refusal-requires : tie.Need-write-refusal-requires
-write-refusal-requires c κs = search needs
-
-bytes-in-requires : tie.Need-bytes-in-requires
-bytes-in-requires c κs = search needs
-
-same-length : tie.Need-same-length
-same-length c = search needs
-
 fits : (c : tie.After-bytes-in) → c .bytes-in .result ≤ length (c .before .before .before .write-refusal .last .1 .0)
 fits c =
     let s = c .before .before .before .before .before .before in
@@ -30,4 +21,4 @@ returns : tie.Need-returns
 returns c = (fits c, sym (length-take-le _ _ (fits c)))
 
 pub put-refusal-spec : {M : Type 1} → statement M
-put-refusal-spec = tie.close (tie.spec write-refusal-requires bytes-in-requires same-length returns)
+put-refusal-spec = tie.close (tie.spec (λ c κs. search needs) (λ c κs. search needs) (λ c. search needs) returns)

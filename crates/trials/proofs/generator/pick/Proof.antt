@@ -5,9 +5,6 @@ use native.Mathlib.Nat.{mod-lt}
 use Rattle.trials.proofs.generator.pick.Statement.{statement}
 use Rattle.trials.proofs.generator.pick.Tie as tie
 
-rem-result : tie.Need-rem-result
-rem-result c = search needs
-
 cast-result : tie.Need-cast-result
 cast-result c = omega (arith, mod-lt (c .args .draw) (c .pre .0))
 
@@ -18,4 +15,4 @@ returns : tie.Need-returns
 returns c = omega (arith, mod-lt (c .args .draw) (c .pre .0))
 
 pub pick-spec : {M : Type 1} → statement M
-pick-spec = tie.close (tie.spec rem-result cast-result add-result returns)
+pick-spec = tie.close (tie.spec (λ c. search needs) cast-result add-result returns)

@@ -10,9 +10,6 @@ use Rattle.integers.proofs.Ranges.{within-at, within-diff, within-fits}
 use Rattle.trials.proofs.numbers.difference.Statement.{statement}
 use Rattle.trials.proofs.numbers.difference.Tie as tie
 
-cast-result : tie.Need-cast-result
-cast-result c = search needs
-
 returns : tie.Need-returns
 returns c =
     let a = c .before .args .a in
@@ -20,12 +17,6 @@ returns c =
     let small : a - b < 2 ^ 63 = omega arith in
     rw (toZ-pos w64 small)
     (omega (zarith, zdiff (pos a) (pos b), up-pos a, dn-pos a, up-pos b, dn-pos b, up-pos (a - b), dn-pos (a - b)))
-
-sub-result : tie.Need-sub-result
-sub-result c = search needs
-
-cast-result-2 : tie.Need-cast-result-2
-cast-result-2 c = search needs
 
 sub-result-2 : tie.Need-sub-result-2
 sub-result-2 c =
@@ -43,4 +34,4 @@ returns-2 c =
 
 pub difference-spec : {M : Type 1} → statement M
 difference-spec =
-    tie.close (tie.spec cast-result returns sub-result cast-result-2 sub-result-2 returns-2)
+    tie.close (tie.spec (λ c. search needs) returns (λ c. search needs) (λ c. search needs) sub-result-2 returns-2)
