@@ -81,7 +81,7 @@ module _ (first : Cause) (reason : Reason) (same : first ≡ reason .cause) (res
   passed-step false judged next =
       (λ e. let z : _≡_ {A = ℕ} 0 1 = cc in absurd (omega arith), λ none. absurd (none .0 (judged .0 refl)))
 
-pub refused-first : (checks : List Check) (reasons : List Reason) {cause : Cause} → Judged checks reasons
+refused-first : (checks : List Check) (reasons : List Reason) {cause : Cause} → Judged checks reasons
     → (firstOf checks ≡ Refused cause) ↔ FirstOf reasons cause
 refused-first [] [] judged = (λ e. let z : _≡_ {A = ℕ} 0 1 = cc in absurd (omega arith), λ none. absurd none)
 refused-first [] (reason ∷ reasons) judged = absurd judged
@@ -89,14 +89,40 @@ refused-first (check ∷ checks) [] judged = absurd judged
 refused-first (check ∷ checks) (reason ∷ reasons) judged =
     refused-step (check .cause) reason (judged .0) (firstOf checks) reasons (check .kept) (judged .1) (λ i. refused-first checks reasons (judged .2 i))
 
-pub passed-none : (checks : List Check) (reasons : List Reason) → Judged checks reasons → (firstOf checks ≡ Passed) ↔ NoneOf reasons
+passed-none : (checks : List Check) (reasons : List Reason) → Judged checks reasons → (firstOf checks ≡ Passed) ↔ NoneOf reasons
 passed-none [] [] judged = (λ e. tt, λ none. refl)
 passed-none [] (reason ∷ reasons) judged = absurd judged
 passed-none (check ∷ checks) [] judged = absurd judged
 passed-none (check ∷ checks) (reason ∷ reasons) judged =
     passed-step (check .cause) reason (judged .0) (firstOf checks) reasons (check .kept) (judged .1) (λ i. passed-none checks reasons (judged .2 i))
 
--- a cause that stands once in a list is given only where it holds and none before it does
+-- ---- a call's answer, made of what its checks found
+
+-- a refusal with the cause found, and another answer where they passed
+pub record Answers {A : Type 0} (answer : Checked → A) (refused : Cause → A) : Type 0 where
+  pub is : (cause : Cause) → answer (Refused cause) ≡ refused cause
+  pub alike : (given cause : Cause) → refused given ≡ refused cause → given ≡ cause
+  pub other : (cause : Cause) → answer Passed ≡ refused cause → ⊥
+
+module _ {A : Type 0} {answer : Checked → A} {refused : Cause → A} (answers : Answers answer refused) where
+  module _ (checks : List Check) (reasons : List Reason) (judged : Judged checks reasons) where
+    -- refused exactly where what was found is, and with its cause
+    pub answer-refused : {cause : Cause} → (answer (firstOf checks) ≡ refused cause) ↔ FirstOf reasons cause
+    answer-refused {cause} = Iff·trans (by (firstOf checks), λ e. ap answer e ∙ answers .is cause) (refused-first checks reasons judged)
+      where
+        by : (k : Checked) → answer k ≡ refused cause → k ≡ Refused cause
+        by Passed e = absurd (answers .other cause e)
+        by (Refused given) e = ap Refused (answers .alike given cause (sym (answers .is given) ∙ e))
+
+    pub answer-given : (answer (firstOf checks) ≡ answer Passed) ↔ NoneOf reasons
+    answer-given = Iff·trans (by (firstOf checks), λ e. ap answer e) (passed-none checks reasons judged)
+      where
+        by : (k : Checked) → answer k ≡ answer Passed → k ≡ Passed
+        by Passed e = refl
+        by (Refused given) e = absurd (answers .other given (sym e ∙ answers .is given))
+
+-- ---- a cause that stands once in a list is given only where it holds and none before it does
+
 abbrev pub apart : Cause → List Reason → Bool
 apart cause [] = true
 apart cause (reason ∷ reasons) = not (eqb (numberOf (reason .cause)) (numberOf cause)) && apart cause reasons
@@ -149,21 +175,16 @@ module _ (text : List ℕ) (room : ℕ) where
   read-judged =
       text-judged text (roomChecks text room) ((Length when room < length (pricesIn text)) ∷ []) (λ _ _. (refl, at-most (length (pricesIn text)) room, λ _. tt))
 
+  read-answers : Answers (λ k. readBy k (unitIn text) (length (pricesIn text))) read.Refused
+  read-answers = record { is = λ _. refl; alike = λ _ _ e. cc; other = λ _ e. let z : _≡_ {A = ℕ} 0 1 = cc in absurd (omega arith) }
+
   pub reading-refused : {cause : Cause} → (readCase text room ≡ read.Refused cause) ↔ FirstOf (readingCauses text room) cause
   unfolding readCase textChecked
-  reading-refused {cause} = Iff·trans (by (textChecked text room)) (refused-first (textChecks text room) (readingCauses text room) read-judged)
-    where
-      by : (k : Checked) → (readBy k (unitIn text) (length (pricesIn text)) ≡ read.Refused cause) ↔ (k ≡ Refused cause)
-      by Passed = (λ e. let z : _≡_ {A = ℕ} 0 1 = cc in absurd (omega arith), λ e. let z : _≡_ {A = ℕ} 0 1 = cc in absurd (omega arith))
-      by (Refused given) = (λ e. let same : given ≡ cause = cc in ap Refused same, λ e. let same : given ≡ cause = cc in ap read.Refused same)
+  reading-refused = answer-refused read-answers (textChecks text room) (readingCauses text room) read-judged
 
   pub reading-answered : (readCase text room ≡ read.Case (unitIn text) (length (pricesIn text))) ↔ NoneOf (readingCauses text room)
   unfolding readCase textChecked
-  reading-answered = Iff·trans (by (textChecked text room)) (passed-none (textChecks text room) (readingCauses text room) read-judged)
-    where
-      by : (k : Checked) → (readBy k (unitIn text) (length (pricesIn text)) ≡ read.Case (unitIn text) (length (pricesIn text))) ↔ (k ≡ Passed)
-      by Passed = (λ e. refl, λ e. refl)
-      by (Refused given) = (λ e. let z : _≡_ {A = ℕ} 0 1 = cc in absurd (omega arith), λ e. let z : _≡_ {A = ℕ} 0 1 = cc in absurd (omega arith))
+  reading-answered = answer-given read-answers (textChecks text room) (readingCauses text room) read-judged
 
 -- ---- cost figures
 
@@ -175,21 +196,16 @@ module _ (k : CostInputs) (mws heats : List ℕ) where
     λ _. (refl, Iff·rfl, λ _. (refl, as-many (totalMw mws) (rangeMw k), λ _. (refl, as-many (length mws) (length heats), λ _. tt))),
   )
 
+  cost-answers : Answers (λ c. costedBy c (threeFigures k mws heats)) cost.Refused
+  cost-answers = record { is = λ _. refl; alike = λ _ _ e. cc; other = λ _ e. let z : _≡_ {A = ℕ} 0 1 = cc in absurd (omega arith) }
+
   pub figures-refused : {cause : Cause} → (costed k mws heats ≡ cost.Refused cause) ↔ FirstOf (costCauses k mws heats) cause
   unfolding costed inputsChecked
-  figures-refused {cause} = Iff·trans (by (inputsChecked k mws heats)) (refused-first (inputsChecks k mws heats) (costCauses k mws heats) cost-judged)
-    where
-      by : (c : Checked) → (costedBy c (threeFigures k mws heats) ≡ cost.Refused cause) ↔ (c ≡ Refused cause)
-      by Passed = (λ e. let z : _≡_ {A = ℕ} 0 1 = cc in absurd (omega arith), λ e. let z : _≡_ {A = ℕ} 0 1 = cc in absurd (omega arith))
-      by (Refused given) = (λ e. let same : given ≡ cause = cc in ap Refused same, λ e. let same : given ≡ cause = cc in ap cost.Refused same)
+  figures-refused = answer-refused cost-answers (inputsChecks k mws heats) (costCauses k mws heats) cost-judged
 
   pub figures-answered : (costed k mws heats ≡ cost.Figures (threeFigures k mws heats)) ↔ NoneOf (costCauses k mws heats)
   unfolding costed inputsChecked
-  figures-answered = Iff·trans (by (inputsChecked k mws heats)) (passed-none (inputsChecks k mws heats) (costCauses k mws heats) cost-judged)
-    where
-      by : (c : Checked) → (costedBy c (threeFigures k mws heats) ≡ cost.Figures (threeFigures k mws heats)) ↔ (c ≡ Passed)
-      by Passed = (λ e. refl, λ e. refl)
-      by (Refused given) = (λ e. let z : _≡_ {A = ℕ} 0 1 = cc in absurd (omega arith), λ e. let z : _≡_ {A = ℕ} 0 1 = cc in absurd (omega arith))
+  figures-answered = answer-given cost-answers (inputsChecks k mws heats) (costCauses k mws heats) cost-judged
 
 -- ---- handing in
 
@@ -199,22 +215,17 @@ module _ (u : UnitRecord) (prices : List ℤ) (s : List ℕ) where
       case-judged u prices (handedChecks u prices s) (handedCauses u prices s)
       (λ _ _. (refl, as-many (length s) (length prices), λ _. (refl, Iff·rfl, λ _. tt)))
 
+  hand-answers : Answers (λ k. assessedBy k (profit u prices s)) hand.Refused
+  hand-answers = record { is = λ _. refl; alike = λ _ _ e. cc; other = λ _ e. let z : _≡_ {A = ℕ} 0 1 = cc in absurd (omega arith) }
+
   pub handing-in-refused : {cause : Cause} → (assessed u prices s ≡ hand.Refused cause) ↔ FirstOf (handInCauses u prices s) cause
   unfolding handInChecked
-  handing-in-refused {cause} = Iff·trans (by (handInChecked u prices s)) (refused-first (handInChecks u prices s) (handInCauses u prices s) hand-judged)
-    where
-      by : (k : Checked) → (assessedBy k (profit u prices s) ≡ hand.Refused cause) ↔ (k ≡ Refused cause)
-      by Passed = (λ e. let z : _≡_ {A = ℕ} 0 1 = cc in absurd (omega arith), λ e. let z : _≡_ {A = ℕ} 0 1 = cc in absurd (omega arith))
-      by (Refused given) = (λ e. let same : given ≡ cause = cc in ap Refused same, λ e. let same : given ≡ cause = cc in ap hand.Refused same)
+  handing-in-refused = answer-refused hand-answers (handInChecks u prices s) (handInCauses u prices s) hand-judged
 
   -- it is passed, with formula (7)
   pub handing-in-passed : (assessed u prices s ≡ hand.Profit (profit u prices s)) ↔ NoneOf (handInCauses u prices s)
   unfolding handInChecked
-  handing-in-passed = Iff·trans (by (handInChecked u prices s)) (passed-none (handInChecks u prices s) (handInCauses u prices s) hand-judged)
-    where
-      by : (k : Checked) → (assessedBy k (profit u prices s) ≡ hand.Profit (profit u prices s)) ↔ (k ≡ Passed)
-      by Passed = (λ e. refl, λ e. refl)
-      by (Refused given) = (λ e. let z : _≡_ {A = ℕ} 0 1 = cc in absurd (omega arith), λ e. let z : _≡_ {A = ℕ} 0 1 = cc in absurd (omega arith))
+  handing-in-passed = answer-given hand-answers (handInChecks u prices s) (handInCauses u prices s) hand-judged
 
 -- ---- planning, reporting and valuing
 
@@ -320,22 +331,16 @@ module _ (u : UnitRecord) (prices : List ℤ) where
     value-judged : Judged (valueChecks u prices cells) (valuingCauses u prices cells)
     value-judged = case-judged u prices (tableChecks cells) (tableCauses u prices cells) (table-judged cells)
 
+    value-answers : Answers (λ k. valuedBy k (outcomesOf u prices)) values.Refused
+    value-answers = record { is = λ _. refl; alike = λ _ _ e. cc; other = λ _ e. let z : _≡_ {A = ℕ} 0 1 = cc in absurd (omega arith) }
+
     pub valuing-refused : {cause : Cause} → (valued u prices cells ≡ values.Refused cause) ↔ FirstOf (valuingCauses u prices cells) cause
     unfolding valueChecked
-    valuing-refused {cause} =
-        Iff·trans (by (valueChecked u prices cells)) (refused-first (valueChecks u prices cells) (valuingCauses u prices cells) value-judged)
-      where
-        by : (k : Checked) → (valuedBy k (outcomesOf u prices) ≡ values.Refused cause) ↔ (k ≡ Refused cause)
-        by Passed = (λ e. let z : _≡_ {A = ℕ} 0 1 = cc in absurd (omega arith), λ e. let z : _≡_ {A = ℕ} 0 1 = cc in absurd (omega arith))
-        by (Refused given) = (λ e. let same : given ≡ cause = cc in ap Refused same, λ e. let same : given ≡ cause = cc in ap values.Refused same)
+    valuing-refused = answer-refused value-answers (valueChecks u prices cells) (valuingCauses u prices cells) value-judged
 
     pub valuing-answered : (valued u prices cells ≡ values.Outcomes (outcomesOf u prices)) ↔ NoneOf (valuingCauses u prices cells)
     unfolding valueChecked
-    valuing-answered = Iff·trans (by (valueChecked u prices cells)) (passed-none (valueChecks u prices cells) (valuingCauses u prices cells) value-judged)
-      where
-        by : (k : Checked) → (valuedBy k (outcomesOf u prices) ≡ values.Outcomes (outcomesOf u prices)) ↔ (k ≡ Passed)
-        by Passed = (λ e. refl, λ e. refl)
-        by (Refused given) = (λ e. let z : _≡_ {A = ℕ} 0 1 = cc in absurd (omega arith), λ e. let z : _≡_ {A = ℕ} 0 1 = cc in absurd (omega arith))
+    valuing-answered = answer-given value-answers (valueChecks u prices cells) (valuingCauses u prices cells) value-judged
 
 -- ---- answering a text
 

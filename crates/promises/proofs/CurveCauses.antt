@@ -1,9 +1,9 @@
 -- Of a bid curve: a number exactly where its cause is the first of the order that holds, segments exactly where none holds, and on a refusal the
 -- lists as they were.
-use mathlib.Core.Path.{_≡_, refl, ap}
+use mathlib.Core.Path.{_≡_, refl}
 use mathlib.Core.Bool.{Bool, true, false, _&&_}
 use mathlib.Core.List.{List}
-use mathlib.Core.Logic.{_↔_, _⊎_, inl, inr, ⊎-elim, Iff·rfl, Iff·trans}
+use mathlib.Core.Logic.{_↔_, _⊎_, inl, inr, ⊎-elim, Iff·rfl}
 use Prim.Native.Nat.{ℕ, _-_}
 use native.Mathlib.Omega.{arith}
 use lib.Dec.{leb, eqb}
@@ -19,7 +19,7 @@ use Rattle.curves.specs.Curve.{finalCurve}
 use Rattle.curves.specs.Answers.{curvedBy, curved, leftBy, curveLeft}
 use Rattle.promises.specs.Causes.{FirstOf, NoneOf}
 use Rattle.promises.specs.Curves.{curveCauses}
-use Rattle.promises.proofs.Causes.{Judged, refused-first, passed-none, at-most, as-many}
+use Rattle.promises.proofs.Causes.{Judged, Answers, answer-refused, answer-given, at-most, as-many}
 
 -- one of two checks fails
 either : {A B : Type 0} (a b : Bool) → (a ≡ false) ↔ A → (b ≡ false) ↔ B → (a && b ≡ false) ↔ (A ⊎ B)
@@ -43,24 +43,17 @@ module _ (k : CurveInputs) (levels rates : List ℕ) (room : ℕ) where
     ),
   )
 
+  curve-answers : Answers (λ c. curvedBy c (finalCurve k levels rates)) curve.Refused
+  curve-answers = record { is = λ _. refl; alike = λ _ _ e. cc; other = λ _ e. let z : _≡_ {A = ℕ} 0 1 = cc in absurd (omega arith) }
+
   pub curve-refused : {cause : Cause} → (curved k levels rates room ≡ curve.Refused cause) ↔ FirstOf (curveCauses k levels rates room) cause
   unfolding curved curveChecked
-  curve-refused {cause} =
-      Iff·trans (by (curveChecked k levels rates room)) (refused-first (curveChecks k levels rates room) (curveCauses k levels rates room) judged)
-    where
-      by : (c : Checked) → (curvedBy c (finalCurve k levels rates) ≡ curve.Refused cause) ↔ (c ≡ Refused cause)
-      by Passed = (λ e. let z : _≡_ {A = ℕ} 0 1 = cc in absurd (omega arith), λ e. let z : _≡_ {A = ℕ} 0 1 = cc in absurd (omega arith))
-      by (Refused given) = (λ e. let same : given ≡ cause = cc in ap Refused same, λ e. let same : given ≡ cause = cc in ap curve.Refused same)
+  curve-refused = answer-refused curve-answers (curveChecks k levels rates room) (curveCauses k levels rates room) judged
 
   pub curve-answered :
       (curved k levels rates room ≡ curve.Segments (length (finalCurve k levels rates))) ↔ NoneOf (curveCauses k levels rates room)
   unfolding curved curveChecked
-  curve-answered =
-      Iff·trans (by (curveChecked k levels rates room)) (passed-none (curveChecks k levels rates room) (curveCauses k levels rates room) judged)
-    where
-      by : (c : Checked) → (curvedBy c (finalCurve k levels rates) ≡ curve.Segments (length (finalCurve k levels rates))) ↔ (c ≡ Passed)
-      by Passed = (λ e. refl, λ e. refl)
-      by (Refused given) = (λ e. let z : _≡_ {A = ℕ} 0 1 = cc in absurd (omega arith), λ e. let z : _≡_ {A = ℕ} 0 1 = cc in absurd (omega arith))
+  curve-answered = answer-given curve-answers (curveChecks k levels rates room) (curveCauses k levels rates room) judged
 
   pub list-untouched :
       {A : Type 0} (part : Segment → A) (was : List A) {cause : Cause} → curved k levels rates room ≡ curve.Refused cause →

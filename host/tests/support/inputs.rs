@@ -108,7 +108,8 @@ fn round_inputs(random: &mut Random) -> Inputs {
     let rounded = CostInputs {
         gas: 50 * random.below(20),
         transport: 0,
-        rate: 0,
+        allowance: 100 * random.below(101),
+        rate: random.from(&[0, 100_000, 500_000]),
         min_heat: 10 * (1 + random.below(2000)),
         minutes: 15 * random.below(9),
         ..inputs
