@@ -45,7 +45,7 @@ use Rattle.answers.specs.declared.Lent.{Lent}
 use Rattle.answers.specs.Answering.{longEnough, allFound, reportOn}
 use Rattle.answers.specs.Answering as answers
 use Rattle.promises.specs.Causes.{Reason, _when_, FirstOf, NoneOf, caseCauses, textCauses, readingCauses, costCauses, handedCauses, handInCauses}
-use Rattle.promises.specs.Causes.{NoRival, tableCauses, planningCauses, valuingCauses, answeringCauses}
+use Rattle.promises.specs.Causes.{NoRival, tableCauses, slicesCauses, planningCauses, valuingCauses, answeringCauses}
 
 -- ---- along any list of checks: each fails exactly where its cause holds, where those before it are kept
 
@@ -120,6 +120,12 @@ module _ {A : Type 0} {answer : Checked → A} {refused : Cause → A} (answers 
         by : (k : Checked) → answer k ≡ answer Passed → k ≡ Passed
         by Passed e = refl
         by (Refused given) e = absurd (answers .other given (sym e ∙ answers .is given))
+
+-- ---- where none of a list holds, none of its later part does
+
+pub none-later : (before after : List Reason) → NoneOf (before ++ after) → NoneOf after
+none-later [] after none = none
+none-later (first ∷ before) after none = none-later before after (none .1)
 
 -- ---- a cause that stands once in a list is given only where it holds and none before it does
 
@@ -280,7 +286,7 @@ module _ (u : UnitRecord) (prices : List ℤ) where
     plan-judged : Judged (planChecks u prices cells entries) (planningCauses u prices cells entries)
     plan-judged =
         case-judged u prices (slicesChecks u (length prices) (leb (length prices) entries) cells ++ scheduleChecks u prices)
-        ((Length when entries < length prices) ∷ tableCauses u prices cells)
+        (slicesCauses u prices cells entries)
         (λ ranges shape. (refl, at-most (length prices) entries, λ _. table-judged cells ranges shape))
 
     plan-found : planChecked u prices cells entries ≡ Passed → best u prices ≡ nothing → ⊥

@@ -35,9 +35,9 @@ use Rattle.planner.specs.Planning.{slicesChecks, lentChecked, scheduleChecked, 
 use Rattle.planner.specs.Reporting.{reportedBy, reported}
 use Rattle.planner.specs.Valuing.{valueLent, valueChecked, valuedBy, valued}
 use Rattle.planner.proofs.Lent.{lent-turn, value-lent, plan-turn, value-turn}
-use Rattle.promises.specs.Causes.{NoRival}
+use Rattle.promises.specs.Causes.{NoRival, caseCauses, tableCauses, slicesCauses}
 use Rattle.promises.specs.Outcomes.{outcomeFor}
-use Rattle.promises.proofs.Causes.{valuing-answered, reporting-answered}
+use Rattle.promises.proofs.Causes.{valuing-answered, reporting-answered, none-later}
 use Rattle.promises.proofs.NoStart.{none-lower-none}
 
 module _ (u : UnitRecord) (prices : List ℤ) where
@@ -145,8 +145,10 @@ module _ (u : UnitRecord) (prices : List ℤ) where
   pub value-starts : (cells : ℕ) (o : Outcomes) → valued u prices cells ≡ values.Outcomes o → o .starts ≡ Never → ⊥
   value-starts cells o e =
       let given = e ∙ ap values.Outcomes (value-case cells o e .1) in
-      starts-not-never o (value-says cells o e) (valuing-answered u prices cells .0 given .1 .1 .1 .1 .0)
+      starts-not-never o (value-says cells o e)
+      (none-later (caseCauses u prices) (tableCauses u prices cells) (valuing-answered u prices cells .0 given) .1 .0)
 
   pub report-starts : (cells : ℕ) (was : List ℕ) (r : Report) → reported u prices cells (length was) ≡ reports.Report r → r .outcomes .starts ≡ Never → ⊥
   report-starts cells was r e =
-      starts-not-never (r .outcomes) (report-says cells was r e) (reporting-answered u prices cells (length was) .0 (r, e) .1 .1 .1 .1 .1 .0)
+      starts-not-never (r .outcomes) (report-says cells was r e)
+      (none-later (caseCauses u prices) (slicesCauses u prices cells (length was)) (reporting-answered u prices cells (length was) .0 (r, e)) .1 .1 .0)

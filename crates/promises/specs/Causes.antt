@@ -85,8 +85,11 @@ NoRival u prices = (rival : List ℕ) → Rival u prices rival → ⊥
 abbrev pub tableCauses : UnitRecord → List ℤ → ℕ → List Reason
 tableCauses u prices cells = (Scratch when cells < cellsNeeded u (length prices)) ∷ (NoSchedule when NoRival u prices) ∷ []
 
+abbrev pub slicesCauses : UnitRecord → List ℤ → ℕ → ℕ → List Reason
+slicesCauses u prices cells entries = (Length when entries < length prices) ∷ tableCauses u prices cells
+
 abbrev pub planningCauses : UnitRecord → List ℤ → ℕ → ℕ → List Reason
-planningCauses u prices cells entries = caseCauses u prices ++ (Length when entries < length prices) ∷ tableCauses u prices cells
+planningCauses u prices cells entries = caseCauses u prices ++ slicesCauses u prices cells entries
 
 abbrev pub valuingCauses : UnitRecord → List ℤ → ℕ → List Reason
 valuingCauses u prices cells = caseCauses u prices ++ tableCauses u prices cells
