@@ -1,4 +1,4 @@
--- C10, C11 and C12 of the specification and the largest figures, by the whole answer of `figures`, check and all.
+-- C10, C11 and C12 of the specification and the tops of all ranges, by the whole answer of `figures`, check and all.
 use mathlib.Core.Path.{_≡_, refl}
 use mathlib.Core.List.{[], _∷_}
 use Rattle.rounding.specs.Rounding.{rounded}
