@@ -298,9 +298,9 @@ pub fn of_plan(answer: Planned) -> PlanNumbers
     ensures { λ r. ⌜ r ≡ answers.planNumbers answer ⌝ }
 {
     PlanNumbers {
-        number: planner::answers::planned_number(answer),
-        count: planner::answers::planned_count(answer),
-        profit: planner::answers::planned_profit(answer),
+        number: planner::contents::planned_number(answer),
+        count: planner::contents::planned_count(answer),
+        profit: planner::contents::planned_profit(answer),
     }
 }
 
@@ -308,8 +308,8 @@ pub fn of_value(answer: Valued) -> ValueNumbers
     ensures { λ r. ⌜ r ≡ answers.valueNumbers answer ⌝ }
 {
     ValueNumbers {
-        number: planner::answers::valued_number(answer),
-        outcomes: outcomes_numbers(planner::answers::valued_outcomes(answer)),
+        number: planner::contents::valued_number(answer),
+        outcomes: outcomes_numbers(planner::contents::valued_outcomes(answer)),
     }
 }
 
@@ -317,10 +317,10 @@ pub fn of_report(answer: Reported) -> ReportNumbers
     ensures { λ r. ⌜ r ≡ answers.reportNumbers answer ⌝ }
 {
     ReportNumbers {
-        number: planner::answers::reported_number(answer),
-        count: planner::answers::reported_count(answer),
-        profit: planner::answers::reported_profit(answer),
-        outcomes: outcomes_numbers(planner::answers::reported_outcomes(answer)),
+        number: planner::contents::reported_number(answer),
+        count: planner::contents::reported_count(answer),
+        profit: planner::contents::reported_profit(answer),
+        outcomes: outcomes_numbers(planner::contents::reported_outcomes(answer)),
     }
 }
 

@@ -1,8 +1,8 @@
-// Planning and valuing over one table: the calls of the outside, none of which has a `requires`. Below them: what an answer says (answers), what is
+// Planning and valuing over one table: the calls of the outside, none of which has a `requires`. Below them: what an answer holds (contents), what is
 // found before any work (checks), the table filled, read and cleared (tables), the runs of valuing (runs).
 
-pub mod answers;
 pub mod checks;
+pub mod contents;
 mod runs;
 mod tables;
 
@@ -52,7 +52,7 @@ pub fn plan_into(
     ensures { λ _. ⌜ now (schedule .exit) ≡ scheduleLeft unit (now (prices .entry)) (length (now (scratch .entry))) (now (schedule .entry)) ⌝ }
     ensures { λ _. ⌜ now (scratch .exit) ≡ scratchLeft unit (now (prices .entry)) (length (now (schedule .entry))) (now (scratch .entry)) ⌝ }
 {
-    answers::plan_of(report_into(unit, prices, scratch, schedule))
+    contents::plan_of(report_into(unit, prices, scratch, schedule))
 }
 
 // The three outcomes; or 3, 4, 5, 8 or 9.
@@ -102,8 +102,8 @@ pub fn plan<'a>(
     ensures { λ _. ⌜ now (scratch .exit) ≡ scratchLeft unit (now (prices .entry)) (length (now (schedule .entry))) (now (scratch .entry)) ⌝ }
 {
     let answer = plan_into(unit, prices, scratch, &mut *schedule);
-    *number = answers::planned_number(answer);
-    *profit = answers::planned_profit(answer);
-    let count = answers::planned_count(answer);
+    *number = contents::planned_number(answer);
+    *profit = contents::planned_profit(answer);
+    let count = contents::planned_count(answer);
     &mut schedule[..count]
 }

@@ -41,7 +41,7 @@ fn try_scratch(unit: UnitRecord, prices: &[i64]) {
 
 fn planned(unit: UnitRecord, prices: &[i64], scratch: &mut [i64]) -> u64 {
     let mut schedule = [0u64; 6];
-    planner::answers::planned_number(planner::plan_into(unit, prices, scratch, &mut schedule))
+    planner::contents::planned_number(planner::plan_into(unit, prices, scratch, &mut schedule))
 }
 
 fn try_schedules(unit: UnitRecord, prices: &[i64]) {
@@ -50,7 +50,7 @@ fn try_schedules(unit: UnitRecord, prices: &[i64]) {
     let answer = planner::plan_into(unit, prices, &mut scratch, &mut short);
     line(
         b"c1 planned into 5 entries,",
-        planner::answers::planned_number(answer),
+        planner::contents::planned_number(answer),
     );
     hand_in(unit, prices, &[0, 20, 20, 10, 20], 400000);
     hand_in(unit, prices, &[0, 20, 20, 10, 20, 20], 400000);

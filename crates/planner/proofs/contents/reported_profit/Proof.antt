@@ -3,8 +3,8 @@ use mathlib.Core.Path.{sym, ap, _∙_}
 use Rattle.integers.proofs.Ranges.{plain-fits}
 use Rattle.planner.specs.Reporting.{reportedProfit}
 use borrow.Author.Needs.{needs}
-use Rattle.planner.proofs.answers.reported_profit.Statement.{statement}
-use Rattle.planner.proofs.answers.reported_profit.Tie as tie
+use Rattle.planner.proofs.contents.reported_profit.Statement.{statement}
+use Rattle.planner.proofs.contents.reported_profit.Tie as tie
 
 returns : tie.Need-returns
 returns c =

@@ -3,8 +3,8 @@ use mathlib.Core.Path.{sym, ap, _∙_}
 use Rattle.integers.proofs.Ranges.{plain-fits}
 use Rattle.planner.specs.Planning.{plannedProfit}
 use borrow.Author.Needs.{needs}
-use Rattle.planner.proofs.answers.planned_profit.Statement.{statement}
-use Rattle.planner.proofs.answers.planned_profit.Tie as tie
+use Rattle.planner.proofs.contents.planned_profit.Statement.{statement}
+use Rattle.planner.proofs.contents.planned_profit.Tie as tie
 
 returns : tie.Need-returns
 returns c = let z = c .before .answer .given in plain-fits {x = z .0 .1 .0} (record { sfits = c .known-told .given .1 .0 .1 }) ∙ ap plannedProfit (sym (z .1))

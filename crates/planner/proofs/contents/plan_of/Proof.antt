@@ -3,8 +3,8 @@ use mathlib.Core.Path.{sym, ap}
 use Rattle.planner.specs.Reporting.{planIn}
 use Rattle.integers.proofs.Ranges.{plain-fits}
 use borrow.Author.Needs.{needs}
-use Rattle.planner.proofs.answers.plan_of.Statement.{statement}
-use Rattle.planner.proofs.answers.plan_of.Tie as tie
+use Rattle.planner.proofs.contents.plan_of.Statement.{statement}
+use Rattle.planner.proofs.contents.plan_of.Tie as tie
 
 returns : tie.Need-returns
 returns c =

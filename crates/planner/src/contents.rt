@@ -1,4 +1,4 @@
-// What an answer says: its number, its count, its profit, its outcomes.
+// What an answer holds: its number, its count, its profit, its outcomes.
 
 use crate::Planned;
 use crate::Reported;
