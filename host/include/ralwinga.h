@@ -2,7 +2,7 @@
  *
  * Every call answers, whatever record, text or slices it is given. A slice is a pointer and a length in entries; the pointer is to that many
  * entries that live through the call and that no other argument shares, and is aligned and not null even where the length is 0.
- * `number` in an answer is 0, or that of the refusal's cause (README.md); then every other number is 0, and limitations and outcomes are none.
+ * `number` in an answer is 0, or that of the refusal's cause (README.md); then every other number is 0, and limitations, date, word and outcomes are none.
  * Profits and gaps are in quarter-cents.
  */
 #ifndef RALWINGA_H
@@ -15,12 +15,14 @@
 extern "C" {
 #endif
 
-/* `none` as the figure of a limitation. */
+/* `none` as the figure of a limitation, and as each of year, month, day and window of a unit that may run at any hour. */
 #define RALWINGA_NONE UINT64_MAX
 
+/* Interval 1 begins at midnight of the date; bit h of `window` allows clock hour h. */
 struct ralwinga_unit {
     uint64_t block, pmin, pmax, mot, mdt, was, held, vec, mlc, suc;
     uint64_t starts, hours, mwh;
+    uint64_t year, month, day, window;
 };
 
 enum { RALWINGA_OUTCOME_NONE, RALWINGA_OUTCOME_EMPTY, RALWINGA_OUTCOME_NEVER, RALWINGA_OUTCOME_GAP };
@@ -88,6 +90,10 @@ struct ralwinga_report {
     struct ralwinga_outcomes outcomes;
 };
 
+struct ralwinga_clock {
+    uint64_t number, hour;
+};
+
 struct ralwinga_written {
     uint64_t number;
     size_t bytes;
@@ -125,9 +131,12 @@ struct ralwinga_valuation ralwinga_value(struct ralwinga_unit unit, const int64_
 struct ralwinga_report ralwinga_report(struct ralwinga_unit unit, const int64_t *prices, size_t prices_len, int64_t *scratch,
                                        size_t scratch_len, uint64_t *schedule, size_t schedule_len);
 
-/* The listing of a plan into the front of `out`. */
+/* The clock hour of an interval, counted from 1, where interval 1 begins at midnight of the date. */
+struct ralwinga_clock ralwinga_clock_hour(uint64_t year, uint64_t month, uint64_t day, uint64_t interval);
+
+/* The listing of a plan into the front of `out`. `window` is its unit's, RALWINGA_NONE where that has none. */
 struct ralwinga_written ralwinga_listing(const uint64_t *schedule, size_t schedule_len, int64_t profit,
-                                         struct ralwinga_outcomes outcomes, uint8_t *out, size_t out_len);
+                                         struct ralwinga_outcomes outcomes, uint64_t window, uint8_t *out, size_t out_len);
 
 /* The line of a refusal into the front of `out`. */
 struct ralwinga_written ralwinga_refusal(uint64_t number, uint8_t *out, size_t out_len);

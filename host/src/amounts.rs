@@ -1,6 +1,6 @@
 //! Amounts as a person reads them: dollars, quarters of an hour or of a MWh, times of day.
 
-const PER_HOUR: usize = 4;
+pub const PER_HOUR: usize = 4;
 pub const PER_DAY: usize = 24 * PER_HOUR;
 
 /// Dollars of quarter-cents, exact: two decimals, or four where the cents are not whole.
@@ -33,7 +33,7 @@ pub fn quarters(count: u64) -> String {
     format!("{}{part}", grouped(count / 4))
 }
 
-/// When the interval at this place, counted from 0, begins. Interval 1 begins at midnight of day 1.
+/// When the interval at this place, counted from 0, begins in days of 24 hours. Interval 1 begins at midnight of day 1.
 pub fn beginning(place: usize) -> String {
     on_day(place / PER_DAY, place % PER_DAY)
 }

@@ -1,7 +1,8 @@
-//! A plan told to a person: its runs in time and dollars, what it uses of each limitation, and the adders as they go into a bid. The plan, its
-//! profit and the outcomes are the library's.
+//! A plan told to a person: its runs in time and dollars, the hours that are permitted, what it uses of each limitation, and the adders as they
+//! go into a bid. The plan, its profit and the outcomes are the library's.
 
-use crate::amounts::{beginning, dollars, ending, quarters};
+use crate::amounts::{dollars, quarters};
+use crate::calendar::Calendar;
 use crate::runs::{runs, Run, Stretch};
 use crate::{Case, Limit, Outcome, Report, Unit};
 use std::fmt;
@@ -46,6 +47,7 @@ impl Adder {
 #[derive(Clone, Debug, PartialEq, Eq)]
 pub struct Explanation {
     pub intervals: usize,
+    pub calendar: Calendar,
     pub profit: i64,
     pub runs: Vec<Run>,
     pub usages: [Usage; 3],
@@ -57,6 +59,7 @@ impl Explanation {
         let runs = runs(case, schedule);
         Explanation {
             intervals: schedule.len(),
+            calendar: Calendar::of(&case.unit, schedule.len()),
             profit: report.profit,
             usages: usages(&case.unit, &runs),
             adders: adders(report),
@@ -124,8 +127,8 @@ impl Explanation {
         for (run, number) in self.runs.iter().zip(1..) {
             rows.push([
                 number.to_string(),
-                beginning(run.first()),
-                ending(run.last()),
+                self.calendar.beginning(run.first()),
+                self.calendar.ending(run.last()),
                 run.mw(),
                 quarters(run.length()),
                 quarters(run.output()),
@@ -134,7 +137,11 @@ impl Explanation {
                 dollars(run.earned() - run.start_cost()),
             ]);
             if run.stretches.len() > 1 {
-                rows.extend(run.stretches.iter().map(stretch_row));
+                rows.extend(
+                    run.stretches
+                        .iter()
+                        .map(|stretch| self.stretch_row(stretch)),
+                );
             }
         }
         let (earned, starts) = self.totals();
@@ -151,6 +158,20 @@ impl Explanation {
             dollars(earned - starts),
         ]);
         rows
+    }
+
+    fn stretch_row(&self, stretch: &Stretch) -> [String; 9] {
+        [
+            String::new(),
+            self.calendar.beginning(stretch.first),
+            self.calendar.ending(stretch.last),
+            stretch.mw.to_string(),
+            quarters(stretch.length()),
+            quarters(stretch.output()),
+            dollars(stretch.earned),
+            String::new(),
+            String::new(),
+        ]
     }
 
     pub fn usage_rows(&self) -> Vec<[String; 4]> {
@@ -177,28 +198,14 @@ impl Explanation {
     }
 }
 
-fn stretch_row(stretch: &Stretch) -> [String; 9] {
-    [
-        String::new(),
-        beginning(stretch.first),
-        ending(stretch.last),
-        stretch.mw.to_string(),
-        quarters(stretch.length()),
-        quarters(stretch.output()),
-        dollars(stretch.earned),
-        String::new(),
-        String::new(),
-    ]
-}
-
 impl fmt::Display for Explanation {
     fn fmt(&self, f: &mut fmt::Formatter) -> fmt::Result {
-        writeln!(
-            f,
-            "profit {} over {} quarter-hours\n",
-            dollars(self.profit),
-            self.intervals
-        )?;
+        let profit = dollars(self.profit);
+        write!(f, "profit {profit} over {} quarter-hours", self.intervals)?;
+        if let Some(dated) = self.calendar.dated() {
+            write!(f, " from {}\n{}", dated.date(), dated.permitted())?;
+        }
+        writeln!(f, "\n")?;
         columns(f, &self.run_rows(), 3)?;
         writeln!(f)?;
         columns(f, &self.usage_rows(), 1)?;

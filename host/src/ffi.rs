@@ -1,6 +1,6 @@
 //! The static library's functions and structs, as `crates/exports` declares them. A slice is a pointer and a length.
 
-/// `none` as the number of a limitation.
+/// `none` as the number of a limitation, and as each number of a window.
 pub const NONE: u64 = u64::MAX;
 
 #[repr(C)]
@@ -19,6 +19,10 @@ pub struct UnitNumbers {
     pub starts: u64,
     pub hours: u64,
     pub mwh: u64,
+    pub year: u64,
+    pub month: u64,
+    pub day: u64,
+    pub window: u64,
 }
 
 #[repr(C)]
@@ -88,6 +92,12 @@ pub struct ReportNumbers {
     pub count: usize,
     pub profit: i64,
     pub outcomes: OutcomesNumbers,
+}
+
+#[repr(C)]
+pub struct ClockNumbers {
+    pub number: u64,
+    pub hour: u64,
 }
 
 #[repr(C)]
@@ -164,11 +174,14 @@ extern "C" {
         schedule_len: usize,
     ) -> ReportNumbers;
 
+    pub fn ralwinga_clock_hour(year: u64, month: u64, day: u64, interval: u64) -> ClockNumbers;
+
     pub fn ralwinga_listing(
         schedule: *const u64,
         schedule_len: usize,
         profit: i64,
         outcomes: OutcomesNumbers,
+        window: u64,
         out: *mut u8,
         out_len: usize,
     ) -> WrittenNumbers;

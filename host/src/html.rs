@@ -13,8 +13,11 @@ th:first-child,td:first-child{text-align:left}tr.part td{color:#777;border-botto
 meter{width:16em}.refusal{font-size:1.3em;color:#a01515}footer{color:#666;margin-top:2em}";
 
 const FOOTER: &str = "The plan, its profit and the three opportunity costs are answers of the proved library. \
-The reading of texts over 12,288 bytes, the sums of the runs and this page are not proved; tests hold them to the library. \
-Day 1 begins with the first quarter-hour.";
+The reading of texts over 12,288 bytes, the sums of the runs and this page are not proved; tests hold them to the library.";
+
+const COUNTED_DAYS: &str = "Day 1 begins with the first quarter-hour.";
+const CLOCK: &str = "Times are the clock's under United States daylight time; \
+the hour that comes twice in November is marked the second time.";
 
 /// The page of a plan.
 pub fn plan_page(title: &str, case: &Case, schedule: &[u64], report: &Report) -> String {
@@ -23,6 +26,10 @@ pub fn plan_page(title: &str, case: &Case, schedule: &[u64], report: &Report) ->
         "<p>Profit <strong id=\"profit\">{}</strong></p>\n",
         dollars(report.profit)
     );
+    if let Some(dated) = told.calendar.dated() {
+        let (date, permitted) = (dated.date(), dated.permitted());
+        let _ = writeln!(body, "<p id=\"window\">From {date}; {permitted}</p>");
+    }
     body.push_str(&svg::draw(&case.prices, schedule, &told));
     body.push_str("<h2>Adders for the bid</h2>\n");
     table(&mut body, "adders", &told.adder_rows(), |_| String::new());
@@ -32,13 +39,14 @@ pub fn plan_page(title: &str, case: &Case, schedule: &[u64], report: &Report) ->
     });
     body.push_str("<h2>Runs</h2>\n");
     table(&mut body, "runs", &told.run_rows(), |_| String::new());
-    let listing = listing(schedule, report.profit, report.outcomes);
+    let listing = listing(&case.unit, schedule, report.profit, report.outcomes);
     let _ = write!(
         body,
         "<details><summary>Listing</summary><pre id=\"listing\">\n{}</pre></details>\n",
         String::from_utf8_lossy(&listing)
     );
-    page(title, &body)
+    let times = told.calendar.dated().map_or(COUNTED_DAYS, |_| CLOCK);
+    page(title, &body, times)
 }
 
 /// The page of a case that is refused: the number, its meaning, and the line with its place or what would help.
@@ -49,14 +57,14 @@ pub fn refusal_page(title: &str, refusal: Refusal, said: &str) -> String {
         refusal.meaning(),
         escaped(said)
     );
-    page(title, &body)
+    page(title, &body, COUNTED_DAYS)
 }
 
-fn page(title: &str, body: &str) -> String {
+fn page(title: &str, body: &str, times: &str) -> String {
     let title = escaped(title);
     format!(
         "<!DOCTYPE html>\n<html lang=\"en\">\n<head>\n<meta charset=\"utf-8\">\n<title>{title}</title>\n\
-         <link rel=\"icon\" href=\"data:,\">\n<style>{STYLE}</style>\n</head>\n<body>\n<h1>{title}</h1>\n{body}<footer>{FOOTER}</footer>\n</body>\n</html>\n"
+         <link rel=\"icon\" href=\"data:,\">\n<style>{STYLE}</style>\n</head>\n<body>\n<h1>{title}</h1>\n{body}<footer>{FOOTER} {times}</footer>\n</body>\n</html>\n"
     )
 }
 

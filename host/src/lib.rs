@@ -1,9 +1,10 @@
 //! A safe wrapper over the proved static library: types, the refusals with their meaning, and the calls over slices.
 //!
 //! The calls are proved to meet their contracts for any record and any slices. What is not proved is this crate: the
-//! wrapper, the readers (`reader`, over `text`), what is told of a plan (`explanation`), the drawing, the page and the command.
+//! wrapper, the readers (`reader`, over `text`), what is told of a plan (`explanation`), dates (`calendar`), the drawing, the page and the command.
 
 pub mod amounts;
+pub mod calendar;
 pub mod explanation;
 mod ffi;
 pub mod html;
@@ -18,6 +19,23 @@ use std::fmt;
 
 /// A limitation of the permit: `None` where the unit is not limited.
 pub type Limit = Option<u64>;
+
+/// The clock hours at which a permit lets the unit run, and the date whose midnight opens interval 1.
+#[derive(Clone, Copy, Debug, PartialEq, Eq)]
+pub struct Window {
+    pub year: u64,
+    pub month: u64,
+    pub day: u64,
+    /// Bit h allows clock hour h.
+    pub word: u64,
+}
+
+impl Window {
+    /// Whether the unit may run at a clock hour.
+    pub fn allows(&self, hour: u64) -> bool {
+        hour < 24 && self.word >> hour & 1 == 1
+    }
+}
 
 /// The unit record of the specification.
 #[derive(Clone, Copy, Debug, PartialEq, Eq)]
@@ -45,6 +63,8 @@ pub struct Unit {
     pub starts: Limit,
     pub hours: Limit,
     pub mwh: Limit,
+    /// None where the unit may run at any hour.
+    pub window: Option<Window>,
 }
 
 /// A unit and the price of each interval, cents per MWh.
@@ -162,8 +182,30 @@ fn limit_from(number: u64) -> Limit {
     }
 }
 
+/// Year, month, day and word. One that is `none` by itself is out of its range, as in `limit_number`.
+fn window_numbers(window: Option<Window>) -> [u64; 4] {
+    window.map_or([ffi::NONE; 4], |w| {
+        [w.year, w.month, w.day, w.word].map(|figure| limit_number(Some(figure)))
+    })
+}
+
+fn window_from(unit: &ffi::UnitNumbers) -> Option<Window> {
+    (unit.window != ffi::NONE).then_some(Window {
+        year: unit.year,
+        month: unit.month,
+        day: unit.day,
+        word: unit.window,
+    })
+}
+
 impl Unit {
+    /// The word of its permitted hours.
+    pub fn word(&self) -> Option<u64> {
+        self.window.map(|window| window.word)
+    }
+
     fn numbers(self) -> ffi::UnitNumbers {
+        let [year, month, day, window] = window_numbers(self.window);
         ffi::UnitNumbers {
             block: self.block,
             pmin: self.pmin,
@@ -178,6 +220,10 @@ impl Unit {
             starts: limit_number(self.starts),
             hours: limit_number(self.hours),
             mwh: limit_number(self.mwh),
+            year,
+            month,
+            day,
+            window,
         }
     }
 
@@ -196,6 +242,7 @@ impl Unit {
             starts: limit_from(unit.starts),
             hours: limit_from(unit.hours),
             mwh: limit_from(unit.mwh),
+            window: window_from(&unit),
         }
     }
 }
@@ -395,11 +442,19 @@ pub fn report_into(
     )
 }
 
-/// The listing of a plan into the front of `out`: its bytes.
+/// The clock hour of an interval, counted from 1, where interval 1 begins at midnight of a date.
+pub fn clock_hour(year: u64, month: u64, day: u64, interval: u64) -> Result<u64, Refusal> {
+    // Sound: only numbers go over.
+    let answer = unsafe { ffi::ralwinga_clock_hour(year, month, day, interval) };
+    unless_refused(answer.number, answer.hour)
+}
+
+/// The listing of a plan into the front of `out`: its bytes. `word` is that of its unit's permitted hours.
 pub fn write_listing(
     schedule: &[u64],
     profit: i64,
     outcomes: Outcomes,
+    word: Option<u64>,
     out: &mut [u8],
 ) -> Result<usize, Refusal> {
     // Sound: as in `read_into`.
@@ -409,6 +464,7 @@ pub fn write_listing(
             schedule.len(),
             profit,
             outcomes.numbers(),
+            limit_number(word),
             out.as_mut_ptr(),
             out.len(),
         )
@@ -423,12 +479,12 @@ pub fn write_refusal(refusal: Refusal, out: &mut [u8]) -> Result<usize, Refusal>
     unless_refused(answer.number, answer.bytes)
 }
 
-/// The listing of a plan, as the proved program prints it.
-pub fn listing(schedule: &[u64], profit: i64, outcomes: Outcomes) -> Vec<u8> {
+/// The listing of a plan of a unit, as the proved program prints it.
+pub fn listing(unit: &Unit, schedule: &[u64], profit: i64, outcomes: Outcomes) -> Vec<u8> {
     // two numbers of at most 20 digits, a comma and a line end to an interval
     let mut out = vec![0; 42 * schedule.len() + 256];
-    let bytes =
-        write_listing(schedule, profit, outcomes, &mut out).expect("the buffer holds any listing");
+    let bytes = write_listing(schedule, profit, outcomes, unit.word(), &mut out)
+        .expect("the buffer holds any listing, and a unit with a plan is in its ranges");
     out.truncate(bytes);
     out
 }

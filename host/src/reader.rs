@@ -6,7 +6,8 @@
 
 use crate::text::{leading_table, two_tables, Cell, Fault, Table, Value};
 use crate::{assess, cells_needed, curve, figures, read_into};
-use crate::{Case, CostFigures, CostInputs, CurveInputs, Refusal, Segment, Unit};
+use crate::{Case, CostFigures, CostInputs, CurveInputs, Refusal, Segment, Unit, Window};
+use std::array;
 
 /// The longest text that the proved reader takes, and the prices that no such text outgrows.
 pub const MOST_BYTES: usize = 12_288;
@@ -19,6 +20,9 @@ const UNIT_NAMES: [&str; 13] = [
     "block", "pmin", "pmax", "mot", "mdt", "was", "held", "vec", "mlc", "suc", "starts", "hours",
     "mwh",
 ];
+
+/// All of them stand beside `UNIT_NAMES`, or none.
+const WINDOW_NAMES: [&str; 4] = ["year", "month", "day", "window"];
 
 const COST_NAMES: [&str; 15] = [
     "block",
@@ -40,7 +44,7 @@ const COST_NAMES: [&str; 15] = [
 
 const CURVE_NAMES: [&str; 4] = ["gas", "om", "gmc", "adder"];
 
-/// The case of a text of any length, or the refusal with its place where it is 1, 2 or 3.
+/// The case of a text of any length, or the refusal with its place where it is 1, 2, 3 or 12.
 pub fn read_case(text: &[u8]) -> Result<Case, Fault> {
     if text.len() > MOST_BYTES {
         return read_long_case(text);
@@ -63,18 +67,48 @@ fn read_short_case(text: &[u8]) -> Result<Case, Refusal> {
 /// The case of a text of any length, by the reader here.
 pub fn read_long_case(text: &[u8]) -> Result<Case, Fault> {
     let (unit_table, price_table) = two_tables(text, "price")?;
-    let unit_rows = unit_table.rows(UNIT_NAMES)?;
+    let row = UnitRow::of(&unit_table)?;
     let price_rows = price_table.rows(["price"])?;
-    let unit = unit_of(unit_rows[0].map(|cell| cell.value));
+    let unit = row.unit();
     let prices: Vec<i64> = price_rows.iter().map(|[cell]| price(cell.value)).collect();
     match judge(unit, &prices) {
         Ok(()) => Ok(Case { unit, prices }),
-        Err(Refusal::Range) => Err(out_of_case(&unit_rows, &price_rows)),
+        Err(Refusal::Range) => Err(out_of_case(&row, &price_rows)),
+        Err(Refusal::Date) => Err(no_date(&row)),
         Err(refusal) => Err(refusal.into()),
     }
 }
 
-/// 3, 4 or 5 of a case, by the library: a schedule of no interval is refused for the case's own causes first, and for its length where the case is
+/// The line of values of a case: those under `UNIT_NAMES`, and those under `WINDOW_NAMES` where these stand there.
+struct UnitRow<'a> {
+    unit: [Cell<'a>; 13],
+    window: Option<[Cell<'a>; 4]>,
+}
+
+impl<'a> UnitRow<'a> {
+    fn of(table: &Table<'a>) -> Result<UnitRow<'a>, Fault> {
+        if !WINDOW_NAMES.iter().any(|name| table.has(name)) {
+            let unit = table.rows(UNIT_NAMES)?[0];
+            return Ok(UnitRow { unit, window: None });
+        }
+        let names: [&str; 17] = array::from_fn(|i| match i.checked_sub(UNIT_NAMES.len()) {
+            None => UNIT_NAMES[i],
+            Some(i) => WINDOW_NAMES[i],
+        });
+        let row = table.rows(names)?[0];
+        Ok(UnitRow {
+            unit: array::from_fn(|i| row[i]),
+            window: Some(array::from_fn(|i| row[UNIT_NAMES.len() + i])),
+        })
+    }
+
+    fn unit(&self) -> Unit {
+        let window = self.window.map(|row| row.map(|cell| cell.value));
+        unit_of(self.unit.map(|cell| cell.value), window)
+    }
+}
+
+/// 3, 4, 12 or 5 of a case, by the library: a schedule of no interval is refused for the case's own causes first, and for its length where the case is
 /// in order.
 fn judge(unit: Unit, prices: &[i64]) -> Result<(), Refusal> {
     match assess(unit, prices, &[]) {
@@ -127,27 +161,49 @@ pub fn read_curve(text: &[u8]) -> Result<Vec<Segment>, Fault> {
 }
 
 /// The first value of a case that is outside its range.
-fn out_of_case(unit_rows: &[[Cell; 13]], price_rows: &[[Cell; 1]]) -> Fault {
-    let unit = unit_of(in_order());
-    first_out(UNIT_NAMES, unit_rows, |values| {
-        cells_needed(unit_of(values), 1).err()
+fn out_of_case(row: &UnitRow, price_rows: &[[Cell; 1]]) -> Fault {
+    let unit = unit_of(in_order(), None);
+    first_out(UNIT_NAMES, in_order(), &[row.unit], |values| {
+        cells_needed(unit_of(values, None), 1).err()
     })
     .or_else(|| {
-        first_out(["price"], price_rows, |[value]| {
+        first_out(
+            WINDOW_NAMES,
+            WINDOW_IN_ORDER,
+            row.window.as_slice(),
+            |values| cells_needed(unit_of(in_order(), Some(values)), 1).err(),
+        )
+    })
+    .or_else(|| {
+        first_out(["price"], in_order(), price_rows, |[value]| {
             judge(unit, &[price(value)]).err()
         })
     })
     .unwrap_or(Refusal::Range.into())
 }
 
+/// A date that does not exist, at its day.
+fn no_date(row: &UnitRow) -> Fault {
+    match row.window {
+        Some([year, month, day, _]) => {
+            let said = format!(
+                "there is no day {} in month {} of {}",
+                day.field, month.field, year.field
+            );
+            Fault::at(Refusal::Date, day.field, said)
+        }
+        None => Refusal::Date.into(),
+    }
+}
+
 /// The first value of cost inputs that is outside its range, or else the number of segments.
 fn out_of_inputs(input_rows: &[[Cell; 15]], table: &Table, segments: &[[Cell; 2]]) -> Fault {
     let inputs = inputs_of(in_order());
-    first_out(COST_NAMES, input_rows, |values| {
+    first_out(COST_NAMES, in_order(), input_rows, |values| {
         figures(inputs_of(values), &[], &[]).err()
     })
     .or_else(|| {
-        first_out(["mw", "heat"], segments, |[mw, heat]| {
+        first_out(["mw", "heat"], in_order(), segments, |[mw, heat]| {
             figures(inputs, &[natural(mw)], &[natural(heat)]).err()
         })
     })
@@ -160,12 +216,12 @@ fn out_of_inputs(input_rows: &[[Cell; 15]], table: &Table, segments: &[[Cell; 2]
 /// The first value of a curve's inputs or points that is outside its range, or else the number of points.
 fn out_of_curve(input_rows: &[[Cell; 4]], table: &Table, points: &[[Cell; 2]]) -> Fault {
     let inputs = curve_inputs_of(in_order());
-    first_out(CURVE_NAMES, input_rows, |values| {
+    first_out(CURVE_NAMES, in_order(), input_rows, |values| {
         curve(curve_inputs_of(values), &[1, 2], &[1, 1]).err()
     })
     .or_else(|| {
         // one point twice: what is in its range is refused for its levels
-        first_out(["level", "rate"], points, |[level, rate]| {
+        first_out(["level", "rate"], in_order(), points, |[level, rate]| {
             curve(inputs, &[natural(level); 2], &[natural(rate); 2]).err()
         })
     })
@@ -194,11 +250,12 @@ fn not_rising(points: &[[Cell; 2]]) -> Fault {
 /// there alone.
 fn first_out<const N: usize>(
     names: [&str; N],
+    in_order: [Value; N],
     rows: &[[Cell; N]],
     asked: impl Fn([Value; N]) -> Option<Refusal>,
 ) -> Option<Fault> {
     let is_out = |row: &[Cell; N], place: usize| {
-        let mut values = in_order();
+        let mut values = in_order;
         values[place] = row[place].value;
         asked(values) == Some(Refusal::Range)
     };
@@ -211,10 +268,13 @@ fn first_out<const N: usize>(
     Some(Fault::at(Refusal::Range, field, said))
 }
 
-/// Values that are in order: 1 is in every range.
+/// Values that are in order: 1 is in every range but that of years.
 const fn in_order<const N: usize>() -> [Value; N] {
     [Some(1); N]
 }
+
+/// A date that exists in any month, and a word.
+const WINDOW_IN_ORDER: [Value; 4] = [Some(2024), Some(1), Some(1), Some(1)];
 
 /// A number of a record that has none below 0.
 fn natural(value: Value) -> u64 {
@@ -234,8 +294,8 @@ fn price(value: Value) -> i64 {
     value.unwrap_or(BEYOND as i64)
 }
 
-/// The record of the values under `UNIT_NAMES`.
-fn unit_of(values: [Value; 13]) -> Unit {
+/// The record of the values under `UNIT_NAMES`, and under `WINDOW_NAMES` where these stand there.
+fn unit_of(values: [Value; 13], window: Option<[Value; 4]>) -> Unit {
     let limit = |value: Value| value.map(|number| natural(Some(number)));
     let [block, pmin, pmax, mot, mdt, was, held, vec, mlc, suc, starts, hours, mwh] = values;
     Unit {
@@ -252,6 +312,15 @@ fn unit_of(values: [Value; 13]) -> Unit {
         starts: limit(starts),
         hours: limit(hours),
         mwh: limit(mwh),
+        window: window.map(|values| {
+            let [year, month, day, word] = values.map(natural);
+            Window {
+                year,
+                month,
+                day,
+                word,
+            }
+        }),
     }
 }
 

@@ -10,6 +10,7 @@ pub enum Refusal {
     Range = 3,
     Levels = 11,
     Shape = 4,
+    Date = 12,
     Horizon = 5,
     Segments = 6,
     Length = 7,
@@ -20,12 +21,13 @@ pub enum Refusal {
 
 impl Refusal {
     /// In the order in which causes are given.
-    pub const ALL: [Refusal; 11] = [
+    pub const ALL: [Refusal; 12] = [
         Refusal::Form,
         Refusal::Name,
         Refusal::Range,
         Refusal::Levels,
         Refusal::Shape,
+        Refusal::Date,
         Refusal::Horizon,
         Refusal::Segments,
         Refusal::Length,
@@ -48,7 +50,7 @@ impl Refusal {
         *Refusal::ALL
             .iter()
             .find(|refusal| refusal.number() == number)
-            .expect("the library gives numbers from 1 to 11")
+            .expect("the library gives numbers from 1 to 12")
     }
 
     pub fn meaning(self) -> &'static str {
@@ -58,6 +60,7 @@ impl Refusal {
             Refusal::Range => "a value or a count of entries is outside its range",
             Refusal::Levels => "the levels do not rise strictly",
             Refusal::Shape => "pmin is over pmax, or pmax times block is over 500 MW",
+            Refusal::Date => "the date does not exist",
             Refusal::Horizon => "there are no prices, or more than 2,976",
             Refusal::Segments => "the segments' MW do not add up",
             Refusal::Length => "a slice is too short, or lists are of unequal length",

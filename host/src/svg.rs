@@ -1,9 +1,10 @@
-//! Drawings for a person to look at: prices and output over the intervals here, where a run tells its times and earnings where the pointer is on it;
-//! a bid curve in `curve`.
+//! Drawings for a person to look at: prices and output over the intervals here, where a run tells its times and earnings where the pointer is on it,
+//! and the hours that are not permitted are shaded; a bid curve in `curve`.
 
 pub mod curve;
 
-use crate::amounts::{beginning, dollars, ending, quarters, time_of_day, PER_DAY};
+use crate::amounts::{dollars, quarters, time_of_day, PER_DAY, PER_HOUR};
+use crate::calendar::{Calendar, Dated};
 use crate::explanation::Explanation;
 use crate::runs::Run;
 use std::fmt::Write;
@@ -93,7 +94,10 @@ pub fn draw(prices: &[i64], schedule: &[u64], told: &Explanation) -> String {
     let (price_panel, output_panel) = (Panel::of_prices(prices), Panel::of_outputs(schedule));
     let mut out = String::new();
     heading(&mut out, told);
-    times(&mut out, &across);
+    if let Some(dated) = told.calendar.dated() {
+        shade(&mut out, &across, told, dated);
+    }
+    times(&mut out, &across, &told.calendar);
     axis(&mut out, &price_panel, "$/MWh");
     axis(&mut out, &output_panel, "MW");
     let line = across.steps(prices.iter().map(|p| price_panel.y(in_dollars(*p))));
@@ -109,7 +113,7 @@ pub fn draw(prices: &[i64], schedule: &[u64], told: &Explanation) -> String {
         across.x(schedule.len())
     );
     for (run, number) in told.runs.iter().zip(1..) {
-        reach(&mut out, &across, run, number);
+        reach(&mut out, &across, &told.calendar, run, number);
     }
     out.push_str("</svg>\n");
     out
@@ -117,9 +121,11 @@ pub fn draw(prices: &[i64], schedule: &[u64], told: &Explanation) -> String {
 
 fn heading(out: &mut String, told: &Explanation) {
     let [_, hours, mwh] = told.usages;
+    let from = told.calendar.dated().map(|d| format!(" from {}", d.date()));
     let said = format!(
-        "Plan of {} quarter-hours: profit {}, {} run-hours, {} MWh",
+        "Plan of {} quarter-hours{}: profit {}, {} run-hours, {} MWh",
         told.intervals,
+        from.unwrap_or_default(),
         dollars(told.profit),
         quarters(hours.used),
         quarters(mwh.used),
@@ -142,7 +148,7 @@ fn open(out: &mut String, said: &str) {
 const LEAST_REACH: f64 = 4.0;
 
 /// The stretch of the drawing that is a run's, and its tip.
-fn reach(out: &mut String, across: &Across, run: &Run, number: usize) {
+fn reach(out: &mut String, across: &Across, calendar: &Calendar, run: &Run, number: usize) {
     let (from, to) = (across.x(run.first()), across.x(run.last() + 1));
     let (middle, width) = ((from + to) / 2.0, (to - from).max(LEAST_REACH));
     let x = (middle - TIP_WIDTH / 2.0).clamp(LEFT, WIDTH - RIGHT - TIP_WIDTH);
@@ -153,7 +159,7 @@ fn reach(out: &mut String, across: &Across, run: &Run, number: usize) {
         middle - width / 2.0,
         BOTTOM - PRICE_TOP
     );
-    for (said, row) in tip_lines(run, number).iter().zip(1u8..) {
+    for (said, row) in tip_lines(calendar, run, number).iter().zip(1u8..) {
         let (x, y) = (x + 10.0, PRICE_TOP + 19.0 * f64::from(row));
         let _ = writeln!(out, r##"<text x="{x:.1}" y="{y:.1}">{said}</text>"##);
     }
@@ -161,7 +167,7 @@ fn reach(out: &mut String, across: &Across, run: &Run, number: usize) {
 }
 
 /// What a run's tip says.
-fn tip_lines(run: &Run, number: usize) -> [String; 3] {
+fn tip_lines(calendar: &Calendar, run: &Run, number: usize) -> [String; 3] {
     let start = match run.start {
         Some(cost) => format!("start {}", dollars(cost)),
         None => "on before".to_string(),
@@ -169,8 +175,8 @@ fn tip_lines(run: &Run, number: usize) -> [String; 3] {
     [
         format!(
             "run {number}: {} to {}",
-            beginning(run.first()),
-            ending(run.last())
+            calendar.beginning(run.first()),
+            calendar.ending(run.last())
         ),
         format!(
             "{} MW, {} hours, {} MWh",
@@ -191,24 +197,93 @@ const STEPS: [usize; 8] = [4, 8, 12, 24, 48, PER_DAY, 2 * PER_DAY, 4 * PER_DAY];
 const MOST_MARKS: usize = 16;
 
 /// A line where each day begins, or each few hours of a short case, with the time or the day.
-fn times(out: &mut String, across: &Across) {
+fn times(out: &mut String, across: &Across, calendar: &Calendar) {
     let fits = |step: &usize| across.intervals.div_ceil(*step) <= MOST_MARKS;
     let step = STEPS.into_iter().find(fits).unwrap_or(8 * PER_DAY);
-    for place in (0..across.intervals).step_by(step.min(PER_DAY)) {
+    let (marks, size) = match calendar {
+        Calendar::Days => (counted_marks(across.intervals, step), ""),
+        Calendar::Dates(dated) => (dated_marks(across, dated, step), DATE_SIZE),
+    };
+    for Mark { place, said } in marks {
         let at = across.x(place);
         upright(out, at);
-        if place % step == 0 {
-            let said = match place % PER_DAY {
-                0 => format!("day {}", place / PER_DAY + 1),
-                quarters => time_of_day(quarters),
-            };
+        if let Some(said) = said {
             let _ = writeln!(
                 out,
-                r##"<text x="{:.1}" y="{}" fill="#444444">{said}</text>"##,
+                r##"<text x="{:.1}" y="{}"{size} fill="#444444">{said}</text>"##,
                 at + 3.0,
                 BOTTOM + 18.0,
             );
         }
+    }
+}
+
+/// A line at the beginning of an interval, and what stands under it.
+struct Mark {
+    place: usize,
+    said: Option<String>,
+}
+
+/// The marks of days that are counted.
+fn counted_marks(intervals: usize, step: usize) -> Vec<Mark> {
+    let said = |place: usize| match place % PER_DAY {
+        0 => format!("day {}", place / PER_DAY + 1),
+        quarters => time_of_day(quarters),
+    };
+    (0..intervals)
+        .step_by(step.min(PER_DAY))
+        .map(|place| Mark {
+            place,
+            said: (place % step == 0).then(|| said(place)),
+        })
+        .collect()
+}
+
+/// Dates are wider than counted days; what they take, their distance from the line included.
+const DATE_SIZE: &str = " font-size=\"11\"";
+const DATE_WIDTH: f64 = 67.0;
+
+/// The marks by the clock, on which a day can be an hour shorter or longer than 24. Nothing is said where it would run off the sheet.
+fn dated_marks(across: &Across, dated: &Dated, step: usize) -> Vec<Mark> {
+    let (hours, days) = (
+        (step.min(PER_DAY) / PER_HOUR) as u64,
+        step.div_ceil(PER_DAY),
+    );
+    let mut day = 0;
+    let mut marks = Vec::new();
+    for (place, moment) in dated.moments().iter().enumerate() {
+        day += usize::from(moment.begins_day());
+        if !moment.begins_hour() || !moment.hour.is_multiple_of(hours) {
+            continue;
+        }
+        let said = match moment.begins_day() {
+            true => ((day - 1) % days == 0).then(|| moment.date.to_string()),
+            false => Some(moment.time()),
+        };
+        let said = said.filter(|_| across.x(place) + DATE_WIDTH <= WIDTH);
+        marks.push(Mark { place, said });
+    }
+    marks
+}
+
+/// A shade over the intervals in which the unit may not run, and a line that says when it may.
+fn shade(out: &mut String, across: &Across, told: &Explanation, dated: &Dated) {
+    let _ = writeln!(
+        out,
+        r##"<text class="window" x="{LEFT}" y="{:.1}" fill="#444444">{}; shaded where not</text>"##,
+        PRICE_TOP - 14.0,
+        dated.permitted()
+    );
+    for stretch in dated.shut() {
+        let (from, to) = (across.x(stretch.start), across.x(stretch.end));
+        let _ = writeln!(
+            out,
+            r##"<rect class="shut" x="{from:.1}" y="{PRICE_TOP}" width="{:.1}" height="{:.1}" fill="#888888" fill-opacity="0.2"><title>not permitted: {} to {}</title></rect>"##,
+            to - from,
+            BOTTOM - PRICE_TOP,
+            told.calendar.beginning(stretch.start),
+            told.calendar.ending(stretch.end - 1),
+        );
     }
 }
 

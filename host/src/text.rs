@@ -225,6 +225,12 @@ impl<'a> Table<'a> {
         self.line
     }
 
+    pub fn has(&self, name: &str) -> bool {
+        self.names
+            .iter()
+            .any(|field| field.bytes == name.as_bytes())
+    }
+
     /// The rows with their cells in the sequence of `names`, each of which has to stand once, and no other.
     pub fn rows<const N: usize>(&self, names: [&str; N]) -> Result<Vec<[Cell<'a>; N]>, Fault> {
         let places = self.places(names)?;

@@ -5,7 +5,7 @@ mod support;
 use ralwinga::reader::read_schedule;
 use ralwinga::Refusal;
 use support::{answer_on, any_case, any_schedule, damage_text, each_came_up, month, paper};
-use support::{ralwinga, run_on, small_case, text_of, Folder, Random, C1};
+use support::{ralwinga, run_on, small_case, text_of, Folder, Random, Seen, C1};
 
 const CASES: usize = 2_000;
 const TEXTS: usize = 50_000;
@@ -33,7 +33,7 @@ fn handed_in(folder: &Folder, case: &str, listing: &str) -> String {
 fn schedules_near_and_far() {
     let folder = Folder::new("assess");
     let mut random = Random::new(31);
-    let mut seen = [0; 11];
+    let mut seen: Seen = Default::default();
     for _ in 0..CASES {
         let case = any_case(&mut random);
         if !paper::writable(&case.unit, &case.prices) {
@@ -50,7 +50,7 @@ fn schedules_near_and_far() {
         let answer = handed_in(&folder, &text, &paper::table(&schedule));
         assert_eq!(answer, line(expected), "{text}\n{schedule:?}");
     }
-    each_came_up(&seen, &[0, 3, 7, 10]);
+    each_came_up(&seen, &[0, 3, 7, 10, 12]);
 }
 
 /// What `plan` prints is passed, with what follows the table and without, and earns what it says.
@@ -144,7 +144,7 @@ fn judged(text: &str) -> Result<Vec<String>, u64> {
 #[test]
 fn damaged_listings() {
     let mut random = Random::new(33);
-    let mut seen = [0; 11];
+    let mut seen: Seen = Default::default();
     for _ in 0..TEXTS {
         let schedule: Vec<u64> = (0..1 + random.below(4)).map(|_| random.below(30)).collect();
         let mut text = paper::table(&schedule).into_bytes();
@@ -185,7 +185,8 @@ fn the_order_of_causes() {
     assert!(!Refusal::Name.precedes(Refusal::Name));
     assert_eq!(
         Refusal::ALL.map(Refusal::number),
-        [1, 2, 3, 11, 4, 5, 6, 7, 8, 9, 10]
+        [1, 2, 3, 11, 4, 12, 5, 6, 7, 8, 9, 10]
     );
+    assert!(Refusal::Shape.precedes(Refusal::Date) && Refusal::Date.precedes(Refusal::Horizon));
     assert!(Refusal::Levels.precedes(Refusal::Shape) && Refusal::Range.precedes(Refusal::Levels));
 }

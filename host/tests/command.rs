@@ -28,8 +28,10 @@ fn the_listing_is_the_proved_programs() {
         assert_eq!(answer.stdout, expected.stdout, "{shown}");
         assert_eq!(answer_on(&["plan", "--cells", "4000", "-"], &text), answer);
         if !damaged {
-            let by_enumeration =
-                paper::printed(&paper::answer_to_text(&case.unit, &case.prices, 4000));
+            let by_enumeration = paper::printed(
+                &case.unit,
+                &paper::answer_to_text(&case.unit, &case.prices, 4000),
+            );
             assert_eq!(answer.stdout, by_enumeration.as_bytes(), "{shown}");
         }
         let is_refusal = expected.stdout.starts_with(b"refused,");

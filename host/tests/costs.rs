@@ -6,7 +6,7 @@ use ralwinga::reader::read_figures;
 use ralwinga::{figures, read_into, CostFigures, Refusal};
 use std::collections::BTreeSet;
 use support::inputs::{any_inputs, text_of_inputs, Inputs, UNIT};
-use support::{answer_on, damage_text, each_came_up, paper, Random};
+use support::{answer_on, damage_text, each_came_up, paper, Random, Seen};
 
 const CASES: usize = 1_000;
 const TEXTS: usize = 50_000;
@@ -48,7 +48,7 @@ fn expected(given: &Inputs) -> Result<CostFigures, u64> {
 #[test]
 fn inputs_in_order_and_damaged() {
     let mut random = Random::new(41);
-    let mut seen = [0; 11];
+    let mut seen: Seen = Default::default();
     for case in 0..TEXTS {
         let given = any_inputs(&mut random);
         let expected = expected(&given);
@@ -88,7 +88,7 @@ fn names_kept(text: &[u8]) -> bool {
 #[test]
 fn damaged_texts() {
     let mut random = Random::new(42);
-    let mut seen = [0; 11];
+    let mut seen: Seen = Default::default();
     for _ in 0..TEXTS {
         let given = any_inputs(&mut random);
         let mut text = text_of_inputs(&mut random, &given).into_bytes();

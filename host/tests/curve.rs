@@ -7,7 +7,7 @@ use ralwinga::{amounts::dollars, svg};
 use ralwinga::{curve, curve_into, read_into, CurveInputs, Refusal, Segment};
 use support::fractions::{self, printed, Fraction};
 use support::points::{any_points, text_of_points, Points, WORKED};
-use support::{answer_on, damage_text, each_came_up, ralwinga, Folder, Lent, Random};
+use support::{answer_on, damage_text, each_came_up, ralwinga, Folder, Lent, Random, Seen};
 
 const CASES: usize = 50_000;
 const TEXTS: usize = 50_000;
@@ -290,7 +290,7 @@ impl Kinds {
 #[test]
 fn random_curves() {
     let mut random = Random::new(51);
-    let mut seen = [0; 12];
+    let mut seen: Seen = Default::default();
     let mut kinds = Kinds::default();
     for _ in 0..CASES {
         let points = any_points(&mut random);
@@ -330,7 +330,7 @@ fn expected(given: &Points) -> Result<Vec<Segment>, u64> {
 #[test]
 fn texts_in_order_and_damaged() {
     let mut random = Random::new(52);
-    let mut seen = [0; 12];
+    let mut seen: Seen = Default::default();
     for case in 0..TEXTS {
         let given = any_points(&mut random);
         let expected = expected(&given);
@@ -370,7 +370,7 @@ fn names_kept(text: &[u8]) -> bool {
 #[test]
 fn damaged_texts() {
     let mut random = Random::new(53);
-    let mut seen = [0; 12];
+    let mut seen: Seen = Default::default();
     for _ in 0..TEXTS {
         let given = any_points(&mut random);
         let mut text = text_of_points(&mut random, &given).into_bytes();

@@ -3,7 +3,10 @@
 mod support;
 
 use ralwinga::{cells_needed, plan_into, Outcome, Unit};
-use support::{answer_on, long_case, month, paper, recursion, small_case, text_of, Random, C1};
+use support::{
+    answer_on, calendar, dated, long_case, month, paper, recursion, small_case, text_of,
+};
+use support::{Random, C1};
 
 const SMALL_CASES: usize = 300;
 const LONG_CASES: usize = 100;
@@ -28,12 +31,47 @@ fn quarters(number: &str) -> i64 {
     )) / 100
 }
 
-/// The place of the quarter-hour that begins at a time.
-fn place(day: &str, time: &str) -> usize {
-    let day: usize = day.parse().expect("a day");
+/// The quarters of a day that are over at a time.
+fn quarters_of(time: &str) -> usize {
     let (hour, minute) = time.split_once(':').expect("a time");
     let minutes: usize = minute.parse().expect("minutes");
-    (day - 1) * 96 + hour.parse::<usize>().expect("an hour") * 4 + minutes / 15
+    hour.parse::<usize>().expect("an hour") * 4 + minutes / 15
+}
+
+/// What the beginnings of intervals are called by date and clock, the end of the last too.
+fn called(unit: &Unit, intervals: usize) -> Option<Vec<String>> {
+    let w = unit.window?;
+    let shown = calendar::shown((w.year, w.month, w.day), intervals + 1);
+    let name = |place: usize| {
+        let calendar::Shown { date, hour } = shown[place];
+        let (year, month, day) = date;
+        let again = place >= 4 && shown[place - 4] == shown[place];
+        format!(
+            "{year}-{month:02}-{day:02} {hour:02}:{:02}{}",
+            15 * (place % 4),
+            if again { " again" } else { "" }
+        )
+    };
+    Some((0..=intervals).map(name).collect())
+}
+
+/// The place of the quarter-hour that begins at the time that the words begin with, and how many words that takes.
+fn place(words: &[&str], called: Option<&Vec<String>>) -> (usize, usize) {
+    let Some(called) = called else {
+        let day: usize = words[1].parse().expect("a day");
+        return ((day - 1) * 96 + quarters_of(words[2]), 3);
+    };
+    let taken = if words[2] == "again" { 3 } else { 2 };
+    let name = words[..taken].join(" ");
+    let found = match name.strip_suffix(" 24:00") {
+        None => called.iter().position(|other| *other == name),
+        // behind the last of the day
+        Some(date) => called
+            .iter()
+            .rposition(|other| other.starts_with(date))
+            .map(|last| last + 1),
+    };
+    (found.unwrap_or_else(|| panic!("{name}")), taken)
 }
 
 /// A line of the first table without its number: when, what output, how long, how much, and the amounts.
@@ -47,18 +85,22 @@ struct Row {
     amounts: Vec<i64>,
 }
 
-fn row(line: &str) -> Row {
+fn row(line: &str, called: Option<&Vec<String>>) -> Row {
     let words: Vec<&str> = line.split_whitespace().collect();
-    let numbered = words[0] != "day";
+    let numbered = words[0].parse::<usize>().is_ok();
     let words = &words[usize::from(numbered)..];
+    let (from, taken) = place(words, called);
+    let words = &words[taken..];
+    let (to, taken) = place(words, called);
+    let words = &words[taken..];
     Row {
         numbered,
-        from: place(words[1], words[2]),
-        to: place(words[4], words[5]),
-        mw: words[6].to_string(),
-        hours: quarters(words[7]),
-        mwh: quarters(words[8]),
-        amounts: words[9..]
+        from,
+        to,
+        mw: words[0].to_string(),
+        hours: quarters(words[1]),
+        mwh: quarters(words[2]),
+        amounts: words[3..]
             .iter()
             .filter(|w| w.contains('$'))
             .map(|w| quarter_cents(w))
@@ -110,7 +152,11 @@ fn check_row(row: &Row, unit: &Unit, prices: &[i64], plan: &[u64]) {
 /// The lines of the runs against the plan, and the line for all against the sums of those and the profit.
 fn check_runs(told: &[&str], unit: &Unit, prices: &[i64], plan: &[u64]) {
     let (all, lines) = told.split_last().expect("a line for all");
-    let rows: Vec<Row> = lines.iter().map(|line| row(line)).collect();
+    let called = called(unit, prices.len());
+    let rows: Vec<Row> = lines
+        .iter()
+        .map(|line| row(line, called.as_ref()))
+        .collect();
     for row in &rows {
         check_row(row, unit, prices, plan);
     }
@@ -175,6 +221,29 @@ fn check_adders(told: &[&str], unit: &Unit, prices: &[i64]) {
     }
 }
 
+/// The date and the hours of the first lines against the window.
+fn check_window(head: &[&str], unit: &Unit) {
+    let Some(w) = unit.window else {
+        assert_eq!(head.len(), 1);
+        assert!(head[0].ends_with(" quarter-hours"), "{head:?}");
+        return;
+    };
+    let date = format!(" from {}-{:02}-{:02}", w.year, w.month, w.day);
+    assert!(head[0].ends_with(&date), "{head:?}");
+    let said = head[1].strip_prefix("permitted in ").expect("the hours");
+    let (count, times) = said.split_once(" of 24 clock hours").expect("a count");
+    let stretches = times.strip_prefix(": ").map(|times| times.split(", "));
+    let mut word = 0;
+    for stretch in stretches.into_iter().flatten() {
+        let (from, to) = stretch.split_once('-').expect("from and to");
+        for hour in quarters_of(from) / 4..quarters_of(to) / 4 {
+            word |= 1 << hour;
+        }
+    }
+    assert_eq!(word, w.word, "{said}");
+    assert_eq!(count.parse(), Ok(w.word.count_ones()), "{said}");
+}
+
 /// The library's profit and plan, from one call to the next.
 fn by_the_library(unit: &Unit, prices: &[i64]) -> Option<(i64, Vec<u64>)> {
     let cells = cells_needed(*unit, prices.len()).expect("a case in order");
@@ -210,6 +279,7 @@ fn check(
     };
     let told = head[0].split_whitespace().nth(1).expect("the profit");
     assert_eq!(quarter_cents(told), profit, "{said}");
+    check_window(head, unit);
     check_runs(&runs[1..], unit, prices, &plan);
     check_usage(&usage[1..], unit, &plan);
     check_adders(&adders[1..], unit, prices);
@@ -255,4 +325,90 @@ fn a_month() {
         C1.replacen("price", "prices", 1).as_bytes(),
     );
     assert_eq!(answer.stdout, b"refused,2\n");
+}
+
+/// The ends of a run by date and clock where clocks are changed, and at the end of a day and of the horizon.
+#[test]
+fn times_by_the_clock() {
+    let free = C1.replacen(",5000,2,2,none", ",0,none,none,none", 1);
+    let (head, _) = free.split_once("price\n").expect("prices");
+    let text = |intervals: usize| format!("{head}price\n{}", "9000\n".repeat(intervals));
+    for (date, word, intervals, told) in [
+        (
+            (2024, 3, 10),
+            1 << 1,
+            16,
+            "2024-03-10 01:00  2024-03-10 03:00",
+        ),
+        (
+            (2024, 3, 10),
+            1 << 3,
+            16,
+            "2024-03-10 03:00  2024-03-10 04:00",
+        ),
+        (
+            (2024, 11, 3),
+            1 << 1,
+            16,
+            "2024-11-03 01:00  2024-11-03 02:00",
+        ),
+        (
+            (2024, 11, 3),
+            1 << 0,
+            16,
+            "2024-11-03 00:00  2024-11-03 01:00",
+        ),
+        (
+            (2024, 11, 3),
+            3,
+            8,
+            "2024-11-03 00:00  2024-11-03 01:00 again",
+        ),
+        (
+            (2024, 2, 29),
+            1 << 23,
+            97,
+            "2024-02-29 23:00  2024-02-29 24:00",
+        ),
+        (
+            (2099, 12, 31),
+            (1 << 23) + 1,
+            100,
+            "2099-12-31 23:00  2100-01-01 01:00",
+        ),
+        (
+            (2099, 12, 31),
+            1 << 5,
+            2976,
+            "2100-01-30 05:00  2100-01-30 06:00",
+        ),
+        ((2024, 2, 10), 1, 2976, "2024-03-12 00:00  2024-03-12 01:00"),
+        (
+            (2024, 10, 4),
+            1 << 22,
+            2976,
+            "2024-11-03 22:00  2024-11-03 23:00",
+        ),
+        (
+            (2024, 10, 3),
+            1 << 22,
+            2976,
+            "2024-11-02 22:00  2024-11-02 23:00",
+        ),
+        (
+            (2024, 10, 3),
+            1 << 23,
+            2976,
+            "2024-11-02 23:00  2024-11-02 24:00",
+        ),
+    ] {
+        let answer = answer_on(
+            &["explain", "-"],
+            dated(&text(intervals), date, word).as_bytes(),
+        );
+        let said = String::from_utf8(answer.stdout).expect("text");
+        let runs = said.split("\n\n").nth(1).expect("the runs");
+        let last = runs.lines().rev().nth(1).expect("the last run");
+        assert!(last.contains(told), "{date:?}, {word}: {said}");
+    }
 }

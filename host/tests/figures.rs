@@ -4,7 +4,7 @@ mod support;
 
 use ralwinga::{figures, CostFigures, CostInputs};
 use support::inputs::{any_inputs, Inputs, UNIT};
-use support::{each_came_up, paper, Random};
+use support::{each_came_up, paper, Random, Seen};
 
 const CASES: usize = 50_000;
 
@@ -68,7 +68,7 @@ fn tops_of_all_ranges() {
 #[test]
 fn random_cases() {
     let mut random = Random::new(4);
-    let mut seen = [0; 11];
+    let mut seen: Seen = Default::default();
     for _ in 0..CASES {
         let Inputs { inputs, mws, heats } = any_inputs(&mut random);
         let expected: Result<CostFigures, u64> = paper::figures(&inputs, &mws, &heats);

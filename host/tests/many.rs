@@ -61,7 +61,7 @@ fn five_hundred_files() {
         refused += usize::from(answer.is_err());
         expected.push_str(&row(file.to_str().expect("text"), &answer));
         files.push(file);
-        cases.push((text, enumerated));
+        cases.push((text, case.unit, enumerated));
     }
     assert!(refused > 20 && refused < FILES - 20, "{refused} refusals");
     for jobs in [&[][..], &["--jobs", "1"], &["--jobs", "7"]] {
@@ -72,9 +72,9 @@ fn five_hundred_files() {
         // how much memory, and a line for each that is refused
         assert_eq!(text(&output.stderr).lines().count(), 1 + refused);
     }
-    for (i, (text, enumerated)) in cases.iter().enumerate() {
+    for (i, (text, unit, enumerated)) in cases.iter().enumerate() {
         let listing = folder.read(&format!("plans/of a day/unit{i}.listing.csv"));
-        assert_eq!(listing, paper::printed(enumerated), "{text}");
+        assert_eq!(listing, paper::printed(unit, enumerated), "{text}");
         if i % 10 == 0 && text.len() <= 12_288 && !listing.contains("refused,") {
             let program = run_on(proved_program(), text.as_bytes()).stdout;
             assert!(program == listing.as_bytes() || program == b"refused,8\n");

@@ -7,7 +7,7 @@ use ralwinga::amounts::dollars;
 use std::path::{Path, PathBuf};
 use support::browser::Browser;
 use support::points::WORKED;
-use support::{month, paper, ralwinga, Folder, Random, C1};
+use support::{dated, month, paper, ralwinga, Folder, Random, C1, FULL};
 
 /// The page of a case and what the command prints beside it.
 fn page(folder: &Folder, name: &str, case: &str) -> (PathBuf, String) {
@@ -113,6 +113,59 @@ fn pages_of_plans() {
             planned += 1;
         }
     }
+}
+
+/// The labels of time in the drawing.
+const LABELS: &str =
+    "[...document.querySelectorAll('svg text')].filter(t => t.getAttribute('y') == '508')";
+
+/// What is shaded is where the hours are not permitted, and no run is on it; the labels stand under their lines.
+#[test]
+fn permitted_hours() {
+    let folder = Folder::new("permitted");
+    let browser = Browser::new();
+    let count =
+        |selector: &str| browser.text(&format!("document.querySelectorAll('{selector}').length"));
+    let (file, listing) = page(&folder, "plain.csv", C1);
+    opened(&browser, &file);
+    agrees(&browser, &listing);
+    assert_eq!([count("#window"), count(".shut")], ["0", "0"]);
+    let prices = "2000\n9000\n8000\n1000\n7000\n10000\n";
+    let sixteen = C1.replacen(prices, &"9000\n".repeat(16), 1);
+    let text = dated(&sixteen, (2024, 3, 10), 1 << 3);
+    let (file, listing) = page(&folder, "march.csv", &text);
+    opened(&browser, &file);
+    agrees(&browser, &listing);
+    assert!(listing.ends_with("\nwindow,1\n"), "{listing}");
+    let told = "From 2024-03-10; permitted in 1 of 24 clock hours: 03:00-04:00";
+    assert_eq!(text_at(&browser, "#window"), told);
+    assert!(text_at(&browser, "footer").contains("United States daylight time"));
+    // left and right in intervals
+    let sides = |selector: &str| {
+        let boxes = format!("[...document.querySelectorAll('{selector}')].map(e => e.getBBox())");
+        let at = "x => Math.round((x - 80) * 16 / 1290)";
+        browser.text(&format!(
+            "{boxes}.map(b => [b.x, b.x + b.width].map({at}).join('-')).join(' ')"
+        ))
+    };
+    assert_eq!(sides(".shut"), "0-8 12-16");
+    assert_eq!(sides(".run .reach"), "8-12");
+    let labels = browser.text(&format!("{LABELS}.map(t => t.textContent).join(' ')"));
+    assert_eq!(labels, "2024-03-10 01:00 03:00 04:00");
+    for place in [".run .tip", "#runs"] {
+        let said = text_at(&browser, place);
+        assert!(said.contains("2024-03-10 03:00"), "{said}");
+    }
+    // the labels of a month are on the sheet and apart from each other
+    let text = dated(&month(), (2024, 10, 15), FULL - 1);
+    let (file, listing) = page(&folder, "november.csv", &text);
+    opened(&browser, &file);
+    agrees(&browser, &listing);
+    assert_eq!(count(".shut"), "31");
+    let apart = "(b, i, all) => b.x + b.width <= (i + 1 < all.length ? all[i + 1].x : 1400)";
+    let boxes = format!("{LABELS}.map(t => t.getBBox())");
+    assert_eq!(browser.text(&format!("{boxes}.every({apart})")), "true");
+    assert_eq!(browser.text(&format!("{boxes}.length")), "16");
 }
 
 #[test]

@@ -43,6 +43,33 @@ fn the_case_and_its_listing() {
     );
 }
 
+/// The case with four names more, the values of its listing, and the word that README gives as 07:00 to 22:00.
+#[test]
+fn the_permitted_hours() {
+    let dated = block("year,month,day,window,");
+    let listing = printed(&["-"], dated);
+    let program = run_on(proved_program(), dated.as_bytes());
+    assert_eq!(program.stdout, listing.as_bytes());
+    let (table, values) = listing.split_once("\n\n").expect("two tables");
+    assert_eq!(values, block("what,value\n"));
+    let outputs = table.lines().skip(1).map(|line| line.split(',').nth(1));
+    let on: Vec<bool> = outputs.map(|mw| mw != Some("0")).collect();
+    assert_eq!(on, [false, true, true, false, false, false]);
+    for (word, times) in [
+        (4_194_176, "15 of 24 clock hours: 07:00-22:00"),
+        (16_777_215, "24 of 24 clock hours: 00:00-24:00"),
+        (0, "0 of 24 clock hours"),
+    ] {
+        assert!(README.contains(&format!(" {} ", grouped(word))), "{word}");
+        let text = dated.replacen("2024,2,3,1,", &format!("2024,2,3,{word},"), 1);
+        let said = printed(&["explain", "-"], &text);
+        assert!(
+            said.contains(&format!("\npermitted in {times}\n")),
+            "{said}"
+        );
+    }
+}
+
 #[test]
 fn the_explanation_and_the_costs() {
     assert_eq!(printed(&["explain", "-"], case()), block("profit $"));

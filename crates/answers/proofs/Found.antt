@@ -37,19 +37,19 @@ module _ (text : List ℕ) (lent : Lent) where
 
   -- 7 and 8 of a text whose prices have room
   abbrev pub slices : Checked
-  slices = firstOf (slicesChecks unit count (leb count (lent .entries) && leb (mostPrinted count) (lent .bytes)) (lent .cells))
+  slices = firstOf (slicesChecks unit count (leb count (lent .entries) && leb (mostPrinted (unit .permit) count) (lent .bytes)) (lent .cells))
 
   pub lent-in-turn : lentFound text lent ≡ checkedThen (textChecked text (lent .prices)) slices
   unfolding lentFound textChecked
   lent-in-turn =
       let written = writtenChecks text in
       let room = roomChecks text (lent .prices) in
-      in-turn written (slicesChecks unit count (longEnough count lent) (lent .cells))
+      in-turn written (slicesChecks unit count (longEnough (unit .permit) count lent) (lent .cells))
       ∙ by (firstOf written) (leb count (lent .prices))
       ∙ ap (λ (k : Checked). checkedThen k slices) (sym (in-turn written room))
     where
       by : (k : Checked) (t : Bool)
-          → checkedThen k (firstOf (slicesChecks unit count (t && (leb count (lent .entries) && leb (mostPrinted count) (lent .bytes))) (lent .cells)))
+          → checkedThen k (firstOf (slicesChecks unit count (t && (leb count (lent .entries) && leb (mostPrinted (unit .permit) count) (lent .bytes))) (lent .cells)))
           ≡ checkedThen (checkedThen k (unless t Length Passed)) slices
       by Passed true = refl
       by Passed false = refl
@@ -81,12 +81,12 @@ module _ (text : List ℕ) (lent : Lent) where
   pub all-lines : lentFound text lent ≡ Passed → printedFor (allFound text lent) unit prices ≡ printed text lent
   unfolding printed
   all-lines e =
-      ap (λ (t : Bool). cond t [] (printedFor (allFound text lent) unit prices)) (sym (all-written e (serves count (lent .bytes))))
+      ap (λ (t : Bool). cond t [] (printedFor (allFound text lent) unit prices)) (sym (all-written e (serves (unit .permit) count (lent .bytes))))
 
   pub record Read : Type 0 where
     pub case : Passing unit (pricesKept prices) count
     pub fits : count ≤ lent .prices
-    pub bytes : mostPrinted count ≤ lent .bytes
+    pub bytes : mostPrinted (unit .permit) count ≤ lent .bytes
     pub lent-is : lentChecked unit prices (leb count (lent .entries)) (lent .cells) ≡ Passed
     pub plan-is : planChecked unit prices (lent .cells) (lent .entries) ≡ allFound text lent
 
@@ -94,14 +94,14 @@ module _ (text : List ℕ) (lent : Lent) where
   passed e =
       let k = then-passed (textChecked text (lent .prices)) slices (sym lent-in-turn ∙ e) in
       let t = text-passed text (lent .prices) (k .0) in
-      let long = unless-passed (leb count (lent .entries) && leb (mostPrinted count) (lent .bytes)) Length _ (k .1) in
-      let slice = both (leb count (lent .entries)) (leb (mostPrinted count) (lent .bytes)) (long .0) in
+      let long = unless-passed (leb count (lent .entries) && leb (mostPrinted (unit .permit) count) (lent .bytes)) Length _ (k .1) in
+      let slice = both (leb count (lent .entries)) (leb (mostPrinted (unit .permit) count) (lent .bytes)) (long .0) in
       let is : lentChecked unit prices (leb count (lent .entries)) (lent .cells) ≡ Passed =
       lent-turn unit prices (leb count (lent .entries)) (lent .cells) ∙ rw (t .checks, slice .0) (long .1) in
       record {
         case = case-passing (k .0);
         fits = t .fits;
-        bytes = leb-true (mostPrinted count) (lent .bytes) (slice .1);
+        bytes = leb-true (mostPrinted (unit .permit) count) (lent .bytes) (slice .1);
         lent-is = is;
         plan-is =
             plan-turn unit prices (lent .cells) (lent .entries)

@@ -10,6 +10,8 @@ use Rattle.commitment.specs.declared.Cause.{Cause}
 use Rattle.commitment.specs.declared.Checked.{Checked}
 use Rattle.commitment.specs.declared.Checked.the-variants.{Passed}
 use Rattle.commitment.specs.declared.Checked.the-variants as checked
+use Rattle.commitment.specs.declared.Permit.{Permit}
+use Rattle.commitment.specs.declared.Permit.the-variants.{AnyHour, Within}
 use Rattle.commitment.specs.declared.UnitRecord.{UnitRecord}
 use Rattle.commitment.specs.Best.{best}
 use Rattle.commitment.specs.Causes.{numberOf, Check, firstOf}
@@ -17,6 +19,8 @@ use Rattle.commitment.specs.Cells.{cellsNeeded}
 use Rattle.commitment.specs.Valuing.{outcomesOf}
 use Rattle.casefile.specs.Answers.{pricesLeft}
 use Rattle.casefile.specs.Reading.{unitIn, pricesIn, writtenChecks}
+use Rattle.listing.specs.declared.HourWord.{HourWord}
+use Rattle.listing.specs.declared.HourWord.the-variants as hours
 use Rattle.listing.specs.Listing.{listing, refusal, fitted, writtenBy, bytesIn}
 use Rattle.planner.specs.declared.Reported.{Reported}
 use Rattle.planner.specs.declared.Reported.the-variants.{Report, Refused}
@@ -32,22 +36,27 @@ lengths prices scratch schedule out =
 
 -- ---- the causes: those of the text, then 7 where a slice is too short, then 8, all before anything is written; then 9
 
--- the most bytes that a case of so many intervals prints: 9 for a line such as `2976,500`, 136 for headings, profit and outcomes
-abbrev pub mostPrinted : ℕ → ℕ
-mostPrinted n = 9 * n + 136
+-- the most bytes besides the intervals' lines: 136 for headings, profit and outcomes, and 10 for a line such as `window,24`
+abbrev pub mostTotals : Permit → ℕ
+mostTotals AnyHour = 136
+mostTotals (Within w) = 146
+
+-- the most bytes that a case of so many intervals prints: 9 for a line such as `2976,500`
+abbrev pub mostPrinted : Permit → ℕ → ℕ
+mostPrinted permit n = 9 * n + mostTotals permit
 
 -- whether a buffer of so many bytes serves for so many intervals
-abbrev pub serves : ℕ → ℕ → Bool
-serves n bytes = leb (mostPrinted n) bytes
+abbrev pub serves : Permit → ℕ → ℕ → Bool
+serves permit n bytes = leb (mostPrinted permit n) bytes
 
 -- whether price slice, schedule slice and buffer suffice for so many intervals
-abbrev pub longEnough : ℕ → Lent → Bool
-longEnough n lent = leb n (lent .prices) && (leb n (lent .entries) && serves n (lent .bytes))
+abbrev pub longEnough : Permit → ℕ → Lent → Bool
+longEnough permit n lent = leb n (lent .prices) && (leb n (lent .entries) && serves permit n (lent .bytes))
 
 abbrev pub lentChecks : List ℕ → Lent → List Check
 lentChecks text lent =
     writtenChecks text
-    ++ slicesChecks (unitIn text) (length (pricesIn text)) (longEnough (length (pricesIn text)) lent) (lent .cells)
+    ++ slicesChecks (unitIn text) (length (pricesIn text)) (longEnough (unitIn text .permit) (length (pricesIn text)) lent) (lent .cells)
 
 -- what is found before anything is written, and in all
 unfoldable pub lentFound : List ℕ → Lent → Checked
@@ -61,13 +70,18 @@ allFound text lent = firstOf (lentChecks text lent ++ scheduleChecks (unitIn tex
 abbrev pub reportFor : Checked → UnitRecord → List ℤ → Reported
 reportFor found u prices = reportedBy found (best u prices) (outcomesOf u prices)
 
+-- the hour word of a permit that has one
+abbrev pub wordOf : Permit → HourWord
+wordOf AnyHour = hours.None
+wordOf (Within w) = hours.Word (w .word)
+
 -- a report and the outputs planned: their listing; a refusal: its line
-abbrev pub reportPrinted : Reported → List ℕ → List ℕ
-reportPrinted (Report report) outputs = listing outputs (report .profit) (report .outcomes)
-reportPrinted (Refused cause) outputs = refusal (numberOf cause)
+abbrev pub reportPrinted : HourWord → Reported → List ℕ → List ℕ
+reportPrinted word (Report report) outputs = listing outputs (report .profit) (report .outcomes) word
+reportPrinted word (Refused cause) outputs = refusal (numberOf cause)
 
 abbrev pub printedFor : Checked → UnitRecord → List ℤ → List ℕ
-printedFor found u prices = reportPrinted (reportFor found u prices) (plannedPart found (best u prices))
+printedFor found u prices = reportPrinted (wordOf (u .permit)) (reportFor found u prices) (plannedPart found (best u prices))
 
 -- a number, 0 or the cause's, and the bytes that its lines take of a buffer of so many: none where they do not fit
 abbrev pub answeredIn : ℕ → List ℕ → ℕ → Answered
@@ -87,13 +101,13 @@ abbrev pub linesFor : Checked → Bool → UnitRecord → List ℤ → List ℕ
 linesFor found served u prices = cond (unwritten found served) [] (printedFor found u prices)
 
 abbrev pub refusedLines : List ℕ → Cause → ℕ → List ℕ
-refusedLines text cause bytes = linesFor (checked.Refused cause) (serves (length (pricesIn text)) bytes) (unitIn text) (pricesIn text)
+refusedLines text cause bytes = linesFor (checked.Refused cause) (serves (unitIn text .permit) (length (pricesIn text)) bytes) (unitIn text) (pricesIn text)
 
 abbrev pub reportOn : List ℕ → Lent → Reported
 reportOn text lent = reportFor (allFound text lent) (unitIn text) (pricesIn text)
 
 unfoldable pub printed : List ℕ → Lent → List ℕ
-printed text lent = linesFor (allFound text lent) (serves (length (pricesIn text)) (lent .bytes)) (unitIn text) (pricesIn text)
+printed text lent = linesFor (allFound text lent) (serves (unitIn text .permit) (length (pricesIn text)) (lent .bytes)) (unitIn text) (pricesIn text)
 
 unfoldable pub answered : List ℕ → Lent → Answered
 answered text lent = answeredIn (reportedNumber (reportOn text lent)) (printed text lent) (lent .bytes)

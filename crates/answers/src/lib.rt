@@ -2,7 +2,9 @@
 
 use commitment::Cause;
 use commitment::Checked;
+use commitment::Permit;
 use commitment::UnitRecord;
+use listing::HourWord;
 use planner::Reported;
 ghost use mathlib.Core.Path.{_≡_};
 ghost use lib.ListN.{length};
@@ -13,7 +15,7 @@ ghost use Rattle.casefile.specs.Answers.{pricesLeft};
 ghost use Rattle.casefile.specs.Reading.{unitIn, pricesIn};
 ghost use Rattle.listing.specs.Listing.{refusal, bufferAfter};
 ghost use Rattle.planner.specs.Planning.{planChecked, scheduleLeft, scratchLeft, scratchAfter};
-ghost use Rattle.answers.specs.Answering.{lengths, lentFound, answeredIn, answeredFor, printedFor, refusedLines};
+ghost use Rattle.answers.specs.Answering.{lengths, mostTotals, wordOf, lentFound, answeredIn, answeredFor, printedFor, refusedLines};
 ghost use Rattle.answers.specs.Answering.{answered, printed, pricesAfter, scheduleAnswered, scratchAnswered};
 ghost use Rattle.answers.specs.Answering as answering;
 ghost use Rattle.answers.specs.Sizes.{programLends};
@@ -21,7 +23,7 @@ ghost use Rattle.answers.specs.Sizes.{programLends};
 // What the program lends. specs/Sizes.antt has the same.
 pub const TEXT_ROOM: usize = 12289;
 
-pub const OUT_ROOM: usize = 26920;
+pub const OUT_ROOM: usize = 26930;
 
 pub const PRICE_ROOM: usize = 6144;
 
@@ -96,20 +98,42 @@ fn check(text: &[u8], lent: Lent) -> Checked
         Checked::Passed => {
             let unit = casefile::fields::unit_in(text);
             let count = casefile::pricing::prices_counted(text);
-            let long = (count <= lent.entries) & serves(count, lent.bytes);
+            let permit = unit.permit;
+            let long = (count <= lent.entries) & serves(permit, count, lent.bytes);
             planner::checks::check_slices(unit, count, long, lent.cells)
         }
     }
 }
 
-// Whether a buffer has 9 bytes for each interval and 136 more. Nothing is multiplied, so that any count will do.
-fn serves(intervals: usize, bytes: usize) -> bool
-    ensures { λ r. ⌜ r ≡ answering.serves intervals bytes ⌝ }
+// The most bytes that are printed besides the intervals' lines.
+fn most_totals(permit: Permit) -> usize
+    ensures { λ r. ⌜ r ≡ mostTotals permit ⌝ }
 {
-    if bytes < 136 {
+    match permit {
+        Permit::AnyHour => 136,
+        Permit::Within(_) => 146,
+    }
+}
+
+// Whether a buffer has 9 bytes for each interval and what the rest takes. Nothing is multiplied, so that any count will do.
+fn serves(permit: Permit, intervals: usize, bytes: usize) -> bool
+    ensures { λ r. ⌜ r ≡ answering.serves permit intervals bytes ⌝ }
+{
+    let totals = most_totals(permit);
+    if bytes < totals {
         return false;
     }
-    intervals <= (bytes - 136) / 9
+    intervals <= (bytes - totals) / 9
+}
+
+// The hour word of a permit that has one.
+fn word_of(permit: Permit) -> HourWord
+    ensures { λ r. ⌜ r ≡ wordOf permit ⌝ }
+{
+    match permit {
+        Permit::AnyHour => HourWord::None,
+        Permit::Within(window) => HourWord::Word(window.word),
+    }
 }
 
 // A case that passed its checks: read, planned, valued and listed; or 9.
@@ -162,7 +186,9 @@ fn report_case(
             let count = report.count;
             let profit = report.profit;
             let outcomes = report.outcomes;
-            let written = listing::write_listing(&schedule[..count], profit, outcomes, out);
+            let permit = unit.permit;
+            let word = word_of(permit);
+            let written = listing::write_listing(&schedule[..count], profit, outcomes, word, out);
             Answered {
                 number: 0,
                 bytes: listing::bytes_in(written),
@@ -179,7 +205,9 @@ fn refuse_text(text: &[u8], cause: Cause, out: &mut [u8]) -> Answered
 {
     let number = commitment::number_of(cause);
     let count = casefile::pricing::prices_counted(text);
-    if (number == 7) & !serves(count, out.len()) {
+    let unit = casefile::fields::unit_in(text);
+    let permit = unit.permit;
+    if (number == 7) & !serves(permit, count, out.len()) {
         return Answered { number, bytes: 0 };
     }
     refuse(cause, out)

@@ -4,3 +4,4 @@ pub mod Intervals
 pub mod Walking
 pub mod Passed
 mod Examples
+pub mod Shut

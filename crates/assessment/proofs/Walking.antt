@@ -1,6 +1,6 @@
 -- The walk over a schedule finds what the definitions of commitment say: whether it keeps the case, and its profit.
 use mathlib.Core.Path.{_≡_, refl, sym, ap, _∙_}
-use mathlib.Core.Bool.{Bool, true, false, _&&_, cond, and-assoc, and-false}
+use mathlib.Core.Bool.{Bool, true, false, _&&_, cond, and-assoc, and-false, and-true}
 use mathlib.Core.List.{List, [], _∷_}
 use Prim.Native.Nat.{ℕ, zero, suc, _+_, _*_, _<_, _≤_}
 use native.Mathlib.Nat.{add-zero, zero-add}
@@ -17,7 +17,7 @@ use Rattle.commitment.specs.declared.Checked.the-variants.{Passed}
 use Rattle.commitment.specs.declared.UnitRecord.{UnitRecord}
 use Rattle.commitment.specs.Causes.{unless}
 use Rattle.commitment.specs.Keeping.{wasOn, startsIn, runsLast, spellsLast, onIntervals, outputSum}
-use Rattle.commitment.specs.Keeping.{keepsStarts, keepsRuns, keepsSpells, keepsHours, keepsMwh, keepsCase}
+use Rattle.commitment.specs.Keeping.{keepsStarts, keepsRuns, keepsSpells, keepsHours, keepsMwh, keepsWindow, keepsCase}
 use Rattle.commitment.specs.Profit.{earned, earnedIn, startCost, profit}
 use Rattle.lists.specs.Every.{every}
 use Rattle.commitment.specs.Schedule.{isOutput, isSchedule}
@@ -168,10 +168,14 @@ module _ (u : UnitRecord) where
       (walk-from true 1 (starts + 1) (running + 1) (output + suc m) starting ls s (omega arith))
       (same-totals (omega arith) (omega arith) (omega arith) (sym (gain-start p gain rest cost (startsIn true s)))))
 
+  -- the rules but for the hours
+  abbrev pub keepsRules : List ℕ → Bool
+  keepsRules s = keepsStarts u s && keepsRuns u s && keepsSpells u s && keepsHours u s && keepsMwh u s
+
   -- what the walk over a whole schedule concludes is what the definitions say
   pub walk-is : (prices : List ℤ) (s : List ℕ) → length s ≡ length prices
       → concluded u (walkFrom u (openingWalk (u .opening)) prices s)
-      ≡ assessedBy (unless (isSchedule (u .generator) (length prices) s && keepsCase u s) NotKept Passed) (profit u prices s)
+      ≡ assessedBy (unless (isSchedule (u .generator) (length prices) s && keepsRules s) NotKept Passed) (profit u prices s)
   walk-is prices s e =
       let was = wasOn (u .opening) in
       let totals = keepsStarts u s && keepsHours u s && keepsMwh u s in
@@ -186,3 +190,20 @@ module _ (u : UnitRecord) where
       (told (lasting was (u .opening .held) s) totals (profit u prices s)
       ∙ ap (λ (t : Bool). assessedBy (unless t NotKept Passed) (profit u prices s))
       (in-order (keepsStarts u s) (keepsRuns u s) (keepsSpells u s) (keepsHours u s) (keepsMwh u s) (every (isOutput (u .generator)) s)))
+
+  -- where the schedule is off wherever it is shut, the rules are all
+  pub hours-also : (prices : List ℤ) (s : List ℕ) → keepsWindow u s ≡ true
+      → assessedBy (unless (isSchedule (u .generator) (length prices) s && keepsRules s) NotKept Passed) (profit u prices s)
+      ≡ assessedBy (unless (isSchedule (u .generator) (length prices) s && keepsCase u s) NotKept Passed) (profit u prices s)
+  hours-also prices s off =
+      ap (λ (k : Bool). assessedBy (unless (isSchedule (u .generator) (length prices) s && k) NotKept Passed) (profit u prices s))
+      (sym (ap (λ (w : Bool). keepsRules s && w) off ∙ and-true (keepsRules s)))
+
+  -- where it is not, it is refused
+  pub hours-broken : (prices : List ℤ) (s : List ℕ) → keepsWindow u s ≡ false
+      → assessedBy (unless (isSchedule (u .generator) (length prices) s && keepsCase u s) NotKept Passed) (profit u prices s) ≡ Refused NotKept
+  hours-broken prices s on =
+      ap (λ (k : Bool). assessedBy (unless k NotKept Passed) (profit u prices s))
+      (ap (λ (w : Bool). isSchedule (u .generator) (length prices) s && (keepsRules s && w)) on
+      ∙ ap (λ (k : Bool). isSchedule (u .generator) (length prices) s && k) (and-false (keepsRules s))
+      ∙ and-false (isSchedule (u .generator) (length prices) s))

@@ -1,5 +1,7 @@
-// A schedule handed in: its profit, or why it is refused. One pass over the two slices; proofs/ has its laws (Walking, Intervals, Bounds) and what it
-// says of a schedule that it was passed (Passed).
+// A schedule handed in: its profit, or why it is refused. One pass over the two slices, and one over the schedule for the permit's hours (mod hours);
+// proofs/ has their laws (Walking, Intervals, Bounds, Shut) and what it says of a schedule that it was passed (Passed).
+
+mod hours;
 
 use commitment::Cause;
 use commitment::Checked;
@@ -41,7 +43,7 @@ pub enum Walked {
     Broken,
 }
 
-// The profit of a schedule handed in; or 3, 4, 5, 7 (another length than the prices) or 10 (it does not keep the case).
+// The profit of a schedule handed in; or 3, 4, 12, 5, 7 (another length than the prices) or 10 (it does not keep the case).
 pub fn assess(unit: UnitRecord, prices: &[i64], schedule: &[u64]) -> Assessed
     ensures { λ r. ⌜ r ≡ assessed unit (now (prices .entry)) (now (schedule .entry)) ⌝ }
 {
@@ -80,6 +82,9 @@ fn of_case(unit: UnitRecord, prices: &[i64], schedule: &[u64]) -> Assessed
 {
     if schedule.len() != prices.len() {
         return Assessed::Refused(Cause::Length);
+    }
+    if !hours::hours_kept(unit, schedule) {
+        return Assessed::Refused(Cause::NotKept);
     }
     conclude(unit, walk_whole(unit, prices, schedule))
 }

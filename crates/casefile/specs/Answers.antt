@@ -7,6 +7,7 @@ use Rattle.commitment.specs.declared.Checked.{Checked}
 use Rattle.commitment.specs.declared.Checked.the-variants.{Passed}
 use Rattle.commitment.specs.declared.Checked.the-variants as checked
 use Rattle.commitment.specs.declared.Limit.the-variants.{None}
+use Rattle.commitment.specs.declared.Permit.the-variants.{AnyHour}
 use Rattle.commitment.specs.declared.UnitRecord.{UnitRecord}
 use Rattle.commitment.specs.Causes.{numberOf}
 use Rattle.casefile.specs.declared.CaseRead.{CaseRead}
@@ -37,7 +38,7 @@ readPrices text slice = pricesLeft (textChecked text (length slice)) (pricesIn t
 unfoldable pub readPart : List ℕ → ℕ → List ℤ
 readPart text room = frontPart (textChecked text room) (pricesIn text)
 
--- ---- the number, the count and the record of an answer: on a refusal every other number is 0 and every limitation `none`
+-- ---- the number, the count and the record of an answer: on a refusal every other number is 0, every limitation `none`, every hour permitted
 
 abbrev pub noUnit : UnitRecord
 noUnit =
@@ -46,6 +47,7 @@ noUnit =
       costs = record { vec = 0; mlc = 0; suc = 0 };
       opening = record { was = 0; held = 0 };
       limits = record { starts = None; hours = None; mwh = None };
+      permit = AnyHour;
     }
 
 abbrev pub readNumber : CaseRead → ℕ

@@ -1,9 +1,11 @@
 -- The case that a text holds (specification 11): the record, the prices, and the first cause for which the text is refused.
+use mathlib.Core.Bool.{cond}
 use mathlib.Core.List.{List, [], _∷_, _++_, map}
 use Prim.Native.Nat.{ℕ}
 use lib.Dec.{leb}
 use lib.IntN.{ℤ, pos, negsuc}
 use lib.ListN.{length}
+use Rattle.calendar.specs.declared.Date.{Date}
 use Rattle.commitment.specs.declared.Cause.the-variants.{Form, Name, Length}
 use Rattle.commitment.specs.declared.Checked.{Checked}
 use Rattle.commitment.specs.declared.Limit.{Limit}
@@ -12,16 +14,20 @@ use Rattle.commitment.specs.declared.Generator.{Generator}
 use Rattle.commitment.specs.declared.Costs.{Costs}
 use Rattle.commitment.specs.declared.Opening.{Opening}
 use Rattle.commitment.specs.declared.Limits.{Limits}
+use Rattle.commitment.specs.declared.Permit.{Permit}
+use Rattle.commitment.specs.declared.Permit.the-variants.{AnyHour, Within}
+use Rattle.commitment.specs.declared.Window.{Window}
 use Rattle.commitment.specs.declared.UnitRecord.{UnitRecord}
 use Rattle.commitment.specs.Causes.{Check, _else_, firstOf}
 use Rattle.commitment.specs.Ranges.{pricesKept, caseChecks}
 use Rattle.tabletext.specs.declared.Value.{Value}
 use Rattle.tabletext.specs.declared.Value.the-variants.{Malformed, WordNone, Number}
 use Rattle.tabletext.specs.Pieces.{fieldsOf}
-use Rattle.tabletext.specs.Tables.{under}
+use Rattle.tabletext.specs.Tables.{standing, under}
 use Rattle.casetext.specs.Form.{unitHead, unitRow, priceHead, priceRows, formKept, namesKept}
 use Rattle.casetext.specs.Names.{blockName, pminName, pmaxName, motName, mdtName, wasName, heldName}
-use Rattle.casetext.specs.Names.{vecName, mlcName, sucName, startsName, hoursName, mwhName, priceName}
+use Rattle.casetext.specs.Names.{vecName, mlcName, sucName, startsName, hoursName, mwhName}
+use Rattle.casetext.specs.Names.{yearName, monthName, dayName, windowName, priceName}
 
 -- A number that no range reaches, though ten digits come near. It stands for what a field cannot hold: a number below 0, or `none`
 -- where it may not stand. So the check of the ranges refuses these too.
@@ -67,8 +73,18 @@ module _ (names values : List (List ℕ)) where
   abbrev pub limitsOf : Limits
   limitsOf = record { starts = limit startsName; hours = limit hoursName; mwh = limit mwhName }
 
+  abbrev pub dateOf : Date
+  dateOf = record { year = whole yearName; month = whole monthName; day = whole dayName }
+
+  abbrev pub windowOf : Window
+  windowOf = record { date = dateOf; word = whole windowName }
+
+  -- the four names stand together or not at all, so that one of them tells
+  abbrev pub permitOf : Permit
+  permitOf = cond (standing 1 names yearName) (Within windowOf) AnyHour
+
   abbrev pub unitOf : UnitRecord
-  unitOf = record { generator = generatorOf; costs = costsOf; opening = openingOf; limits = limitsOf }
+  unitOf = record { generator = generatorOf; costs = costsOf; opening = openingOf; limits = limitsOf; permit = permitOf }
 
 unfoldable pub unitIn : List ℕ → UnitRecord
 unitIn text = unitOf (fieldsOf (unitHead text)) (fieldsOf (unitRow text))

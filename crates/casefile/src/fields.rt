@@ -1,18 +1,22 @@
 // The record of a text: each field is the value under its name.
 
+use calendar::Date;
 use casetext::parts;
 use commitment::Costs;
 use commitment::Generator;
 use commitment::Limit;
 use commitment::Limits;
 use commitment::Opening;
+use commitment::Permit;
 use commitment::UnitRecord;
+use commitment::Window;
 use tabletext::Value;
 use tabletext::tables;
 ghost use mathlib.Core.Path.{_≡_};
 ghost use Rattle.tabletext.specs.Pieces.{fieldsOf};
 ghost use Rattle.tabletext.specs.Tables.{under};
-ghost use Rattle.casefile.specs.Reading.{naturalOf, wholeOf, limitOf, generatorOf, costsOf, openingOf, limitsOf, unitOf, unitIn};
+ghost use Rattle.casefile.specs.Reading.{naturalOf, wholeOf, limitOf, generatorOf, costsOf, openingOf, limitsOf};
+ghost use Rattle.casefile.specs.Reading.{dateOf, windowOf, permitOf, unitOf, unitIn};
 
 pub fn unit_in(text: &[u8]) -> UnitRecord
     ensures { λ r. ⌜ r ≡ unitIn (now (text .entry)) ⌝ }
@@ -29,11 +33,13 @@ fn unit_under(names: &[u8], values: &[u8]) -> UnitRecord
     let costs = costs_under(names, values);
     let opening = opening_under(names, values);
     let limits = limits_under(names, values);
+    let permit = permit_under(names, values);
     UnitRecord {
         generator,
         costs,
         opening,
         limits,
+        permit,
     }
 }
 
@@ -75,6 +81,34 @@ fn limits_under(names: &[u8], values: &[u8]) -> Limits
         starts: limit_under(b"starts", names, values),
         hours: limit_under(b"hours", names, values),
         mwh: limit_under(b"mwh", names, values),
+    }
+}
+
+// The four names stand together or not at all, so that one of them tells.
+fn permit_under(names: &[u8], values: &[u8]) -> Permit
+    ensures { λ r. ⌜ r ≡ permitOf (fieldsOf (now (names .entry))) (fieldsOf (now (values .entry))) ⌝ }
+{
+    if tables::stands(1, names, b"year") {
+        return Permit::Within(window_under(names, values));
+    }
+    Permit::AnyHour
+}
+
+fn window_under(names: &[u8], values: &[u8]) -> Window
+    ensures { λ r. ⌜ r ≡ windowOf (fieldsOf (now (names .entry))) (fieldsOf (now (values .entry))) ⌝ }
+{
+    let date = date_under(names, values);
+    let word = whole_under(b"window", names, values);
+    Window { date, word }
+}
+
+fn date_under(names: &[u8], values: &[u8]) -> Date
+    ensures { λ r. ⌜ r ≡ dateOf (fieldsOf (now (names .entry))) (fieldsOf (now (values .entry))) ⌝ }
+{
+    Date {
+        year: whole_under(b"year", names, values),
+        month: whole_under(b"month", names, values),
+        day: whole_under(b"day", names, values),
     }
 }
 

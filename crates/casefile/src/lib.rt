@@ -7,6 +7,7 @@ use commitment::Generator;
 use commitment::Limit;
 use commitment::Limits;
 use commitment::Opening;
+use commitment::Permit;
 use commitment::UnitRecord;
 ghost use mathlib.Core.Path.{_≡_};
 ghost use mathlib.Core.List.{[], _∷_};
@@ -24,7 +25,7 @@ pub enum CaseRead {
     Refused(Cause),
 }
 
-// The case of a text, its prices into the front of the slice; or 1, 2, 3, 4, 5 or 7, and the slice is as it was.
+// The case of a text, its prices into the front of the slice; or 1, 2, 3, 4, 12, 5 or 7, and the slice is as it was.
 pub fn read_into(text: &[u8], prices: &mut [i64]) -> CaseRead
     ensures { λ r. ⌜ (r ≡ readCase (now (text .entry)) (length (now (prices .entry))))
         × (now (prices .exit) ≡ readPrices (now (text .entry)) (now (prices .entry))) ⌝ }
@@ -147,6 +148,7 @@ fn no_unit() -> UnitRecord
             hours: Limit::None,
             mwh: Limit::None,
         },
+        permit: Permit::AnyHour,
     }
 }
 

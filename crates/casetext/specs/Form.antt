@@ -1,13 +1,13 @@
 -- The lines of a text, its form and its names (specification 11).
-use mathlib.Core.Bool.{Bool, true, false, _&&_}
-use mathlib.Core.List.{List, [], _∷_}
+use mathlib.Core.Bool.{Bool, true, false, _&&_, _||_}
+use mathlib.Core.List.{List, [], _∷_, _++_}
 use Prim.Native.Nat.{ℕ}
 use lib.Dec.{leb}
 use lib.ListN.{length, getD, drop}
 use Rattle.lists.specs.Every.{every}
 use Rattle.tabletext.specs.Pieces.{linesOf, lastClosed, fieldsOf}
 use Rattle.tabletext.specs.Tables.{nameLine, valueLine, named}
-use Rattle.casetext.specs.Names.{unitNames, unitOptional, priceNames, priceOptional}
+use Rattle.casetext.specs.Names.{unitNames, unitOptional, datedNames, priceNames, priceOptional}
 
 -- the bytes that a text has at most
 abbrev pub mostBytes : ℕ
@@ -50,5 +50,9 @@ formKept text =
 
 -- ---- 2: the names, each once, in any sequence, and no other
 
+-- the thirteen alone, or the thirteen and the four of a date: all four or none
+abbrev pub unitNamed : List (List ℕ) → Bool
+unitNamed head = named unitNames unitOptional head || named (unitNames ++ datedNames) unitOptional head
+
 unfoldable pub namesKept : List ℕ → Bool
-namesKept text = named unitNames unitOptional (fieldsOf (unitHead text)) && named priceNames priceOptional (fieldsOf (priceHead text))
+namesKept text = unitNamed (fieldsOf (unitHead text)) && named priceNames priceOptional (fieldsOf (priceHead text))

@@ -43,6 +43,18 @@ hoursName = bytes "hours"
 abbrev pub mwhName : List ℕ
 mwhName = bytes "mwh"
 
+abbrev pub yearName : List ℕ
+yearName = bytes "year"
+
+abbrev pub monthName : List ℕ
+monthName = bytes "month"
+
+abbrev pub dayName : List ℕ
+dayName = bytes "day"
+
+abbrev pub windowName : List ℕ
+windowName = bytes "window"
+
 abbrev pub priceName : List ℕ
 priceName = bytes "price"
 
@@ -68,6 +80,10 @@ unitNames =
 
 abbrev pub unitOptional : List (List ℕ)
 unitOptional = []
+
+-- those that a date and its permitted hours stand under
+abbrev pub datedNames : List (List ℕ)
+datedNames = yearName ∷ monthName ∷ dayName ∷ windowName ∷ []
 
 -- the second table has one
 abbrev pub priceNames : List (List ℕ)

@@ -12,11 +12,11 @@ use Rattle.lists.proofs.Conjunctions.{both}
 use Rattle.lists.proofs.Every.{every-at}
 use Rattle.integers.proofs.Order.{leZ-true}
 use Rattle.integers.proofs.Ranges.{within-signed, abs-within}
-use Rattle.commitment.specs.declared.Cause.the-variants.{Range, Shape, Horizon}
+use Rattle.commitment.specs.declared.Cause.the-variants.{Range, Shape, Date, Horizon}
 use Rattle.commitment.specs.declared.Checked.the-variants.{Passed}
 use Rattle.commitment.specs.declared.UnitRecord.{UnitRecord}
 use Rattle.commitment.specs.Bounds.{mostPrice, mostIntervals}
-use Rattle.commitment.specs.Ranges.{rangesKept, shapeKept, priceKept, pricesKept, horizonKept, caseChecked, InOrder, Priced}
+use Rattle.commitment.specs.Ranges.{rangesKept, shapeKept, dateKept, priceKept, pricesKept, horizonKept, caseChecked, InOrder, Priced}
 use Rattle.commitment.proofs.Causes.{unless-passed}
 
 price-small : (price : ℤ) → priceKept price ≡ true → natAbs price ≤ mostPrice
@@ -38,11 +38,12 @@ unfolding caseChecked
 passing u priced n e =
     let a = unless-passed (rangesKept u && priced) Range _ e in
     let b = unless-passed (shapeKept (u .generator)) Shape _ (a .1) in
-    let c = unless-passed (horizonKept n) Horizon Passed (b .1) in
+    let d = unless-passed (dateKept (u .permit)) Date _ (b .1) in
+    let c = unless-passed (horizonKept n) Horizon Passed (d .1) in
     let r = both (rangesKept u) priced (a .0) in
     let h = both (leb 1 n) (leb n mostIntervals) (c .0) in
     record {
-      order = record { ranges = r .0; shape = b .0; short = leb-true n mostIntervals (h .1) };
+      order = record { ranges = r .0; shape = b .0; dated = d .0; short = leb-true n mostIntervals (h .1) };
       prices = r .1;
       some = leb-true 1 n (h .0);
     }

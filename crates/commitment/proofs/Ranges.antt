@@ -6,6 +6,7 @@ use native.Mathlib.Omega.{arith}
 use borrow.Author.Tests.{leb-true, le-leb}
 use lib.Dec.{leb}
 use Rattle.lists.proofs.Conjunctions.{both}
+use Rattle.calendar.specs.Dates.{firstYear, lastYear}
 use Rattle.commitment.specs.declared.Limit.{Limit}
 use Rattle.commitment.specs.declared.Limit.the-variants.{None, At}
 use Rattle.commitment.specs.declared.Generator.{Generator}
@@ -14,10 +15,14 @@ use Rattle.commitment.specs.declared.Opening.{Opening}
 use Rattle.commitment.specs.declared.Limits.{Limits}
 use Rattle.commitment.specs.declared.Limitation.{Limitation}
 use Rattle.commitment.specs.declared.Limitation.the-variants.{Starts, Hours, Mwh}
+use Rattle.commitment.specs.declared.Permit.{Permit}
+use Rattle.commitment.specs.declared.Permit.the-variants.{Within}
+use Rattle.commitment.specs.declared.Window.{Window}
 use Rattle.commitment.specs.declared.UnitRecord.{UnitRecord}
 use Rattle.commitment.specs.Bounds.{mostMw, mostBlocks, mostTime, mostHeld, mostVec, mostMlc, mostSuc, mostStarts, mostHours, mostMwh}
 use Rattle.commitment.specs.Limits.{limitKept, limitFor}
-use Rattle.commitment.specs.Ranges.{generatorKept, openingKept, costsKept, limitsKept, rangesKept, shapeKept}
+use Rattle.commitment.specs.Bounds.{mostMonth, mostDay, mostWord}
+use Rattle.commitment.specs.Ranges.{generatorKept, openingKept, costsKept, limitsKept, windowKept, permitKept, rangesKept, shapeKept}
 
 pub record GeneratorRanges (g : Generator) : Type 0 where
   pub block-least : 1 ≤ g .block
@@ -44,6 +49,15 @@ pub record LimitsRanges (limits : Limits) : Type 0 where
   pub starts-kept : limitKept mostStarts (limits .starts) ≡ true
   pub hours-kept : limitKept mostHours (limits .hours) ≡ true
   pub mwh-kept : limitKept mostMwh (limits .mwh) ≡ true
+
+pub record WindowRanges (w : Window) : Type 0 where
+  pub year-least : firstYear ≤ w .date .year
+  pub year-most : w .date .year ≤ lastYear
+  pub month-least : 1 ≤ w .date .month
+  pub month-most : w .date .month ≤ mostMonth
+  pub day-least : 1 ≤ w .date .day
+  pub day-most : w .date .day ≤ mostDay
+  pub word-most : w .word ≤ mostWord
 
 pub generator-ranges : (g : Generator) → generatorKept g ≡ true → GeneratorRanges g
 generator-ranges g e =
@@ -94,6 +108,24 @@ limits-ranges limits e =
     let f2 = both (limitKept mostStarts (limits .starts)) (limitKept mostHours (limits .hours)) (f3 .0) in
     record { starts-kept = f2 .0; hours-kept = f2 .1; mwh-kept = f3 .1 }
 
+pub window-ranges : (w : Window) → windowKept w ≡ true → WindowRanges w
+window-ranges w e =
+    let f7 = both _ (leb (w .word) mostWord) e in
+    let f6 = both _ (leb (w .date .day) mostDay) (f7 .0) in
+    let f5 = both _ (leb 1 (w .date .day)) (f6 .0) in
+    let f4 = both _ (leb (w .date .month) mostMonth) (f5 .0) in
+    let f3 = both _ (leb 1 (w .date .month)) (f4 .0) in
+    let f2 = both (leb firstYear (w .date .year)) (leb (w .date .year) lastYear) (f3 .0) in
+    record {
+      year-least = leb-true firstYear (w .date .year) (f2 .0);
+      year-most = leb-true (w .date .year) lastYear (f2 .1);
+      month-least = leb-true 1 (w .date .month) (f3 .1);
+      month-most = leb-true (w .date .month) mostMonth (f4 .1);
+      day-least = leb-true 1 (w .date .day) (f5 .1);
+      day-most = leb-true (w .date .day) mostDay (f6 .1);
+      word-most = leb-true (w .word) mostWord (f7 .1);
+    }
+
 -- a figure in a range is in a wider one
 pub limit-wider : (a b : ℕ) (l : Limit) → a ≤ b → limitKept a l ≡ true → limitKept b l ≡ true
 limit-wider a b None h e = refl
@@ -103,7 +135,8 @@ limit-wider a b (At n) h e = le-leb n b (omega (arith, leb-true n a e))
 pub generator-kept : (u : UnitRecord) → rangesKept u ≡ true → generatorKept (u .generator) ≡ true
 unfolding rangesKept
 generator-kept u e =
-    both (generatorKept (u .generator)) (openingKept (u .opening)) (both _ (costsKept (u .costs)) (both _ (limitsKept (u .limits)) e .0) .0) .0
+    let f5 = both _ (permitKept (u .permit)) e in
+    both (generatorKept (u .generator)) (openingKept (u .opening)) (both _ (costsKept (u .costs)) (both _ (limitsKept (u .limits)) (f5 .0) .0) .0) .0
 
 -- every field is in its range
 pub record InRange (u : UnitRecord) : Type 0 where
@@ -111,11 +144,13 @@ pub record InRange (u : UnitRecord) : Type 0 where
   pub opening : OpeningRanges (u .opening)
   pub costs : CostsRanges (u .costs)
   pub limits : LimitsRanges (u .limits)
+  pub permit : permitKept (u .permit) ≡ true
 
 pub in-range : (u : UnitRecord) → rangesKept u ≡ true → InRange u
 unfolding rangesKept
 in-range u e =
-    let f4 = both _ (limitsKept (u .limits)) e in
+    let f5 = both _ (permitKept (u .permit)) e in
+    let f4 = both _ (limitsKept (u .limits)) (f5 .0) in
     let f3 = both _ (costsKept (u .costs)) (f4 .0) in
     let f2 = both (generatorKept (u .generator)) (openingKept (u .opening)) (f3 .0) in
     record {
@@ -123,6 +158,7 @@ in-range u e =
       opening = opening-ranges (u .opening) (f2 .1);
       costs = costs-ranges (u .costs) (f3 .1);
       limits = limits-ranges (u .limits) (f4 .1);
+      permit = f5 .1;
     }
 
 pub record Shape (g : Generator) : Type 0 where

@@ -39,6 +39,17 @@ mostHours = 744
 abbrev pub mostMwh : ℕ
 mostMwh = 372000
 
+-- ---- the date whose midnight opens interval 1, and the word of permitted hours
+
+abbrev pub mostMonth : ℕ
+mostMonth = 12
+
+abbrev pub mostDay : ℕ
+mostDay = 31
+
+abbrev pub mostWord : ℕ
+mostWord = 16777215
+
 -- ---- the prices: above 0 and below it, and how many
 
 abbrev pub mostPrice : ℕ

@@ -2,9 +2,13 @@
 -- and `spent` the intervals spent in that state.
 use mathlib.Core.Bool.{Bool, true, false, _&&_}
 use mathlib.Core.List.{List, [], _∷_}
-use Prim.Native.Nat.{ℕ, zero, suc, _+_}
+use Prim.Native.Nat.{ℕ, zero, suc, _+_, _/_}
 use lib.Dec.{leb, eqb}
+use Rattle.calendar.specs.Clock.{clockAfter}
+use Rattle.calendar.specs.Words.{allows}
 use Rattle.commitment.specs.declared.Opening.{Opening}
+use Rattle.commitment.specs.declared.Permit.{Permit}
+use Rattle.commitment.specs.declared.Permit.the-variants.{AnyHour, Within}
 use Rattle.commitment.specs.declared.UnitRecord.{UnitRecord}
 use Rattle.commitment.specs.Limits.{within}
 
@@ -44,6 +48,17 @@ abbrev pub outputSum : List ℕ → ℕ
 outputSum [] = 0
 outputSum (m ∷ s) = m + outputSum s
 
+-- whether the permit lets the unit run in an interval, counted from 0: the bit of its clock hour is 1
+abbrev pub opensIn : Permit → ℕ → Bool
+opensIn AnyHour i = true
+opensIn (Within w) i = allows (w .word) (clockAfter (w .date) (i / 4))
+
+-- off wherever it does not open, from the interval of a number on
+abbrev pub offWhereShut : (ℕ → Bool) → ℕ → List ℕ → Bool
+offWhereShut opens i [] = true
+offWhereShut opens i (zero ∷ s) = offWhereShut opens (suc i) s
+offWhereShut opens i (suc m ∷ s) = opens i && offWhereShut opens (suc i) s
+
 -- ---- the rules
 
 abbrev pub keepsStarts : UnitRecord → List ℕ → Bool
@@ -63,5 +78,9 @@ keepsHours u s = within 4 (onIntervals s) (u .limits .hours)
 abbrev pub keepsMwh : UnitRecord → List ℕ → Bool
 keepsMwh u s = within 4 (outputSum s) (u .limits .mwh)
 
+-- off wherever its hour's bit is 0
+abbrev pub keepsWindow : UnitRecord → List ℕ → Bool
+keepsWindow u s = offWhereShut (opensIn (u .permit)) 0 s
+
 abbrev pub keepsCase : UnitRecord → List ℕ → Bool
-keepsCase u s = keepsStarts u s && keepsRuns u s && keepsSpells u s && keepsHours u s && keepsMwh u s
+keepsCase u s = keepsStarts u s && keepsRuns u s && keepsSpells u s && keepsHours u s && keepsMwh u s && keepsWindow u s

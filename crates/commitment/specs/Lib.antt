@@ -5,6 +5,7 @@ pub mod Limits
 pub mod Ranges
 pub mod Schedule
 pub mod Keeping
+pub mod Windows
 pub mod Profit
 pub mod Order
 pub mod Best
@@ -13,3 +14,4 @@ pub mod Valuing
 pub mod Cells
 pub mod Figures
 pub mod Twelve
+pub mod HourCases

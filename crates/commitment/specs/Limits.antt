@@ -34,4 +34,4 @@ withLimit limits Mwh limit = record { starts = limits .starts; hours = limits .h
 
 -- the unit under other limitations
 abbrev pub limited : UnitRecord → Limits → UnitRecord
-limited u limits = record { generator = u .generator; costs = u .costs; opening = u .opening; limits = limits }
+limited u limits = record { generator = u .generator; costs = u .costs; opening = u .opening; limits = limits; permit = u .permit }

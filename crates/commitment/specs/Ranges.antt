@@ -8,15 +8,21 @@ use lib.IntN.{ℤ, pos, negℤ, natAbs}
 use lib.ListN.{length, getD}
 use lib.Signed.{leZ}
 use Rattle.lists.specs.Every.{every}
+use Rattle.calendar.specs.declared.Date.{Date}
+use Rattle.calendar.specs.Dates.{firstYear, lastYear, exists}
 use Rattle.commitment.specs.declared.Generator.{Generator}
 use Rattle.commitment.specs.declared.Costs.{Costs}
 use Rattle.commitment.specs.declared.Opening.{Opening}
 use Rattle.commitment.specs.declared.Limits.{Limits}
+use Rattle.commitment.specs.declared.Permit.{Permit}
+use Rattle.commitment.specs.declared.Permit.the-variants.{AnyHour, Within}
+use Rattle.commitment.specs.declared.Window.{Window}
 use Rattle.commitment.specs.declared.UnitRecord.{UnitRecord}
-use Rattle.commitment.specs.declared.Cause.the-variants.{Range, Shape, Horizon}
+use Rattle.commitment.specs.declared.Cause.the-variants as cause
 use Rattle.commitment.specs.declared.Checked.{Checked}
 use Rattle.commitment.specs.Bounds.{mostMw, mostBlocks, mostTime, mostHeld, mostVec, mostMlc}
 use Rattle.commitment.specs.Bounds.{mostSuc, mostStarts, mostHours, mostMwh, mostPrice, mostIntervals}
+use Rattle.commitment.specs.Bounds.{mostMonth, mostDay, mostWord}
 use Rattle.commitment.specs.Causes.{Check, _else_, firstOf}
 use Rattle.commitment.specs.Limits.{limitKept}
 
@@ -39,12 +45,31 @@ costsKept k = leb (k .vec) mostVec && leb (k .mlc) mostMlc && leb (k .suc) mostS
 abbrev pub limitsKept : Limits → Bool
 limitsKept limits = limitKept mostStarts (limits .starts) && limitKept mostHours (limits .hours) && limitKept mostMwh (limits .mwh)
 
+abbrev pub dateRanged : Date → Bool
+dateRanged d =
+    leb firstYear (d .year) && leb (d .year) lastYear
+    && leb 1 (d .month) && leb (d .month) mostMonth
+    && leb 1 (d .day) && leb (d .day) mostDay
+
+abbrev pub windowKept : Window → Bool
+windowKept w = dateRanged (w .date) && leb (w .word) mostWord
+
+abbrev pub permitKept : Permit → Bool
+permitKept AnyHour = true
+permitKept (Within w) = windowKept w
+
 unfoldable pub rangesKept : UnitRecord → Bool
-rangesKept u = generatorKept (u .generator) && openingKept (u .opening) && costsKept (u .costs) && limitsKept (u .limits)
+rangesKept u =
+    generatorKept (u .generator) && openingKept (u .opening) && costsKept (u .costs) && limitsKept (u .limits) && permitKept (u .permit)
 
 -- pmin is at most pmax, and pmax × block at most 500
 abbrev pub shapeKept : Generator → Bool
 shapeKept g = leb (g .pmin) (g .pmax) && leb (g .pmax * g .block) mostMw
+
+-- a date that is given exists
+abbrev pub dateKept : Permit → Bool
+dateKept AnyHour = true
+dateKept (Within w) = exists (w .date)
 
 -- ---- the prices
 
@@ -58,13 +83,14 @@ pricesKept prices = every priceKept prices
 abbrev pub horizonKept : ℕ → Bool
 horizonKept n = leb 1 n && leb n mostIntervals
 
--- ---- the checks of a case of n intervals, whose prices are kept or not: 3, 4, 5
+-- ---- the checks of a case of n intervals, whose prices are kept or not: 3, 4, 12, 5
 
 abbrev pub caseChecks : UnitRecord → Bool → ℕ → List Check
 caseChecks u priced n =
-    (rangesKept u && priced else Range)
-    ∷ (shapeKept (u .generator) else Shape)
-    ∷ (horizonKept n else Horizon)
+    (rangesKept u && priced else cause.Range)
+    ∷ (shapeKept (u .generator) else cause.Shape)
+    ∷ (dateKept (u .permit) else cause.Date)
+    ∷ (horizonKept n else cause.Horizon)
     ∷ []
 
 unfoldable pub caseChecked : UnitRecord → Bool → ℕ → Checked
@@ -75,6 +101,7 @@ caseChecked u priced n = firstOf (caseChecks u priced n)
 pub record InOrder (u : UnitRecord) (n : ℕ) : Type 0 where
   pub ranges : rangesKept u ≡ true
   pub shape : shapeKept (u .generator) ≡ true
+  pub dated : dateKept (u .permit) ≡ true
   pub short : n ≤ mostIntervals
 
 abbrev pub Priced : List ℤ → Type 0

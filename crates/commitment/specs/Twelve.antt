@@ -12,6 +12,8 @@ use Rattle.commitment.specs.declared.Limit.the-variants.{At}
 use Rattle.commitment.specs.declared.Limit.the-variants as limit
 use Rattle.commitment.specs.declared.Limitation.the-variants.{Starts, Hours, Mwh}
 use Rattle.commitment.specs.declared.Cause.the-variants.{NoSchedule}
+use Rattle.commitment.specs.declared.Permit.{Permit}
+use Rattle.commitment.specs.declared.Permit.the-variants.{AnyHour}
 use Rattle.commitment.specs.declared.Outcome.{Outcome}
 use Rattle.commitment.specs.declared.Outcome.the-variants.{Empty, Never, Gap}
 use Rattle.commitment.specs.declared.Outcome.the-variants as outcomes
@@ -27,15 +29,19 @@ use Rattle.commitment.specs.Figures.{vecOf, sucOf, mlcOf}
 abbrev pub c1-prices : List ℤ
 c1-prices = pos 2000 ∷ pos 9000 ∷ pos 8000 ∷ pos 1000 ∷ pos 7000 ∷ pos 10000 ∷ []
 
--- C1 but for mot, was, held, starts, hours and mwh
-abbrev c1-but : ℕ → ℕ → ℕ → Limit → Limit → Limit → UnitRecord
-c1-but mot was held starts hours mwh =
+-- C1 but for mot, was, held, starts, hours, mwh and permit
+abbrev pub c1-under : ℕ → ℕ → ℕ → Limit → Limit → Limit → Permit → UnitRecord
+c1-under mot was held starts hours mwh permit =
     record {
       generator = record { block = 10; pmin = 1; pmax = 2; mot = mot; mdt = 2 };
       costs = record { vec = 3000; mlc = 30000; suc = 5000 };
       opening = record { was = was; held = held };
       limits = record { starts = starts; hours = hours; mwh = mwh };
+      permit = permit;
     }
+
+abbrev c1-but : ℕ → ℕ → ℕ → Limit → Limit → Limit → UnitRecord
+c1-but mot was held starts hours mwh = c1-under mot was held starts hours mwh AnyHour
 
 abbrev pub c1 : UnitRecord
 c1 = c1-but 2 0 2 (At 2) (At 2) limit.None
@@ -93,7 +99,7 @@ pub data Value : Type 0 where
   cents : ℕ → Value
 
 -- a plan's schedule and profit before other values, or the number of its refusal
-abbrev planBefore : Plan → List Value → List Value
+abbrev pub planBefore : Plan → List Value → List Value
 planBefore nothing rest = number (numberOf NoSchedule) ∷ rest
 planBefore (plan s p) rest = schedule s ∷ profit p ∷ rest
 
@@ -123,7 +129,7 @@ pub record Row : Type 0 where
   pub computed : List Value
   pub given : List Value
 
-abbrev row : List Value → List Value → Row
+abbrev pub row : List Value → List Value → Row
 row a b = record { computed = a; given = b }
 
 abbrev pub table : List Row

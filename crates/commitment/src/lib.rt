@@ -5,14 +5,29 @@ ghost use mathlib.Core.Path.{_≡_};
 ghost use mathlib.Core.Bool.{true};
 ghost use Prim.Native.Nat.{_≤_};
 ghost use lib.IntN.{natAbs};
+ghost use Rattle.calendar.specs.Dates.{exists};
 ghost use Rattle.commitment.specs.Profit as profits;
 ghost use Rattle.commitment.specs.Causes.{numberOf};
 ghost use Rattle.commitment.specs.Limits.{limitKept, limitFor, withLimit, limited};
 ghost use Rattle.commitment.specs.Bounds.{mostMw, mostVec, mostMlc, mostPrice};
 ghost use Rattle.commitment.specs.Ranges.{caseChecked, generatorKept, openingKept, costsKept, limitsKept};
-ghost use Rattle.commitment.specs.Ranges.{rangesKept, shapeKept, priceKept, pricesKept, horizonKept};
+ghost use Rattle.commitment.specs.Ranges.{rangesKept, dateRanged, windowKept, permitKept, shapeKept, dateKept, priceKept, pricesKept, horizonKept};
+
+pub mod windows;
+
+use calendar::Date;
 
 // The ends of the ranges. specs/Bounds.antt has the same.
+const FIRST_YEAR: u64 = 2007;
+
+const LAST_YEAR: u64 = 2099;
+
+const MOST_MONTH: u64 = 12;
+
+const MOST_DAY: u64 = 31;
+
+const MOST_WORD: u64 = 16777215;
+
 const MOST_MW: u64 = 500;
 
 const MOST_BLOCKS: u64 = 500;
@@ -72,12 +87,25 @@ pub struct Limits {
     pub mwh: Limit,
 }
 
+// The date whose midnight opens interval 1, and the word whose bit h allows clock hour h.
+pub struct Window {
+    pub date: Date,
+    pub word: u64,
+}
+
+// When the permit allows the unit to run.
+pub enum Permit {
+    AnyHour,
+    Within(Window),
+}
+
 // The unit record (specification 2), in its groups.
 pub struct UnitRecord {
     pub generator: Generator,
     pub costs: Costs,
     pub opening: Opening,
     pub limits: Limits,
+    pub permit: Permit,
 }
 
 // Which of the three limitations.
@@ -94,6 +122,7 @@ pub enum Cause {
     Range,
     Levels,
     Shape,
+    Date,
     Horizon,
     Segments,
     Length,
@@ -148,7 +177,7 @@ pub struct CostInputs {
     pub load_adder: u64,
 }
 
-// The first cause for which a case of so many intervals cannot be worked on, whatever call it is for: 3, 4 or 5. The prices are judged by whoever
+// The first cause for which a case of so many intervals cannot be worked on, whatever call it is for: 3, 4, 12 or 5. The prices are judged by whoever
 // has them, in a slice or in a text.
 pub fn check_case(unit: UnitRecord, priced: bool, intervals: usize) -> Checked
     ensures { λ r. ⌜ r ≡ caseChecked unit priced intervals ⌝ }
@@ -158,6 +187,10 @@ pub fn check_case(unit: UnitRecord, priced: bool, intervals: usize) -> Checked
     }
     if !shape_kept(unit) {
         return Checked::Refused(Cause::Shape);
+    }
+    let permit = unit.permit;
+    if !date_kept(permit) {
+        return Checked::Refused(Cause::Date);
     }
     if !horizon_kept(intervals) {
         return Checked::Refused(Cause::Horizon);
@@ -180,7 +213,8 @@ fn ranges_kept(unit: UnitRecord) -> bool
     let o = unit.opening;
     let k = unit.costs;
     let limits = unit.limits;
-    generator_kept(g) & opening_kept(o) & costs_kept(k) & limits_kept(limits)
+    let permit = unit.permit;
+    generator_kept(g) & opening_kept(o) & costs_kept(k) & limits_kept(limits) & permit_kept(permit)
 }
 
 fn generator_kept(g: Generator) -> bool
@@ -226,6 +260,50 @@ fn limit_kept(most: u64, limit: Limit) -> bool
         Limit::None => true,
         Limit::At(n) => n <= most,
     }
+}
+
+fn permit_kept(permit: Permit) -> bool
+    ensures { λ r. ⌜ r ≡ permitKept permit ⌝ }
+{
+    match permit {
+        Permit::AnyHour => true,
+        Permit::Within(window) => window_kept(window),
+    }
+}
+
+fn window_kept(window: Window) -> bool
+    ensures { λ r. ⌜ r ≡ windowKept window ⌝ }
+{
+    let date = window.date;
+    date_ranged(date) & (window.word <= MOST_WORD)
+}
+
+fn date_ranged(date: Date) -> bool
+    ensures { λ r. ⌜ r ≡ dateRanged date ⌝ }
+{
+    (FIRST_YEAR <= date.year)
+        & (date.year <= LAST_YEAR)
+        & (1 <= date.month)
+        & (date.month <= MOST_MONTH)
+        & (1 <= date.day)
+        & (date.day <= MOST_DAY)
+}
+
+// A date that is given exists.
+fn date_kept(permit: Permit) -> bool
+    ensures { λ r. ⌜ r ≡ dateKept permit ⌝ }
+{
+    match permit {
+        Permit::AnyHour => true,
+        Permit::Within(window) => date_exists(window),
+    }
+}
+
+fn date_exists(window: Window) -> bool
+    ensures { λ r. ⌜ r ≡ exists (window .date) ⌝ }
+{
+    let date = window.date;
+    calendar::exists(date)
 }
 
 // The product is taken of sizes in range, where it cannot overflow.
@@ -302,11 +380,13 @@ pub fn under_limits(unit: UnitRecord, limits: Limits) -> UnitRecord
     let generator = unit.generator;
     let costs = unit.costs;
     let opening = unit.opening;
+    let permit = unit.permit;
     UnitRecord {
         generator,
         costs,
         opening,
         limits,
+        permit,
     }
 }
 
@@ -331,6 +411,7 @@ pub fn number_of(cause: Cause) -> u64
         Cause::Range => 3,
         Cause::Levels => 11,
         Cause::Shape => 4,
+        Cause::Date => 12,
         Cause::Horizon => 5,
         Cause::Segments => 6,
         Cause::Length => 7,

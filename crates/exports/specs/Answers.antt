@@ -7,6 +7,8 @@ use Rattle.casefile.specs.declared.CaseRead.{CaseRead}
 use Rattle.casefile.specs.Answers.{readNumber, readCount, readUnit}
 use Rattle.commitment.specs.declared.Checked.{Checked}
 use Rattle.commitment.specs.declared.Checked.the-variants.{Passed, Refused}
+use Rattle.commitment.specs.declared.windows.ClockRead.{ClockRead}
+use Rattle.commitment.specs.Windows.{clockNumber, hourIn}
 use Rattle.commitment.specs.Causes.{numberOf}
 use Rattle.costs.specs.declared.Costed.{Costed}
 use Rattle.costs.specs.Answers.{costedNumber, costedVec, costedSuc, costedMlc}
@@ -24,6 +26,7 @@ use Rattle.planner.specs.Valuing.{valuedNumber, valuedOutcomes}
 use Rattle.exports.specs.declared.numbers.AssessNumbers.{AssessNumbers}
 use Rattle.exports.specs.declared.numbers.CaseNumbers.{CaseNumbers}
 use Rattle.exports.specs.declared.numbers.CellsNumbers.{CellsNumbers}
+use Rattle.exports.specs.declared.numbers.ClockNumbers.{ClockNumbers}
 use Rattle.exports.specs.declared.numbers.CurveNumbers.{CurveNumbers}
 use Rattle.exports.specs.declared.numbers.FiguresNumbers.{FiguresNumbers}
 use Rattle.exports.specs.declared.numbers.PlanNumbers.{PlanNumbers}
@@ -60,6 +63,9 @@ reportNumbers answer =
       profit = reportedProfit answer;
       outcomes = outcomesNumbers (reportedOutcomes answer);
     }
+
+abbrev pub clockNumbers : ClockRead → ClockNumbers
+clockNumbers answer = record { number = clockNumber answer; hour = hourIn answer }
 
 -- ---- the cells that a case of so many intervals needs, where its check passes
 

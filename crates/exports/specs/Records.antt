@@ -1,5 +1,5 @@
 -- The unit record and the outcomes in numbers (specification 16).
-use mathlib.Core.Bool.{cond}
+use mathlib.Core.Bool.{cond, _&&_}
 use Prim.Native.Nat.{ℕ}
 use lib.Dec.{eqb}
 use lib.IntN.{ℤ, pos}
@@ -8,7 +8,14 @@ use Rattle.commitment.specs.declared.Limit.the-variants as limit
 use Rattle.commitment.specs.declared.Outcome.{Outcome}
 use Rattle.commitment.specs.declared.Outcome.the-variants as outcome
 use Rattle.commitment.specs.declared.Outcomes.{Outcomes}
+use Rattle.calendar.specs.declared.Date.{Date}
+use Rattle.calendar.specs.Dates.{date}
+use Rattle.commitment.specs.declared.Permit.{Permit}
+use Rattle.commitment.specs.declared.Permit.the-variants.{AnyHour, Within}
+use Rattle.commitment.specs.declared.Window.{Window}
 use Rattle.commitment.specs.declared.UnitRecord.{UnitRecord}
+use Rattle.listing.specs.declared.HourWord.{HourWord}
+use Rattle.listing.specs.declared.HourWord.the-variants as hours
 use Rattle.exports.specs.declared.numbers.UnitNumbers.{UnitNumbers}
 use Rattle.exports.specs.declared.numbers.OutcomeNumbers.{OutcomeNumbers}
 use Rattle.exports.specs.declared.numbers.OutcomesNumbers.{OutcomesNumbers}
@@ -25,6 +32,19 @@ abbrev pub limitNumber : Limit → ℕ
 limitNumber limit.None = none
 limitNumber (limit.At number) = number
 
+-- ---- the permit: all four at `none` is without a date and word; some of them are beyond the ranges
+
+abbrev pub permitFrom : Date → ℕ → Permit
+permitFrom d word =
+    cond (eqb (d .year) none && eqb (d .month) none && eqb (d .day) none && eqb word none) AnyHour (Within (record { date = d; word = word }))
+
+abbrev pub windowNumbers : Permit → Window
+windowNumbers AnyHour = record { date = date none none none; word = none }
+windowNumbers (Within w) = w
+
+abbrev pub wordFrom : ℕ → HourWord
+wordFrom word = cond (eqb word none) hours.None (hours.Word word)
+
 -- ---- the record
 
 abbrev pub recordOf : UnitNumbers → UnitRecord
@@ -34,6 +54,7 @@ recordOf u =
       costs = record { vec = u .vec; mlc = u .mlc; suc = u .suc };
       opening = record { was = u .was; held = u .held };
       limits = record { starts = limitFrom (u .starts); hours = limitFrom (u .hours); mwh = limitFrom (u .mwh) };
+      permit = permitFrom (date (u .year) (u .month) (u .day)) (u .window);
     }
 
 abbrev pub unitNumbers : UnitRecord → UnitNumbers
@@ -52,6 +73,10 @@ unitNumbers u =
       starts = limitNumber (u .limits .starts);
       hours = limitNumber (u .limits .hours);
       mwh = limitNumber (u .limits .mwh);
+      year = windowNumbers (u .permit) .date .year;
+      month = windowNumbers (u .permit) .date .month;
+      day = windowNumbers (u .permit) .date .day;
+      window = windowNumbers (u .permit) .word;
     }
 
 -- ---- outcomes: 0 none, 1 empty, 2 never, 3 a gap

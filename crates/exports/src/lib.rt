@@ -3,12 +3,15 @@
 
 mod numbers;
 
+use calendar::Date;
 use commitment::Checked;
 use commitment::CostInputs;
+use commitment::windows;
 use curves::CurveInputs;
 use numbers::AssessNumbers;
 use numbers::CaseNumbers;
 use numbers::CellsNumbers;
+use numbers::ClockNumbers;
 use numbers::CurveNumbers;
 use numbers::FiguresNumbers;
 use numbers::OutcomesNumbers;
@@ -21,17 +24,19 @@ ghost use mathlib.Core.Path.{_≡_};
 ghost use lib.ListN.{length};
 ghost use mathlib.Core.Bool.{true};
 ghost use Rattle.commitment.specs.Cells.{cellsNeeded};
+ghost use Rattle.calendar.specs.Dates.{date};
 ghost use Rattle.commitment.specs.Ranges.{caseChecked};
+ghost use Rattle.commitment.specs.Windows.{clockHour};
 ghost use Rattle.assessment.specs.Assessed.{assessed};
 ghost use Rattle.casefile.specs.Answers.{readCase, readPrices};
 ghost use Rattle.costs.specs.Answers.{costed};
 ghost use Rattle.curves.specs.Answers.{room, curved, fromsLeft, tosLeft, pricesLeft};
-ghost use Rattle.listing.specs.Listing.{listing, refusal, fitted, writtenBy, bufferAfter};
+ghost use Rattle.listing.specs.Listing.{listingWritten, listingAfter, refusal, fitted, writtenBy, bufferAfter};
 ghost use Rattle.planner.specs.Planning.{planned, scheduleLeft, scratchLeft};
 ghost use Rattle.planner.specs.Reporting.{reported};
 ghost use Rattle.planner.specs.Valuing.{valued, scratchValued};
-ghost use Rattle.exports.specs.Records.{recordOf, outcomesFrom};
-ghost use Rattle.exports.specs.Answers.{assessNumbers, caseNumbers, cellsNumbers, curveNumbers, figuresNumbers};
+ghost use Rattle.exports.specs.Records.{recordOf, outcomesFrom, wordFrom};
+ghost use Rattle.exports.specs.Answers.{assessNumbers, caseNumbers, cellsNumbers, clockNumbers, curveNumbers, figuresNumbers};
 ghost use Rattle.exports.specs.Answers.{planNumbers, reportNumbers, valueNumbers, writtenNumbers};
 
 // The text of a case into its record, its prices into the front of the slice.
@@ -85,7 +90,7 @@ pub extern "C" fn ralwinga_assess(
     numbers::of_assessment(assessment::assess(numbers::record_of(unit), prices, schedule))
 }
 
-// The cells that a case of so many intervals needs; or 3, 4 or 5. Its prices are not judged.
+// The cells that a case of so many intervals needs; or 3, 4, 12 or 5. Its prices are not judged.
 #[no_mangle]
 pub extern "C" fn ralwinga_cells(unit: UnitNumbers, intervals: usize) -> CellsNumbers
     ensures { λ r. ⌜ r ≡ cellsNumbers (caseChecked (recordOf unit) true intervals) (cellsNeeded (recordOf unit) intervals) ⌝ }
@@ -146,22 +151,37 @@ pub extern "C" fn ralwinga_report(
     numbers::of_report(planner::report_into(numbers::record_of(unit), prices, scratch, schedule))
 }
 
-// The listing of a plan into the front of the buffer.
+// The clock hour of an interval, counted from 1, when interval 1 begins at the midnight of a date; or 3 or 12.
+#[no_mangle]
+pub extern "C" fn ralwinga_clock_hour(
+    year: u64,
+    month: u64,
+    day: u64,
+    interval: u64,
+) -> ClockNumbers
+    ensures { λ r. ⌜ r ≡ clockNumbers (clockHour (date year month day) interval) ⌝ }
+{
+    numbers::of_clock(windows::clock_hour(Date { year, month, day }, interval))
+}
+
+// The listing of a plan into the front of the buffer, with the hour word of its case, `none` where it has none.
 #[no_mangle]
 pub extern "C" fn ralwinga_listing(
     schedule: &[u64],
     profit: i64,
     outcomes: OutcomesNumbers,
+    window: u64,
     out: &mut [u8],
 ) -> WrittenNumbers
     ensures { λ r. ⌜ r
-        ≡ writtenNumbers (writtenBy (fitted (length (listing (now (schedule .entry)) profit (outcomesFrom outcomes))) (length (now (out .entry))))) ⌝ }
-    ensures { λ _. ⌜ now (out .exit) ≡ bufferAfter (listing (now (schedule .entry)) profit (outcomesFrom outcomes)) (now (out .entry)) ⌝ }
+        ≡ writtenNumbers (listingWritten (now (schedule .entry)) profit (outcomesFrom outcomes) (wordFrom window) (length (now (out .entry)))) ⌝ }
+    ensures { λ _. ⌜ now (out .exit) ≡ listingAfter (now (schedule .entry)) profit (outcomesFrom outcomes) (wordFrom window) (now (out .entry)) ⌝ }
 {
     numbers::of_written(listing::write_listing(
         schedule,
         profit,
         numbers::outcomes_from(outcomes),
+        numbers::word_from(window),
         out,
     ))
 }

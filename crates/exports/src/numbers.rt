@@ -1,6 +1,7 @@
 // Records and answers as structs of numbers, laid out as in C, and the way between them and the types of the calls.
 
 use assessment::Assessed;
+use calendar::Date;
 use casefile::CaseRead;
 use commitment::Costs;
 use commitment::Generator;
@@ -9,9 +10,13 @@ use commitment::Limits;
 use commitment::Opening;
 use commitment::Outcome;
 use commitment::Outcomes;
+use commitment::Permit;
 use commitment::UnitRecord;
+use commitment::Window;
+use commitment::windows::ClockRead;
 use costs::Costed;
 use curves::Curved;
+use listing::HourWord;
 use listing::Written;
 use planner::Planned;
 use planner::Reported;
@@ -20,7 +25,7 @@ ghost use mathlib.Core.Path.{_≡_};
 ghost use Rattle.exports.specs.Records as records;
 ghost use Rattle.exports.specs.Answers as answers;
 
-// `none` as the number of a limitation.
+// `none` as a number: of a limitation, and in each of the four of a permit for any hour.
 pub const NONE: u64 = 18446744073709551615;
 
 // The unit record, in the order of its fields (specification 16).
@@ -39,6 +44,10 @@ pub struct UnitNumbers {
     pub starts: u64,
     pub hours: u64,
     pub mwh: u64,
+    pub year: u64,
+    pub month: u64,
+    pub day: u64,
+    pub window: u64,
 }
 
 // An outcome: 0 none, 1 empty, 2 never, 3 a gap; `gap` is 0 but for the last.
@@ -90,6 +99,12 @@ pub struct CellsNumbers {
 }
 
 #[repr(C)]
+pub struct ClockNumbers {
+    pub number: u64,
+    pub hour: u64,
+}
+
+#[repr(C)]
 pub struct PlanNumbers {
     pub number: u64,
     pub count: usize,
@@ -137,6 +152,44 @@ fn limit_number(limit: Limit) -> u64
     }
 }
 
+// Without a date and word where all four are none; where some of them are, the window is beyond its ranges.
+fn permit_from(date: Date, word: u64) -> Permit
+    ensures { λ r. ⌜ r ≡ records.permitFrom date word ⌝ }
+{
+    if (date.year == NONE) & (date.month == NONE) & (date.day == NONE) & (word == NONE) {
+        Permit::AnyHour
+    } else {
+        Permit::Within(Window { date, word })
+    }
+}
+
+// The window of a permit, none in each figure where it is for any hour.
+fn window_numbers(permit: Permit) -> Window
+    ensures { λ r. ⌜ r ≡ records.windowNumbers permit ⌝ }
+{
+    match permit {
+        Permit::AnyHour => Window {
+            date: Date {
+                year: NONE,
+                month: NONE,
+                day: NONE,
+            },
+            word: NONE,
+        },
+        Permit::Within(window) => window,
+    }
+}
+
+pub fn word_from(word: u64) -> HourWord
+    ensures { λ r. ⌜ r ≡ records.wordFrom word ⌝ }
+{
+    if word == NONE {
+        HourWord::None
+    } else {
+        HourWord::Word(word)
+    }
+}
+
 pub fn record_of(unit: UnitNumbers) -> UnitRecord
     ensures { λ r. ⌜ r ≡ records.recordOf unit ⌝ }
 {
@@ -162,6 +215,14 @@ pub fn record_of(unit: UnitNumbers) -> UnitRecord
             hours: limit_from(unit.hours),
             mwh: limit_from(unit.mwh),
         },
+        permit: permit_from(
+            Date {
+                year: unit.year,
+                month: unit.month,
+                day: unit.day,
+            },
+            unit.window,
+        ),
     }
 }
 
@@ -175,6 +236,9 @@ fn unit_numbers(unit: UnitRecord) -> UnitNumbers
     let starts = limits.starts;
     let hours = limits.hours;
     let mwh = limits.mwh;
+    let permit = unit.permit;
+    let window = window_numbers(permit);
+    let date = window.date;
     UnitNumbers {
         block: g.block,
         pmin: g.pmin,
@@ -189,6 +253,10 @@ fn unit_numbers(unit: UnitRecord) -> UnitNumbers
         starts: limit_number(starts),
         hours: limit_number(hours),
         mwh: limit_number(mwh),
+        year: date.year,
+        month: date.month,
+        day: date.day,
+        window: window.word,
     }
 }
 
@@ -291,6 +359,15 @@ pub fn of_assessment(answer: Assessed) -> AssessNumbers
     AssessNumbers {
         number: assessment::number_of(answer),
         profit: assessment::profit_of(answer),
+    }
+}
+
+pub fn of_clock(answer: ClockRead) -> ClockNumbers
+    ensures { λ r. ⌜ r ≡ answers.clockNumbers answer ⌝ }
+{
+    ClockNumbers {
+        number: commitment::windows::number_of(answer),
+        hour: commitment::windows::hour_in(answer),
     }
 }
 

@@ -14,6 +14,7 @@ use Rattle.commitment.specs.declared.BestProfit.the-variants.{Nothing, Profit}
 use Rattle.commitment.specs.Bounds.{mostIntervals}
 use Rattle.optimality.specs.declared.Figures.{Figures}
 use Rattle.optimality.specs.declared.Cell.{Cell}
+use Rattle.optimality.specs.Machine.{Quarter}
 use Rattle.optimality.specs.Cells.{InTable, valueAt}
 use Rattle.geometry.specs.Geometry.{width, index}
 use Rattle.geometry.specs.Layers.{halfway, told, Holds, inFront, Filled}
@@ -33,10 +34,10 @@ told-is n (Profit p) a short h =
     rw (le-ltZ a halfway (omega (zarith, within-abs p, h .0, h .1, up-halfway, dn-halfway))) (ap Profit (h .0))
 
 -- a cell of the first layer of a filled table tells its best profit
-pub first-told : (f : Figures) (ends : Cell → BestProfit) (prices cells : List ℤ) (c : Cell) → Filled f ends prices cells → length prices ≤ mostIntervals
+pub first-told : (f : Figures) (ends : Cell → BestProfit) (quarters : List Quarter) (cells : List ℤ) (c : Cell) → Filled f ends quarters cells → length quarters ≤ mostIntervals
     → InTable f c
-    → told (inFront f cells c) ≡ valueAt f ends prices c
-first-told f ends prices cells c filled short inside =
-    let h : Holds (length prices) (valueAt f ends prices c) (inFront f cells c) =
+    → told (inFront f cells c) ≡ valueAt f ends quarters c
+first-told f ends quarters cells c filled short inside =
+    let h : Holds (length quarters) (valueAt f ends quarters c) (inFront f cells c) =
     rw (zero-mul (width f), zero-add (index f c)) at (filled .layers 0 (omega arith) .holds c inside) in
-    told-is (length prices) (valueAt f ends prices c) (inFront f cells c) short h
+    told-is (length quarters) (valueAt f ends quarters c) (inFront f cells c) short h

@@ -11,6 +11,7 @@ use Rattle.commitment.specs.declared.BestProfit.the-variants.{Nothing, Profit}
 use Rattle.commitment.specs.Bounds.{mostMw, mostVec, mostMlc, mostSuc, mostPrice, mostIntervals}
 use Rattle.optimality.specs.declared.Figures.{Figures}
 use Rattle.optimality.specs.declared.Cell.{Cell}
+use Rattle.optimality.specs.Machine.{Quarter}
 use Rattle.optimality.specs.Cells.{Sound, InTable, valueAt}
 use Rattle.geometry.specs.Geometry.{width, index}
 
@@ -49,13 +50,13 @@ storedAt f cells at c = getD cells (at + index f c) (pos 0)
 abbrev pub inFront : Figures → List ℤ → Cell → ℤ
 inFront f cells c = getD cells (index f c) (pos 0)
 
--- a layer holds the best profit of every cell over the prices to come, after which plans end as `ends` says
-pub record Layer (f : Figures) (ends : Cell → BestProfit) (prices : List ℤ) (stored : Cell → ℤ) : Type 0 where
-  pub holds : (c : Cell) → InTable f c → Holds (length prices) (valueAt f ends prices c) (stored c)
+-- a layer holds the best profit of every cell over the quarters to come, after which plans end as `ends` says
+pub record Layer (f : Figures) (ends : Cell → BestProfit) (quarters : List Quarter) (stored : Cell → ℤ) : Type 0 where
+  pub holds : (c : Cell) → InTable f c → Holds (length quarters) (valueAt f ends quarters c) (stored c)
 
--- layer t, from the scratch's first on, holds the best profits over the prices after the t-th
-pub record Filled (f : Figures) (ends : Cell → BestProfit) (prices cells : List ℤ) : Type 0 where
-  pub layers : (t : ℕ) → t ≤ length prices → Layer f ends (drop t prices) (storedAt f cells (t * width f))
+-- layer t, from the scratch's first on, holds the best profits over the quarters after the t-th
+pub record Filled (f : Figures) (ends : Cell → BestProfit) (quarters : List Quarter) (cells : List ℤ) : Type 0 where
+  pub layers : (t : ℕ) → t ≤ length quarters → Layer f ends (drop t quarters) (storedAt f cells (t * width f))
 
 -- the scratch has room for n intervals
 pub record Room (f : Figures) (n cells : ℕ) : Type 0 where

@@ -13,10 +13,11 @@ use mathlib.Core.Bool.{Bool, true, false}
 use Rattle.lists.proofs.Fills.{tail-before, tail-read}
 use Rattle.optimality.specs.declared.Figures.{Figures}
 use Rattle.optimality.specs.declared.Cell.{Cell}
+use Rattle.optimality.specs.Machine.{Quarter}
 use Rattle.geometry.specs.Geometry.{width, index}
 use Rattle.geometry.specs.Layers.{storedAt}
 use Rattle.layers.specs.Stretches.{Behind, FrontMade, LayerMade}
-use Rattle.layers.specs.Turns.{cellStored}
+use Rattle.layers.specs.Turns.{quarterStored}
 
 module _ (s part : List ℤ) (at : ℕ) (fits : at ≤ length s) where
   pub behind-part : (w : ℕ) → Behind s at (at + w) w → Behind (drop at s) 0 w w
@@ -30,15 +31,15 @@ module _ (s part : List ℤ) (at : ℕ) (fits : at ≤ length s) where
       shift : (a w i : ℕ) → a + w + i ≡ a + (w + i)
       shift a w i = omega arith
 
-  module _ (f : Figures) (price : ℤ) where
+  module _ (f : Figures) (q : Quarter) where
     stored-same : storedAt f (drop at s) (width f) ≡ storedAt f s (at + width f)
     stored-same = fun-ext (λ c. getD-drop at s (width f + index f c) (pos 0) ∙ ap (λ (k : ℕ). getD s k (pos 0)) (omega arith))
 
-    pub lent-made : FrontMade f price (drop at s) part → LayerMade f price s (take at s ++ part) at
+    pub lent-made : FrontMade f q (drop at s) part → LayerMade f q s (take at s ++ part) at
     lent-made made =
         record {
           inside = λ c h.
-              tail-read at s part fits (index f c) (pos 0) ∙ made .inside c h ∙ ap (λ (stored : Cell → ℤ). cellStored f stored c price) stored-same;
+              tail-read at s part fits (index f c) (pos 0) ∙ made .inside c h ∙ ap (λ (stored : Cell → ℤ). quarterStored f stored c q) stored-same;
           apart = λ j h. outside j h (ltb j at) refl;
         }
       where

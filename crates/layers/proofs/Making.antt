@@ -12,11 +12,12 @@ use lib.IntN.{ℤ, pos, _+ℤ_}
 use lib.ListN.{length, getD}
 use Rattle.optimality.specs.declared.Figures.{Figures}
 use Rattle.optimality.specs.declared.Cell.{Cell}
+use Rattle.optimality.specs.Machine.{Quarter, quarter}
 use Rattle.optimality.specs.Cells.{cell, states, afterOff, afterOn, startTakes, startPays, onCell, rungs}
 use Rattle.geometry.specs.Geometry.{row, span, section, width, index}
 use Rattle.geometry.specs.Layers.{infeasible, storedAt, inFront}
-use Rattle.layers.specs.Turns.{offStored, roomFor, onStored, cellStored}
-use Rattle.layers.specs.Stretches.{Copied, bestOver, SectionRaised, OffMade, StateMade, FrontMade}
+use Rattle.layers.specs.Turns.{offStored, roomFor, onStored, cellStored, quarterStored}
+use Rattle.layers.specs.Stretches.{Copied, bestOver, SectionRaised, OffMade, StateMade, QuarterMade, FrontMade}
 use Rattle.layers.specs.Ladders.{brings, ladderOf}
 use Rattle.layers.proofs.Ladders.{ladder-brings}
 use Rattle.geometry.proofs.Places.{in-section, sections-all, section-fits}
@@ -117,6 +118,14 @@ module _ (f : Figures) (price : ℤ) (s : ℕ) (was mid : List ℤ) (off : OffMa
           apart = λ j out. made .apart j out ∙ off .apart j out;
         }
 
+-- ---- a quarter, open or shut
+
+pub quarter-opens : (f : Figures) (price : ℤ) (s : ℕ) (was cells : List ℤ) → StateMade f price s was cells → QuarterMade f (quarter price true) s was cells
+quarter-opens f price s was cells made = record { inside = made .inside; apart = made .apart }
+
+pub quarter-shut : (f : Figures) (price : ℤ) (s : ℕ) (was cells : List ℤ) → OffMade f s was cells → QuarterMade f (quarter price false) s was cells
+quarter-shut f price s was cells made = record { inside = made .inside; apart = made .apart }
+
 -- ---- the layer, state by state
 
 pub record SectionPlace (f : Figures) : Type 0 where
@@ -127,9 +136,9 @@ pub record SectionPlace (f : Figures) : Type 0 where
   pub y≤ : y ≤ f .ons
   pub z≤ : z ≤ f .blocks
 
-module _ (f : Figures) (price : ℤ) (was : List ℤ) where
+module _ (f : Figures) (q : Quarter) (was : List ℤ) where
   abbrev pub sectionNow : ℕ → SectionPlace f → ℤ
-  sectionNow s p = cellStored f (storedAt f was (width f)) (cell s (p .x) (p .y) (p .z)) price
+  sectionNow s p = quarterStored f (storedAt f was (width f)) (cell s (p .x) (p .y) (p .z)) q
 
   abbrev pub place : SectionPlace f → ℕ
   place p = placeIn f (p .x) (p .y) (p .z)
@@ -143,18 +152,18 @@ module _ (f : Figures) (price : ℤ) (was : List ℤ) where
   pub states-first : StatesDone was 0
   states-first = done-first place (section f) placed was 0 sectionNow 0 (λ v h p. absurd (omega arith))
 
-  pub states-next : (s t : List ℤ) (n : ℕ) → n < states f → length t ≡ length s → StatesDone s n → StateMade f price n s t → StatesDone t (n + 1)
+  pub states-next : (s t : List ℤ) (n : ℕ) → n < states f → length t ≡ length s → StatesDone s n → QuarterMade f q n s t → StatesDone t (n + 1)
   states-next s t n inside long old new =
       done-next place (section f) placed was 0 sectionNow s t n old long
       (rw (zero-add (n * section f)) (new .apart))
       (λ p.
       (rw (zero-add (n * section f)) (sym (front-in f t n (p .x) (p .y) (p .z)))) ∙ new .inside (p .x) (p .y) (p .z) (p .x≤) (p .y≤) (p .z≤)
-      ∙ ap (λ (stored : Cell → ℤ). cellStored f stored (cell n (p .x) (p .y) (p .z)) price) behind)
+      ∙ ap (λ (stored : Cell → ℤ). quarterStored f stored (cell n (p .x) (p .y) (p .z)) q) behind)
     where
       behind : storedAt f s (width f) ≡ storedAt f was (width f)
       behind = λ i c. old .after (width f + index f c) (omega (arith, section-fits f n inside)) i
 
-  pub states-done : (s : List ℤ) → StatesDone s (states f) → FrontMade f price was s
+  pub states-done : (s : List ℤ) → StatesDone s (states f) → FrontMade f q was s
   states-done s old =
       record {
         inside = λ c h.

@@ -22,20 +22,16 @@ use Rattle.optimality.specs.declared.Figures.{Figures}
 use Rattle.optimality.specs.declared.Cell.{Cell}
 use Rattle.commitment.specs.declared.BestProfit.{BestProfit}
 use Rattle.commitment.specs.declared.BestProfit.the-variants.{Nothing, Profit}
-use Rattle.optimality.specs.Machine.{go, allow, more, valueAlong}
+use Rattle.optimality.specs.Machine.{Quarter, quarter, go, allow, more, valueAlong}
 use Rattle.optimality.specs.Cells.{Sound, InTable, states, afterOff, afterOn, startTakes, startPays, mayRun, gain}
 use Rattle.optimality.specs.Cells.{offCell, onCell, rungs, valueAt, offValue, onValue, onBest}
-use Rattle.optimality.proofs.Turns.{value-turn, may-not-run, off-in-table, on-in-table}
+use Rattle.optimality.proofs.Turns.{more-none, value-turn, value-shut, may-not-run, off-in-table, on-in-table}
 use Rattle.geometry.specs.Layers.{infeasible, swing, Holds, Layer, mostPays}
-use Rattle.layers.specs.Turns.{net, slope, raised, offStored, roomFor, onStored, cellStored}
+use Rattle.layers.specs.Turns.{net, slope, raised, offStored, roomFor, onStored, cellStored, quarterStored}
 use Rattle.layers.proofs.Raising.{raised-none, raised-next}
 use Rattle.geometry.proofs.Holding.{Offers, holds-more, offers-plus, holds-stay, holds-none}
 
--- ---- `more` is a monoid
-
-more-none : (v : BestProfit) → more v Nothing ≡ v
-more-none Nothing = refl
-more-none (Profit p) = refl
+-- ---- `more` is associative
 
 more-assoc : (u v w : BestProfit) → more (more u v) w ≡ more u (more v w)
 more-assoc Nothing v w = refl
@@ -124,35 +120,35 @@ module _ (f : Figures) (ok : Sound f) (price : ℤ) (small : natAbs price ≤ mo
 
   -- ---- one interval from a cell
 
-  module _ (ends : Cell → BestProfit) (prices : List ℤ) (short : length prices < mostIntervals) (stored : Cell → ℤ) (layer : Layer f ends prices stored)
+  module _ (ends : Cell → BestProfit) (quarters : List Quarter) (short : length quarters < mostIntervals) (stored : Cell → ℤ) (layer : Layer f ends quarters stored)
       (c : Cell) (here : InTable f c) where
-    pub off-holds : Holds (suc (length prices)) (offValue f (valueAt f ends prices) c) (offStored f stored c)
+    pub off-holds : Holds (suc (length quarters)) (offValue f (valueAt f ends quarters) c) (offStored f stored c)
     unfolding offStored
     off-holds = by (ltb (afterOff f (c .state)) (states f)) refl
       where
         by : (t : Bool) → ltb (afterOff f (c .state)) (states f) ≡ t
-            → Holds (suc (length prices)) (valueAlong (allow t (go (pos 0) (offCell f c))) (valueAt f ends prices)) (cond t (stored (offCell f c)) infeasible)
+            → Holds (suc (length quarters)) (valueAlong (allow t (go (pos 0) (offCell f c))) (valueAt f ends quarters)) (cond t (stored (offCell f c)) infeasible)
         by true e =
-            holds-stay (length prices) (valueAt f ends prices (offCell f c)) (stored (offCell f c)) short
+            holds-stay (length quarters) (valueAt f ends quarters (offCell f c)) (stored (offCell f c)) short
             (layer .holds (offCell f c) (off-in-table f c here (ltb-true (afterOff f (c .state)) (states f) e)))
-        by false e = holds-none (suc (length prices)) short
+        by false e = holds-none (suc (length quarters)) short
 
     module _ (may : mayRun f c ≡ true) where
       pub on-is : (k : ℕ) (t : Bool) → roomFor f stored c k ≡ t
-          → onValue f (valueAt f ends prices) c price k
-          ≡ valueAlong (allow t (go (net f price (startPays f (c .state)) k) (onCell f c k))) (valueAt f ends prices)
+          → onValue f (valueAt f ends quarters) c price k
+          ≡ valueAlong (allow t (go (net f price (startPays f (c .state)) k) (onCell f c k))) (valueAt f ends quarters)
       on-is k t e = rw (may, e)
 
       pub on-offers : (k : ℕ) → k ≤ f .pmax → roomFor f stored c k ≡ true
-          → Offers (suc (length prices)) (onValue f (valueAt f ends prices) c price k) (onStored f stored c price k)
+          → Offers (suc (length quarters)) (onValue f (valueAt f ends quarters) c price k) (onStored f stored c price k)
       on-offers k h e =
           rw (on-is k true e)
-          (offers-plus (length prices) (valueAt f ends prices (onCell f c k)) (stored (onCell f c k)) (net f price (startPays f (c .state)) k) short
+          (offers-plus (length quarters) (valueAt f ends quarters (onCell f c k)) (stored (onCell f c k)) (net f price (startPays f (c .state)) k) short
           (net-small (startPays f (c .state)) k (pays-most f ok (c .state)) h)
           (layer .holds (onCell f c k) (on-in-table f c k here (runs f c may .leads))))
 
-      raised-holds : (k count : ℕ) → k + count ≤ suc (f .pmax) → (v : BestProfit) (base : ℤ) → Holds (suc (length prices)) v base
-          → Holds (suc (length prices)) (more v (onBest f (valueAt f ends prices) c price k count))
+      raised-holds : (k count : ℕ) → k + count ≤ suc (f .pmax) → (v : BestProfit) (base : ℤ) → Holds (suc (length quarters)) v base
+          → Holds (suc (length quarters)) (more v (onBest f (valueAt f ends quarters) c price k count))
           (raised (roomFor f stored c) (onStored f stored c price) base k count)
       raised-holds k zero hi v base h = rw (more-none v, raised-none (roomFor f stored c) (onStored f stored c price) base k) h
       raised-holds k (suc count) hi v base h =
@@ -160,29 +156,35 @@ module _ (f : Figures) (ok : Sound f) (price : ℤ) (small : natAbs price ≤ mo
           (by (λ w next. raised-holds (suc k) count (omega arith) w next) (roomFor f stored c k) refl)
         where
           rest : BestProfit
-          rest = onBest f (valueAt f ends prices) c price (suc k) count
+          rest = onBest f (valueAt f ends quarters) c price (suc k) count
 
-          by : ((w : BestProfit) (next : ℤ) → Holds (suc (length prices)) w next
-              → Holds (suc (length prices)) (more w rest) (raised (roomFor f stored c) (onStored f stored c price) next (suc k) count))
+          by : ((w : BestProfit) (next : ℤ) → Holds (suc (length quarters)) w next
+              → Holds (suc (length quarters)) (more w rest) (raised (roomFor f stored c) (onStored f stored c price) next (suc k) count))
               → (t : Bool) → roomFor f stored c k ≡ t
-              → Holds (suc (length prices)) (more v (more (onValue f (valueAt f ends prices) c price k) rest))
+              → Holds (suc (length quarters)) (more v (more (onValue f (valueAt f ends quarters) c price k) rest))
               (raised (roomFor f stored c) (onStored f stored c price) (cond t (maxℤ base (onStored f stored c price k)) base) (suc k) count)
           by later true e =
-              let o = onValue f (valueAt f ends prices) c price k in
-              subst (λ (w : BestProfit). Holds (suc (length prices)) w
+              let o = onValue f (valueAt f ends quarters) c price k in
+              subst (λ (w : BestProfit). Holds (suc (length quarters)) w
               (raised (roomFor f stored c) (onStored f stored c price) (maxℤ base (onStored f stored c price k)) (suc k) count))
               (more-assoc v o rest)
               (later (more v o) (maxℤ base (onStored f stored c price k))
-              (holds-more (suc (length prices)) v o base (onStored f stored c price k) short h (on-offers k (omega arith) e)))
+              (holds-more (suc (length quarters)) v o base (onStored f stored c price k) short h (on-offers k (omega arith) e)))
           by later false e = rw (on-is k false e) (later v base h)
 
-    pub cell-holds : Holds (suc (length prices)) (valueAt f ends (price ∷ prices) c) (cellStored f stored c price)
+    open-holds : (q : Quarter) → q .opens ≡ true → q .price ≡ price
+        → Holds (suc (length quarters)) (valueAt f ends (q ∷ quarters) c) (cellStored f stored c price)
     unfolding cellStored
-    cell-holds = rw (value-turn f ok ends price prices c) (by (mayRun f c) refl)
+    open-holds q opened priced = rw (value-turn f ok ends q quarters c opened, priced) (by (mayRun f c) refl)
       where
         by : (t : Bool) → mayRun f c ≡ t
-            → Holds (suc (length prices)) (more (offValue f (valueAt f ends prices) c) (onBest f (valueAt f ends prices) c price (f .pmin) (rungs f)))
+            → Holds (suc (length quarters)) (more (offValue f (valueAt f ends quarters) c) (onBest f (valueAt f ends quarters) c price (f .pmin) (rungs f)))
             (cond t (raised (roomFor f stored c) (onStored f stored c price) (offStored f stored c) (f .pmin) (rungs f)) (offStored f stored c))
-        by true e = raised-holds e (f .pmin) (rungs f) (omega (arith, ok .pmax)) (offValue f (valueAt f ends prices) c) (offStored f stored c) off-holds
+        by true e = raised-holds e (f .pmin) (rungs f) (omega (arith, ok .pmax)) (offValue f (valueAt f ends quarters) c) (offStored f stored c) off-holds
         by false e =
-            rw (may-not-run f ok ends (valueAt f ends prices) c price (f .pmin) (rungs f) e, more-none (offValue f (valueAt f ends prices) c)) off-holds
+            rw (may-not-run f ok ends (valueAt f ends quarters) c price (f .pmin) (rungs f) e, more-none (offValue f (valueAt f ends quarters) c)) off-holds
+
+    pub cell-holds : (opened : Bool)
+        → Holds (suc (length quarters)) (valueAt f ends (quarter price opened ∷ quarters) c) (quarterStored f stored c (quarter price opened))
+    cell-holds true = open-holds (quarter price true) refl refl
+    cell-holds false = rw (value-shut f ok ends (quarter price false) quarters c refl) off-holds

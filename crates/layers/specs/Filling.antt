@@ -7,6 +7,9 @@ use lib.ListN.{length, drop}
 use Rattle.commitment.specs.declared.BestProfit.{BestProfit}
 use Rattle.optimality.specs.declared.Figures.{Figures}
 use Rattle.optimality.specs.declared.Cell.{Cell}
+use Rattle.optimality.specs.Machine.{Quarter, quartersFrom}
+use Rattle.commitment.specs.declared.windows.Hours.{Hours}
+use Rattle.commitment.specs.Windows.{opens}
 use Rattle.geometry.specs.Geometry.{width}
 use Rattle.geometry.specs.Layers.{storedAt, Layer, Filled}
 
@@ -20,5 +23,9 @@ abbrev pub Beyond : ℕ → List ℤ → List ℤ → Type 0
 Beyond n was cells = drop n cells ≡ drop n was
 
 -- whatever the last layer said, the table holds the best profits of plans that end so
-abbrev pub FilledBy : Figures → List ℤ → List ℤ → List ℤ → Type 0
-FilledBy f prices was cells = (ends : Cell → BestProfit) → Layer f ends [] (storedAt f was (length prices * width f)) → Filled f ends prices cells
+abbrev pub FilledBy : Figures → List Quarter → List ℤ → List ℤ → Type 0
+FilledBy f quarters was cells = (ends : Cell → BestProfit) → Layer f ends [] (storedAt f was (length quarters * width f)) → Filled f ends quarters cells
+
+-- the quarters of prices over a horizon
+abbrev pub quartersIn : Hours → List ℤ → List Quarter
+quartersIn hours prices = quartersFrom (opens hours) 0 prices

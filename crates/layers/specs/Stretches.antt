@@ -12,10 +12,11 @@ use Rattle.integers.specs.Maximum.{maxℤ}
 use Rattle.commitment.specs.Bounds.{mostBlocks}
 use Rattle.optimality.specs.declared.Figures.{Figures}
 use Rattle.optimality.specs.declared.Cell.{Cell}
+use Rattle.optimality.specs.Machine.{Quarter}
 use Rattle.optimality.specs.Cells.{Sound, InTable, cell, states}
 use Rattle.geometry.specs.Geometry.{row, span, section, width}
 use Rattle.geometry.specs.Layers.{swing, storedAt, inFront}
-use Rattle.layers.specs.Turns.{raised, offStored, cellStored}
+use Rattle.layers.specs.Turns.{raised, offStored, cellStored, quarterStored}
 use Rattle.layers.specs.declared.rows.Ladder.{Ladder}
 use Rattle.layers.specs.Ladders.{brings, outputs, mostBrought}
 
@@ -161,11 +162,17 @@ pub record StateMade (f : Figures) (price : ℤ) (s : ℕ) (was cells : List ℤ
       → inFront f cells (cell s x y z) ≡ cellStored f (storedAt f was (width f)) (cell s x y z) price
   pub apart : Apart was cells (s * section f) (section f)
 
-pub record FrontMade (f : Figures) (price : ℤ) (was cells : List ℤ) : Type 0 where
-  pub inside : (c : Cell) → InTable f c → inFront f cells c ≡ cellStored f (storedAt f was (width f)) c price
+-- the same in a quarter, open or shut
+pub record QuarterMade (f : Figures) (q : Quarter) (s : ℕ) (was cells : List ℤ) : Type 0 where
+  pub inside : (x y z : ℕ) → x ≤ f .starts → y ≤ f .ons → z ≤ f .blocks
+      → inFront f cells (cell s x y z) ≡ quarterStored f (storedAt f was (width f)) (cell s x y z) q
+  pub apart : Apart was cells (s * section f) (section f)
+
+pub record FrontMade (f : Figures) (q : Quarter) (was cells : List ℤ) : Type 0 where
+  pub inside : (c : Cell) → InTable f c → inFront f cells c ≡ quarterStored f (storedAt f was (width f)) c q
   pub apart : Apart was cells 0 (width f)
 
 -- the layer at a place of the scratch
-pub record LayerMade (f : Figures) (price : ℤ) (was cells : List ℤ) (at : ℕ) : Type 0 where
-  pub inside : (c : Cell) → InTable f c → storedAt f cells at c ≡ cellStored f (storedAt f was (at + width f)) c price
+pub record LayerMade (f : Figures) (q : Quarter) (was cells : List ℤ) (at : ℕ) : Type 0 where
+  pub inside : (c : Cell) → InTable f c → storedAt f cells at c ≡ quarterStored f (storedAt f was (at + width f)) c q
   pub apart : Apart was cells at (width f)

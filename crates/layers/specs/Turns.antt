@@ -8,6 +8,7 @@ use Rattle.commitment.specs.Bounds.{mostPrice}
 use Rattle.commitment.specs.Profit.{margin}
 use Rattle.optimality.specs.declared.Figures.{Figures}
 use Rattle.optimality.specs.declared.Cell.{Cell}
+use Rattle.optimality.specs.Machine.{Quarter}
 use Rattle.optimality.specs.Cells.{Sound, states, afterOff, startPays, gain, mayRun, offCell, onCell, rungs}
 use Rattle.geometry.specs.Layers.{infeasible}
 
@@ -41,3 +42,7 @@ module _ (f : Figures) (stored : Cell → ℤ) (c : Cell) where
 
   unfoldable pub cellStored : ℤ → ℤ
   cellStored price = cond (mayRun f c) (raised roomFor (onStored price) offStored (f .pmin) (rungs f)) offStored
+
+  -- in a quarter that is shut, off alone
+  abbrev pub quarterStored : Quarter → ℤ
+  quarterStored q = cond (q .opens) (cellStored (q .price)) offStored

@@ -9,35 +9,38 @@ mod rows;
 mod states;
 pub mod steps;
 
+use commitment::windows;
+use commitment::windows::Hours;
 use optimality::Figures;
 ghost use mathlib.Core.Path.{_≡_};
 ghost use mathlib.Core.List.{_++_};
 ghost use Prim.Native.Nat.{_+_, _*_, _≤_};
 ghost use lib.IntN.{pos};
 ghost use lib.ListN.{length, drop, replicate};
-ghost use Rattle.optimality.specs.Machine.{anywhere};
+ghost use Rattle.optimality.specs.Machine.{anywhere, quarter};
 ghost use Rattle.layers.specs.Turns.{Interval};
-ghost use Rattle.layers.specs.Filling.{Ended, FilledBy, Beyond};
+ghost use Rattle.layers.specs.Filling.{Ended, FilledBy, quartersIn, Beyond};
 ghost use Rattle.layers.specs.Stretches.{Behind, LayerMade};
 ghost use Rattle.geometry.specs.Geometry.{width};
 ghost use Rattle.geometry.specs.Layers.{Filled, Room};
 ghost use Rattle.commitment.specs.Ranges.{Priced};
+ghost use Rattle.commitment.specs.Windows.{Clocked};
 
 // Every layer, from the last to the first. `w` is the cells of one. After the last interval a plan may end in any cell.
-pub fn fill_all(scratch: &mut [i64], w: usize, f: Figures, prices: &[i64])
-    requires { ⌜ (Room f (length (now prices)) (length (now scratch))) × (w ≡ width f) × (Priced (now prices)) ⌝ }
-    ensures { λ _. ⌜ Filled f anywhere (now (prices .entry)) (now (scratch .exit)) ⌝ }
+pub fn fill_all(scratch: &mut [i64], w: usize, f: Figures, prices: &[i64], hours: Hours)
+    requires { ⌜ (Room f (length (now prices)) (length (now scratch))) × (w ≡ width f) × (Priced (now prices)) × (Clocked hours) ⌝ }
+    ensures { λ _. ⌜ Filled f anywhere (quartersIn hours (now (prices .entry))) (now (scratch .exit)) ⌝ }
     ensures { λ _. ⌜ Beyond ((length (now (prices .entry)) + 1) * w) (now (scratch .entry)) (now (scratch .exit)) ⌝ }
 {
     rows::put(scratch, prices.len() * w, w, 0);
-    fill(scratch, w, f, prices);
+    fill(scratch, w, f, prices, hours);
 }
 
 // The layers before the last, which is there and says where a plan may end.
-pub fn fill(scratch: &mut [i64], w: usize, f: Figures, prices: &[i64])
-    requires { ⌜ (Room f (length (now prices)) (length (now scratch))) × (w ≡ width f) × (Priced (now prices)) ⌝ }
+pub fn fill(scratch: &mut [i64], w: usize, f: Figures, prices: &[i64], hours: Hours)
+    requires { ⌜ (Room f (length (now prices)) (length (now scratch))) × (w ≡ width f) × (Priced (now prices)) × (Clocked hours) ⌝ }
     requires { ⌜ Ended f (now scratch) (length (now prices) * width f) ⌝ }
-    ensures { λ _. ⌜ FilledBy f (now (prices .entry)) (now (scratch .entry)) (now (scratch .exit)) ⌝ }
+    ensures { λ _. ⌜ FilledBy f (quartersIn hours (now (prices .entry))) (now (scratch .entry)) (now (scratch .exit)) ⌝ }
     ensures { λ _. ⌜ Beyond (length (now (prices .entry)) * w) (now (scratch .entry)) (now (scratch .exit)) ⌝ }
 {
     let mut t = prices.len();
@@ -45,16 +48,16 @@ pub fn fill(scratch: &mut [i64], w: usize, f: Figures, prices: &[i64])
     while 0 < t {
         t -= 1;
         at -= w;
-        fill_layer(scratch, at, w, f, prices[t]);
+        fill_layer(scratch, at, w, f, prices[t], windows::opens_in(hours, t));
     }
 }
 
 // A layer's cells are a part of the scratch of its own: the part from its start on is lent to be filled, by the layer that stands behind it.
-fn fill_layer(scratch: &mut [i64], at: usize, w: usize, f: Figures, price: i64)
+fn fill_layer(scratch: &mut [i64], at: usize, w: usize, f: Figures, price: i64, opens: bool)
     requires { ⌜ (Interval f price) × (w ≡ width f) × (Behind (now scratch) at (at + w) w) ⌝ }
-    ensures { λ _. ⌜ LayerMade f price (now (scratch .entry)) (now (scratch .exit)) at ⌝ }
+    ensures { λ _. ⌜ LayerMade f (quarter price opens) (now (scratch .entry)) (now (scratch .exit)) at ⌝ }
 {
-    states::fill_layer(&mut scratch[at..], w, f, price);
+    states::fill_layer(&mut scratch[at..], w, f, price, opens);
 }
 
 // The first n cells back to 0.

@@ -9,11 +9,12 @@ ghost use Prim.Native.Nat.{_+_, _≤_};
 ghost use lib.IntN.{natAbs};
 ghost use lib.ListN.{length};
 ghost use Rattle.commitment.specs.Bounds.{mostPrice};
+ghost use Rattle.optimality.specs.Machine.{quarter};
 ghost use Rattle.optimality.specs.Cells.{Sound};
 ghost use Rattle.geometry.specs.Geometry.{span, section, width};
 ghost use Rattle.layers.specs.Turns.{Interval};
 ghost use Rattle.layers.specs.Ladders.{Steady, betterEnd};
-ghost use Rattle.layers.specs.Stretches.{Behind, SpanRaised, SectionRaised, OfState, OffMade, StateMade, FrontMade};
+ghost use Rattle.layers.specs.Stretches.{Behind, SpanRaised, SectionRaised, OfState, OffMade, StateMade, QuarterMade, FrontMade};
 
 // Where MWh is not limited, all rows in one pass with the better end: what an output brings is linear in the blocks.
 fn raise_span(scratch: &mut [i64], to: usize, from: usize, f: Figures, l: Ladder, end: i64)
@@ -81,16 +82,36 @@ fn fill_state(scratch: &mut [i64], w: usize, cells: usize, f: Figures, price: i6
     }
 }
 
+// The same in a quarter-hour that may be shut, where off is all.
+fn fill_quarter(
+    scratch: &mut [i64],
+    w: usize,
+    cells: usize,
+    f: Figures,
+    price: i64,
+    opens: bool,
+    s: usize,
+)
+    requires { ⌜ (OfState f s w cells) × (natAbs price ≤ mostPrice) × (Behind (now scratch) 0 w w) ⌝ }
+    ensures { λ _. ⌜ QuarterMade f (quarter price opens) s (now (scratch .entry)) (now (scratch .exit)) ⌝ }
+{
+    if opens {
+        fill_state(scratch, w, cells, f, price, s);
+    } else {
+        fill_off(scratch, w, cells, f, s);
+    }
+}
+
 // The layer at the front, by the one behind it.
-pub fn fill_layer(scratch: &mut [i64], w: usize, f: Figures, price: i64)
+pub fn fill_layer(scratch: &mut [i64], w: usize, f: Figures, price: i64, opens: bool)
     requires { ⌜ (Interval f price) × (w ≡ width f) × (Behind (now scratch) 0 w w) ⌝ }
-    ensures { λ _. ⌜ FrontMade f price (now (scratch .entry)) (now (scratch .exit)) ⌝ }
+    ensures { λ _. ⌜ FrontMade f (quarter price opens) (now (scratch .entry)) (now (scratch .exit)) ⌝ }
 {
     let cells = geometry::section_cells(f);
     let all = f.mot + f.mdt;
     let mut s = 0;
     while s < all {
-        fill_state(scratch, w, cells, f, price, s);
+        fill_quarter(scratch, w, cells, f, price, opens, s);
         s += 1;
     }
 }

@@ -7,10 +7,15 @@ use native.Mathlib.Nat.{zero-add}
 use native.Mathlib.Omega.{arith}
 use borrow.Author.Tests.{le-leb, lt-leb, leb-true, leb-false}
 use lib.Dec.{leb}
+use lib.IntN.{ℤ}
 use lib.ListN.{length}
+use Rattle.commitment.specs.declared.Cause.the-variants.{Range}
+use Rattle.commitment.specs.declared.Outcomes.{Outcomes}
 use Rattle.listing.specs.declared.Fit.{Fit}
 use Rattle.listing.specs.declared.Fit.the-variants.{Bytes, TooLong}
-use Rattle.listing.specs.Listing.{fitted, writtenBy, bufferAfter, bytesIn}
+use Rattle.listing.specs.declared.HourWord.{HourWord}
+use Rattle.listing.specs.declared.Written.the-variants as answers
+use Rattle.listing.specs.Listing.{listing, fitted, writtenBy, bufferAfter, wordKept, listingWritten, listingAfter, bytesIn}
 use Rattle.listing.specs.Writing.{written}
 
 -- so many bytes more
@@ -53,3 +58,24 @@ bytes-fit bytes room = go (leb bytes room) refl
     go : (t : Bool) → leb bytes room ≡ t → bytesIn (writtenBy (cond t (Bytes bytes) TooLong)) ≤ room
     go true e = leb-true bytes room e
     go false e = omega arith
+
+-- ---- a listing
+
+module _ (s : List ℕ) (p : ℤ) (o : Outcomes) (w : HourWord) where
+  abbrev text : List ℕ
+  text = listing s p o w
+
+  -- with a word that is kept it is a text like any other
+  pub listing-written : wordKept w ≡ true → (room : ℕ) → listingWritten s p o w room ≡ writtenBy (fitted (length text) room)
+  listing-written kept room = rw kept refl
+
+  pub listing-after : wordKept w ≡ true → (buffer : List ℕ) → listingAfter s p o w buffer ≡ bufferAfter text buffer
+  listing-after kept buffer = rw kept refl
+
+  -- with any word
+  pub listing-fits : (room : ℕ) → bytesIn (listingWritten s p o w room) ≤ room
+  listing-fits room = go (wordKept w)
+    where
+      go : (t : Bool) → bytesIn (cond t (writtenBy (fitted (length text) room)) (answers.Refused Range)) ≤ room
+      go true = bytes-fit (length text) room
+      go false = omega arith

@@ -5,13 +5,17 @@ use Prim.Native.Nat.{ℕ, suc, _+_, _≤_}
 use native.Mathlib.Omega.{arith}
 use lib.IntN.{ℤ, pos, negsuc}
 use lib.ListN.{length, length-append}
+use Rattle.calendar.specs.Words.{hoursAllowed}
 use Rattle.commitment.specs.declared.Outcome.{Outcome}
 use Rattle.commitment.specs.declared.Outcome.the-variants.{None, Empty, Never, Gap}
 use Rattle.commitment.specs.declared.Outcomes.{Outcomes}
+use Rattle.listing.specs.declared.HourWord.{HourWord}
+use Rattle.listing.specs.declared.HourWord.the-variants as hours
 use Rattle.listing.specs.Numbers.{number, signedNumber}
-use Rattle.listing.specs.Listing.{outcomeText, closed, profitLead, refusedLead}
-use Rattle.listing.specs.Listing.{intervalLine, intervalLines, profitLine, outcomeLines, listing, refusal}
-use Rattle.listing.proofs.Numbers.{number-short}
+use Rattle.listing.specs.Listing.{outcomeText, closed, profitLead, windowLead, refusedLead}
+use Rattle.listing.specs.Listing.{intervalLine, intervalLines, profitLine, outcomeLines, hoursLine, windowLine, listing, refusal}
+use Rattle.listing.proofs.Numbers.{number-short, number-digits}
+use Rattle.listing.proofs.Words.{hours-most}
 
 pub signed-short : (x : ℤ) → length (signedNumber x) ≤ 21
 signed-short (pos n) = omega (arith, number-short n)
@@ -36,10 +40,32 @@ pub outcomes-length : (o : Outcomes)
     → length (outcomeLines o) ≡ 20 + length (outcomeText (o .starts)) + length (outcomeText (o .hours)) + length (outcomeText (o .mwh))
 outcomes-length o = simp length-append (omega arith)
 
-pub listing-length : (s : List ℕ) (p : ℤ) (o : Outcomes)
-    → length (listing s p o) ≡ length (intervalLines 1 s) + (24 + (length (profitLine p) + length (outcomeLines o)))
+pub totals-short : (p : ℤ) (o : Outcomes) → 24 + (length (profitLine p) + length (outcomeLines o)) ≤ 136
+totals-short p o =
+    omega (
+      arith,
+      profit-length p,
+      signed-short p,
+      outcomes-length o,
+      outcome-short (o .starts),
+      outcome-short (o .hours),
+      outcome-short (o .mwh),
+    )
+
+pub hours-length : (word : ℕ) → length (hoursLine word) ≡ 8 + length (number (hoursAllowed word))
+hours-length word = omega (arith, closed-length windowLead (number (hoursAllowed word)))
+
+-- `window,24` and the line end
+pub window-short : (w : HourWord) → length (windowLine w) ≤ 10
+window-short hours.None = omega arith
+window-short (hours.Word word) =
+    let most = hours-most word in
+    omega (arith, hours-length word, number-digits 1 (hoursAllowed word) (omega (arith, most)) (omega (arith, most)))
+
+pub listing-length : (s : List ℕ) (p : ℤ) (o : Outcomes) (w : HourWord)
+    → length (listing s p o w) ≡ length (intervalLines 1 s) + (24 + (length (profitLine p) + length (outcomeLines o)) + length (windowLine w))
 unfolding listing
-listing-length s p o = simp length-append (omega arith)
+listing-length s p o w = simp length-append (omega arith)
 
 pub refusal-length : (n : ℕ) → length (refusal n) ≡ 9 + length (number n)
 unfolding refusal

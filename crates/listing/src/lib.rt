@@ -4,16 +4,25 @@ use commitment::Cause;
 use commitment::Outcome;
 use commitment::Outcomes;
 ghost use mathlib.Core.Path.{_≡_};
+ghost use mathlib.Core.Bool.{true};
 ghost use Prim.Native.Nat.{_+_, _≤_, _<_};
 ghost use lib.IntN.{natAbs};
 ghost use lib.ListN.{length};
 ghost use mathlib.Core.List.{[], _∷_, _++_};
+ghost use Rattle.calendar.specs.Words.{pastWords};
 ghost use Rattle.listing.specs.Numbers.{number, signedNumber};
 ghost use Rattle.listing.specs.Listing.{outcomeText, closed, intervalLine, intervalLines, profitLine, outcomeLines, listing, refusal};
+ghost use Rattle.listing.specs.Listing.{wordKept, hoursLine, windowLine, listingWritten, listingAfter};
 ghost use Rattle.listing.specs.Listing.{fitted, writtenBy, bufferAfter, bytesIn};
 ghost use Rattle.listing.specs.Writing.{Put, written};
 
-// What writing answers: so many bytes from the front, or 7 for a buffer too short.
+// The hour word of a case, where it has one.
+pub enum HourWord {
+    None,
+    Word(u64),
+}
+
+// What writing answers: so many bytes from the front, 3 for a word of more than 24 bits, or 7 for a buffer too short.
 pub enum Written {
     Bytes(usize),
     Refused(Cause),
@@ -25,15 +34,50 @@ pub enum Fit {
     TooLong,
 }
 
-// The listing of a plan: interval and MW, then profit and the three outcomes.
-pub fn write_listing(schedule: &[u64], profit: i64, outcomes: Outcomes, out: &mut [u8]) -> Written
-    ensures { λ r. ⌜ r ≡ writtenBy (fitted (length (listing (now (schedule .entry)) profit outcomes)) (length (now (out .entry)))) ⌝ }
-    ensures { λ _. ⌜ now (out .exit) ≡ bufferAfter (listing (now (schedule .entry)) profit outcomes) (now (out .entry)) ⌝ }
+// Words of 24 bits are below this.
+const PAST_WORDS: u64 = 16777216;
+
+// The listing of a plan: interval and MW, then profit, the three outcomes and the hours that its word allows.
+pub fn write_listing(
+    schedule: &[u64],
+    profit: i64,
+    outcomes: Outcomes,
+    word: HourWord,
+    out: &mut [u8],
+) -> Written
+    ensures { λ r. ⌜ r ≡ listingWritten (now (schedule .entry)) profit outcomes word (length (now (out .entry))) ⌝ }
+    ensures { λ _. ⌜ now (out .exit) ≡ listingAfter (now (schedule .entry)) profit outcomes word (now (out .entry)) ⌝ }
 {
-    match listing_fit(schedule, profit, outcomes, out.len()) {
+    if word_kept(word) {
+        return write_kept(schedule, profit, outcomes, word, out);
+    }
+    Written::Refused(Cause::Range)
+}
+
+fn word_kept(word: HourWord) -> bool
+    ensures { λ r. ⌜ r ≡ wordKept word ⌝ }
+{
+    match word {
+        HourWord::None => true,
+        HourWord::Word(hours) => hours < PAST_WORDS,
+    }
+}
+
+fn write_kept(
+    schedule: &[u64],
+    profit: i64,
+    outcomes: Outcomes,
+    word: HourWord,
+    out: &mut [u8],
+) -> Written
+    requires { ⌜ wordKept word ≡ true ⌝ }
+    ensures { λ r. ⌜ r ≡ writtenBy (fitted (length (listing (now (schedule .entry)) profit outcomes word)) (length (now (out .entry)))) ⌝ }
+    ensures { λ _. ⌜ now (out .exit) ≡ bufferAfter (listing (now (schedule .entry)) profit outcomes word) (now (out .entry)) ⌝ }
+{
+    match listing_fit(schedule, profit, outcomes, word, out.len()) {
         Fit::TooLong => Written::Refused(Cause::Length),
         Fit::Bytes(bytes) => {
-            put_listing(out, schedule, profit, outcomes);
+            put_listing(out, schedule, profit, outcomes, word);
             Written::Bytes(bytes)
         }
     }
@@ -185,15 +229,36 @@ fn put_outcomes(out: &mut [u8], at: usize, outcomes: Outcomes) -> usize
     put_outcome_line(out, third, b"mwh,", mwh)
 }
 
-fn put_listing(out: &mut [u8], schedule: &[u64], profit: i64, outcomes: Outcomes)
-    requires { ⌜ length (listing (now schedule) profit outcomes) ≤ length (now out) ⌝ }
-    ensures { λ _. ⌜ now (out .exit) ≡ written (now (out .entry)) 0 (listing (now (schedule .entry)) profit outcomes) ⌝ }
+fn put_hours(out: &mut [u8], at: usize, word: u64) -> usize
+    requires { ⌜ (word < pastWords) × (at + length (hoursLine word) ≤ length (now out)) ⌝ }
+    ensures { λ r. ⌜ Put (now (out .entry)) at (hoursLine word) r (now (out .exit)) ⌝ }
+{
+    let hours = calendar::hours_allowed(word);
+    let value = put_text(&mut *out, at, b"window,");
+    let end = put_number(&mut *out, value, hours);
+    put_byte(out, end, 10)
+}
+
+fn put_window(out: &mut [u8], at: usize, word: HourWord) -> usize
+    requires { ⌜ (wordKept word ≡ true) × (at + length (windowLine word) ≤ length (now out)) ⌝ }
+    ensures { λ r. ⌜ Put (now (out .entry)) at (windowLine word) r (now (out .exit)) ⌝ }
+{
+    match word {
+        HourWord::None => at,
+        HourWord::Word(hours) => put_hours(out, at, hours),
+    }
+}
+
+fn put_listing(out: &mut [u8], schedule: &[u64], profit: i64, outcomes: Outcomes, word: HourWord)
+    requires { ⌜ (wordKept word ≡ true) × (length (listing (now schedule) profit outcomes word) ≤ length (now out)) ⌝ }
+    ensures { λ _. ⌜ now (out .exit) ≡ written (now (out .entry)) 0 (listing (now (schedule .entry)) profit outcomes word) ⌝ }
 {
     let intervals = put_text(&mut *out, 0, b"interval,mw\n");
     let heading = put_intervals(&mut *out, intervals, schedule);
     let value = put_text(&mut *out, heading, b"\nwhat,value\n");
     let lines = put_profit(&mut *out, value, profit);
-    put_outcomes(out, lines, outcomes);
+    let window = put_outcomes(&mut *out, lines, outcomes);
+    put_window(out, window, word);
 }
 
 // ---- lengths: nothing is written before it is known to fit
@@ -231,7 +296,7 @@ fn outcome_length(outcome: Outcome) -> usize
     }
 }
 
-// The listing but for the intervals' lines: two headings of 12 bytes, and each name, comma and line end.
+// The listing but for the intervals' lines and the window's: two headings of 12 bytes, and each name, comma and line end.
 fn totals_length(profit: i64, outcomes: Outcomes) -> usize
     ensures { λ r. ⌜ r ≡ 24 + (length (profitLine profit) + length (outcomeLines outcomes)) ⌝ }
 {
@@ -247,6 +312,16 @@ fn totals_length(profit: i64, outcomes: Outcomes) -> usize
         + outcome_length(hours)
         + 5
         + outcome_length(mwh)
+}
+
+fn window_length(word: HourWord) -> usize
+    requires { ⌜ wordKept word ≡ true ⌝ }
+    ensures { λ r. ⌜ r ≡ length (windowLine word) ⌝ }
+{
+    match word {
+        HourWord::None => 0,
+        HourWord::Word(hours) => 8 + number_length(calendar::hours_allowed(hours)),
+    }
 }
 
 fn intervals_fit(schedule: &[u64], room: usize) -> Fit
@@ -266,10 +341,17 @@ fn intervals_fit(schedule: &[u64], room: usize) -> Fit
     Fit::Bytes(bytes)
 }
 
-fn listing_fit(schedule: &[u64], profit: i64, outcomes: Outcomes, room: usize) -> Fit
-    ensures { λ r. ⌜ r ≡ fitted (length (listing (now (schedule .entry)) profit outcomes)) room ⌝ }
+fn listing_fit(
+    schedule: &[u64],
+    profit: i64,
+    outcomes: Outcomes,
+    word: HourWord,
+    room: usize,
+) -> Fit
+    requires { ⌜ wordKept word ≡ true ⌝ }
+    ensures { λ r. ⌜ r ≡ fitted (length (listing (now (schedule .entry)) profit outcomes word)) room ⌝ }
 {
-    let totals = totals_length(profit, outcomes);
+    let totals = totals_length(profit, outcomes) + window_length(word);
     if room < totals {
         return Fit::TooLong;
     }

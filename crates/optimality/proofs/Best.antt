@@ -14,16 +14,18 @@ use Rattle.integers.proofs.Linear.{zarith}
 use Rattle.commitment.specs.declared.UnitRecord.{UnitRecord}
 use Rattle.lists.specs.Every.{every}
 use Rattle.commitment.specs.Schedule.{isOutput}
-use Rattle.commitment.specs.Keeping.{keepsCase}
+use Rattle.commitment.specs.Keeping.{keepsCase, opensIn}
 use Rattle.commitment.specs.Profit.{profit}
 use Rattle.commitment.specs.Order.{earlier}
 use Rattle.commitment.specs.Best.{Plan, nothing, plan, outputs, best}
 use Rattle.commitment.specs.Rivals.{Rival, IsBest}
 use Rattle.lists.proofs.Conjunctions.{both}
-use Rattle.optimality.specs.Machine.{anywhere}
+use Rattle.optimality.specs.Machine.{anywhere, Quarter, inQuarter}
+use Rattle.optimality.specs.Cells.{quartersOf}
 use Rattle.optimality.proofs.Ranges.{Ranged}
 use Rattle.optimality.proofs.Rival.{not-plan, Beats, run-length, attained, no-rival}
 use Rattle.optimality.proofs.Commit.{Status, commit, before, candidate-run, best-steps}
+use Rattle.optimality.proofs.Quarters.{quarters-length}
 use Rattle.optimality.proofs.Outputs.{outputs-ascending, all-tried, tried-all}
 
 -- ---- the order: of two lists of one length of which neither is earlier, both are the same
@@ -90,14 +92,17 @@ module _ (u : UnitRecord) (prices : List ℤ) where
     beats-rival : (r : List ℕ) → Rival u prices r → Beats (best u prices) r (profit u prices r)
     beats-rival r v =
         rw (best-steps u prices)
-        (no-rival Status ℤ (commit u) anywhere (outputs (u .generator)) (outputs-ascending u ok) prices (before u) r (profit u prices r)
+        (no-rival Status Quarter (inQuarter (commit u)) anywhere (outputs (u .generator)) (outputs-ascending u ok) (quartersOf u prices) (before u) r
+        (profit u prices r)
         (all-tried u ok r (both (eqb (length r) (length prices)) (every (isOutput (u .generator)) r) (v .schedule) .1))
         (sym (candidate-run u prices r (rival-length r v)) ∙ ap (λ (k : Bool). cond k (plan r (profit u prices r)) nothing) (v .kept)))
 
     plan-kept : (s : List ℕ) (p : ℤ) → best u prices ≡ plan s p → Rival u prices s × (profit u prices s ≡ p)
     plan-kept s p e =
-        let a = attained Status ℤ (commit u) anywhere (outputs (u .generator)) prices (before u) s p (sym (best-steps u prices) ∙ e) in
-        let n = run-length Status ℤ (commit u) anywhere prices (before u) s s p (a .0) in
+        let quarters = quartersOf u prices in
+        let a = attained Status Quarter (inQuarter (commit u)) anywhere (outputs (u .generator)) quarters (before u) s p (sym (best-steps u prices) ∙ e) in
+        let n =
+        run-length Status Quarter (inQuarter (commit u)) anywhere quarters (before u) s s p (a .0) ∙ quarters-length (opensIn (u .permit)) 0 prices in
         let k = from-candidate (keepsCase u s) s p (profit u prices s) (candidate-run u prices s n ∙ a .0) in
         (record { schedule = simp (eq-eqb (length s) (length prices) n) (tried-all u ok s (a .1)); kept = k .0 }, k .1)
 

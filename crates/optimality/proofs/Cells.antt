@@ -1,7 +1,7 @@
 -- The cells' machine has the same best plan as the case, by simulation: a cell counts time in state to mot or mdt, starts and on-intervals
 -- no further than the intervals left, and output in blocks.
 use mathlib.Core.Path.{_≡_, refl, sym, ap, _∙_}
-use mathlib.Core.Bool.{Bool, true, false, cond, _&&_, false≢true}
+use mathlib.Core.Bool.{Bool, true, false, cond, _&&_, _||_, false≢true}
 use mathlib.Core.List.{List, List·Memᴰ}
 use Prim.Native.Nat.{ℕ, zero, suc, _+_, _-_, _*_, _/_, _≤_, min}
 use native.Mathlib.Nat.{mul-div-cancel}
@@ -17,7 +17,7 @@ use Rattle.commitment.specs.Best.{outputs}
 use Rattle.lists.proofs.Conjunctions.{both}
 use Rattle.optimality.specs.declared.Figures.{Figures}
 use Rattle.optimality.specs.declared.Cell.{Cell}
-use Rattle.optimality.specs.Machine.{go, anywhere, bestFrom}
+use Rattle.optimality.specs.Machine.{go, anywhere, Quarter, inQuarter, bestFrom}
 use Rattle.optimality.specs.Cells.{takenOf, figuresWith, states, afterOff, afterOn, startTakes, startPays, gain, mayRun}
 use Rattle.optimality.specs.Cells.{offCell, onCell, onStep, cellStep, planAt}
 use Rattle.optimality.proofs.Ranges.{Ranged}
@@ -193,9 +193,17 @@ module _ (u : UnitRecord) (ok : Ranged u) (a-top b-top c-top : ℕ) where
       let e = in-blocks x price m (o .0) (o .1) in
       rw (e .0) (match-on n on spent a b c x price m (o .0) (o .1) (o .3) (e .1) r)
 
+  -- over quarters
+  quarters-match : (n : ℕ) (s : Status) (x : Cell) (q : Quarter) (m : ℕ) → List·Memᴰ m (outputs (u .generator)) → Alike u (suc n) s x
+      → Match (Alike u n) (inQuarter (commit u) s q m) (inQuarter (cellStep f) x q m)
+  quarters-match n s x q m i r =
+      let opened = eqb m 0 || q .opens in
+      match-allow (Alike u n) opened opened (commit u s (q .price) m) (cellStep f x (q .price) m) refl (λ o. matches n s x (q .price) m i r)
+
   -- the two machines have the same best
-  pub same-plan : (prices : List ℤ) (s : Status) (x : Cell) → Alike u (length prices) s x
-      → bestFrom Status ℤ (commit u) anywhere (outputs (u .generator)) prices s ≡ planAt f anywhere prices x
+  pub same-plan : (quarters : List Quarter) (s : Status) (x : Cell) → Alike u (length quarters) s x
+      → bestFrom Status Quarter (inQuarter (commit u)) anywhere (outputs (u .generator)) quarters s ≡ planAt f anywhere quarters x
   unfolding planAt
-  same-plan prices s x r =
-      same-best Status Cell ℤ (commit u) (cellStep f) anywhere anywhere (Alike u) (outputs (u .generator)) matches (λ s x r. refl) prices s x r
+  same-plan quarters s x r =
+      same-best Status Cell Quarter (inQuarter (commit u)) (inQuarter (cellStep f)) anywhere anywhere (Alike u) (outputs (u .generator)) quarters-match
+      (λ s x r. refl) quarters s x r

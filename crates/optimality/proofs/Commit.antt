@@ -7,7 +7,7 @@ use Prim.Native.Nat.{ℕ, zero, suc, _+_, _-_, _*_}
 use native.Mathlib.Nat.{zero-add, mul-zero}
 use native.Mathlib.Numerals.{one-add}
 use native.Mathlib.Omega.{arith}
-use borrow.Author.Tests.{le-leb, lt-leb, leb-true, leb-false}
+use borrow.Author.Tests.{le-leb, lt-leb, leb-true, leb-false, ne-eqb}
 use lib.Dec.{leb, leb·zero}
 use lib.IntN.{ℤ, pos, _+ℤ_, _-ℤ_}
 use lib.ListN.{length}
@@ -17,10 +17,13 @@ use Rattle.commitment.specs.declared.Limit.the-variants.{None, At}
 use Rattle.commitment.specs.declared.UnitRecord.{UnitRecord}
 use Rattle.commitment.specs.Limits.{within}
 use Rattle.commitment.specs.Keeping.{wasOn, startsIn, runsLast, spellsLast, onIntervals, outputSum}
-use Rattle.commitment.specs.Profit.{earned, earnedIn, startCost}
+use Rattle.commitment.specs.Keeping.{opensIn, offWhereShut, keepsStarts, keepsRuns, keepsSpells, keepsHours, keepsMwh, keepsWindow}
+use Rattle.commitment.specs.Profit.{earned, earnedIn, startCost, profit}
 use Rattle.commitment.specs.Best.{Plan, nothing, plan, firstBest, prefixed, lists, candidate, outputs, best}
-use Rattle.optimality.specs.Machine.{Step, go, allow, anywhere, after, along, run, bestFrom}
+use Rattle.optimality.specs.Machine.{Step, stop, go, allow, anywhere, Quarter, quarter, quartersFrom, inQuarter, after, along, run, bestFrom}
+use Rattle.optimality.specs.Cells.{quartersOf}
 use Rattle.optimality.proofs.Machine.{map-map, map-append, along-ext, optimal}
+use Rattle.optimality.proofs.Quarters.{quarters-length}
 
 -- ---- what is left of a limitation
 
@@ -76,7 +79,7 @@ commit u (status false spent a b c) price (suc m) =
 abbrev pub before : UnitRecord → Status
 before u = status (wasOn (u .opening)) (u .opening .held) (scaled 1 (u .limits .starts)) (scaled 4 (u .limits .hours)) (scaled 4 (u .limits .mwh))
 
--- ---- keeping the case and Profit, from any status
+-- ---- keeping the case but for its hours, and Profit, from any status
 
 abbrev keepsFrom : UnitRecord → Status → List ℕ → Bool
 keepsFrom u (status on spent a b c) s =
@@ -135,6 +138,20 @@ allowed true true m g p s y f e = ap (after m g) (sym e)
 allowed true false m g p s y f e = ap (after m g) (sym e)
 allowed false k m g p s y f e = refl
 
+-- a step held to whether its interval is open, and the rest to theirs
+held : (opened rest : Bool) (m : ℕ) (step : Step Status) (f : Status → Plan)
+    → cond (opened && rest) (along m step f) nothing ≡ along m (allow opened step) (λ y. cond rest (f y) nothing)
+held true true m step f = refl
+held true false m stop f = refl
+held true false m (go g x) f = refl
+held false rest m step f = refl
+
+hours-last : (rules hours : Bool) (p : Plan) → cond (rules && hours) p nothing ≡ cond hours (cond rules p nothing) nothing
+hours-last true true p = refl
+hours-last true false p = refl
+hours-last false true p = refl
+hours-last false false p = refl
+
 module _ (u : UnitRecord) where
   -- an interval whose test is t, that earns g and leads from x to y
   interval : (x y : Status) (t : Bool) (g price : ℤ) (prices : List ℤ) (m : ℕ) (s : List ℕ)
@@ -186,19 +203,42 @@ module _ (u : UnitRecord) where
   at-end : (x : Status) → candidateFrom u [] [] x ≡ plan [] (pos 0)
   at-end (status on spent a b c) = simp (affords-none a, affords-none b, affords-none c, mul-zero)
 
-  -- ---- the whole list
+  -- ---- the whole list, held to the hours
 
-  run-from : (prices : List ℤ) (s : List ℕ) (x : Status) → length s ≡ length prices → candidateFrom u prices s x ≡ run Status ℤ (commit u) anywhere prices x s
-  run-from [] [] x e = at-end x
-  run-from [] (m ∷ s) x e = absurd (omega arith)
-  run-from (price ∷ prices) [] x e = absurd (omega arith)
-  run-from (price ∷ prices) (m ∷ s) x e =
-      one-step x price prices m s
-      ∙ along-ext m (commit u x price m) (candidateFrom u prices s) (λ y. run Status ℤ (commit u) anywhere prices y s) (λ y. run-from prices s y (omega arith))
+  candidateIn : (ℕ → Bool) → ℕ → List ℤ → List ℕ → Status → Plan
+  candidateIn opens i prices s x = cond (offWhereShut opens i s) (candidateFrom u prices s x) nothing
+
+  quarter-step : (opens : ℕ → Bool) (i : ℕ) (price : ℤ) (prices : List ℤ) (m : ℕ) (s : List ℕ) (x : Status)
+      → candidateIn opens i (price ∷ prices) (m ∷ s) x
+      ≡ along m (inQuarter (commit u) x (quarter price (opens i)) m) (candidateIn opens (suc i) prices s)
+  unfolding candidateIn
+  quarter-step opens i price prices zero s x =
+      ap (λ (p : Plan). cond (offWhereShut opens (suc i) s) p nothing) (one-step x price prices zero s)
+      ∙ held true (offWhereShut opens (suc i) s) zero (commit u x price zero) (candidateFrom u prices s)
+  quarter-step opens i price prices (suc m) s x =
+      rw (ne-eqb (suc m) 0 (λ o. omega arith))
+      (ap (λ (p : Plan). cond (opens i && offWhereShut opens (suc i) s) p nothing) (one-step x price prices (suc m) s)
+      ∙ held (opens i) (offWhereShut opens (suc i) s) (suc m) (commit u x price (suc m)) (candidateFrom u prices s))
+
+  run-from : (opens : ℕ → Bool) (i : ℕ) (prices : List ℤ) (s : List ℕ) (x : Status) → length s ≡ length prices
+      → candidateIn opens i prices s x ≡ run Status Quarter (inQuarter (commit u)) anywhere (quartersFrom opens i prices) x s
+  unfolding candidateIn
+  run-from opens i [] [] x e = at-end x
+  run-from opens i [] (m ∷ s) x e = absurd (omega arith)
+  run-from opens i (price ∷ prices) [] x e = absurd (omega arith)
+  run-from opens i (price ∷ prices) (m ∷ s) x e =
+      quarter-step opens i price prices m s x
+      ∙ along-ext m (inQuarter (commit u) x (quarter price (opens i)) m) (candidateIn opens (suc i) prices s)
+      (λ y. run Status Quarter (inQuarter (commit u)) anywhere (quartersFrom opens (suc i) prices) y s)
+      (λ y. run-from opens (suc i) prices s y (omega arith))
 
   -- a list of outputs, one for each interval, is a candidate exactly where it is a run
-  pub candidate-run : (prices : List ℤ) (s : List ℕ) → length s ≡ length prices → candidate u prices s ≡ run Status ℤ (commit u) anywhere prices (before u) s
-  candidate-run prices s e = simp within-counted (run-from prices s (before u) e)
+  pub candidate-run : (prices : List ℤ) (s : List ℕ) → length s ≡ length prices
+      → candidate u prices s ≡ run Status Quarter (inQuarter (commit u)) anywhere (quartersOf u prices) (before u) s
+  unfolding candidateIn
+  candidate-run prices s e =
+      hours-last (keepsStarts u s && keepsRuns u s && keepsSpells u s && keepsHours u s && keepsMwh u s) (keepsWindow u s) (plan s (profit u prices s))
+      ∙ simp within-counted (run-from (opensIn (u .permit)) 0 prices s (before u) e)
 
 -- two functions that agree on lists of one length agree on all lists of so many outputs
 lists-ext : (ms : List ℕ) (n : ℕ) (f g : List ℕ → Plan) → ((s : List ℕ) → length s ≡ n → f s ≡ g s) → map f (lists ms n) ≡ map g (lists ms n)
@@ -214,9 +254,11 @@ lists-ext ms (suc n) f g h = each (λ m. lists-ext ms n (λ s. f (m ∷ s)) (λ 
         ∙ sym (map-append g (map (λ s. j ∷ s) (lists ms n)) (prefixed js (lists ms n)))
 
 -- the best of all schedules is found step by step
-pub best-steps : (u : UnitRecord) (prices : List ℤ) → best u prices ≡ bestFrom Status ℤ (commit u) anywhere (outputs (u .generator)) prices (before u)
+pub best-steps : (u : UnitRecord) (prices : List ℤ)
+    → best u prices ≡ bestFrom Status Quarter (inQuarter (commit u)) anywhere (outputs (u .generator)) (quartersOf u prices) (before u)
 best-steps u prices =
     let ms = outputs (u .generator) in
-    let runs = run Status ℤ (commit u) anywhere prices (before u) in
+    let runs = run Status Quarter (inQuarter (commit u)) anywhere (quartersOf u prices) (before u) in
     ap firstBest (lists-ext ms (length prices) (candidate u prices) runs (λ s e. candidate-run u prices s e))
-    ∙ optimal Status ℤ (commit u) anywhere ms prices (before u)
+    ∙ ap (λ (n : ℕ). firstBest (map runs (lists ms n))) (sym (quarters-length (opensIn (u .permit)) 0 prices))
+    ∙ optimal Status Quarter (inQuarter (commit u)) anywhere ms (quartersOf u prices) (before u)

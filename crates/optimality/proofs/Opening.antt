@@ -18,17 +18,18 @@ use Rattle.commitment.specs.declared.Generator.{Generator}
 use Rattle.commitment.specs.declared.UnitRecord.{UnitRecord}
 use Rattle.commitment.specs.Bounds.{mostStarts, mostHours, mostMwh, mostIntervals}
 use Rattle.lists.proofs.Conjunctions.{both}
-use Rattle.commitment.specs.Ranges.{generatorKept, openingKept, costsKept, limitsKept, rangesKept, InOrder}
-use Rattle.commitment.specs.Keeping.{wasOn}
+use Rattle.commitment.specs.Ranges.{generatorKept, openingKept, costsKept, limitsKept, permitKept, rangesKept, InOrder}
+use Rattle.commitment.specs.Keeping.{wasOn, opensIn}
 use Rattle.commitment.specs.Best.{best}
 use Rattle.commitment.specs.Cells.{inCounts, mostCounts, counted, countFor}
 use Rattle.commitment.specs.Limits.{limitKept, limitFor, withLimit, limited}
 use Rattle.optimality.specs.declared.Figures.{Figures}
 use Rattle.optimality.specs.Machine.{anywhere}
-use Rattle.optimality.specs.Cells.{takenOf, figuresWith, figuresOf, Sound, InTable, planAt, openingState, openingCell}
+use Rattle.optimality.specs.Cells.{takenOf, figuresWith, figuresOf, Sound, InTable, quartersOf, planAt, openingState, openingCell}
 use Rattle.optimality.specs.Runs.{AtMost, Under}
 use Rattle.optimality.proofs.Ranges.{Ranged}
 use Rattle.optimality.proofs.Commit.{scaled, before, best-steps}
+use Rattle.optimality.proofs.Quarters.{quarters-length}
 use Rattle.optimality.proofs.Left.{Left}
 use Rattle.optimality.proofs.Cells.{Timed, Alike, same-plan}
 
@@ -103,13 +104,20 @@ kept-less most (At k) (At m) h e = le-leb k most (omega (arith, leb-true m most 
 pub order-under : (u : UnitRecord) (n : ℕ) (limits : Limits) → Under limits (u .limits) → InOrder u n → InOrder (limited u limits) n
 unfolding rangesKept
 order-under u n limits h o =
-    let all = both (generatorKept (u .generator) && openingKept (u .opening) && costsKept (u .costs)) (limitsKept (u .limits)) (o .ranges) in
+    let groups = generatorKept (u .generator) && openingKept (u .opening) && costsKept (u .costs) in
+    let permitted = both (groups && limitsKept (u .limits)) (permitKept (u .permit)) (o .ranges) in
+    let all = both groups (limitsKept (u .limits)) (permitted .0) in
     let two = both (limitKept mostStarts (u .limits .starts) && limitKept mostHours (u .limits .hours)) (limitKept mostMwh (u .limits .mwh)) (all .1) in
     let one = both (limitKept mostStarts (u .limits .starts)) (limitKept mostHours (u .limits .hours)) (two .0) in
     let starts = kept-less mostStarts (limits .starts) (u .limits .starts) (h Starts) (one .0) in
     let hours = kept-less mostHours (limits .hours) (u .limits .hours) (h Hours) (one .1) in
     let mwh = kept-less mostMwh (limits .mwh) (u .limits .mwh) (h Mwh) (two .1) in
-    record { ranges = ap₂ _&&_ (all .0) (ap₂ _&&_ (ap₂ _&&_ starts hours) mwh); shape = o .shape; short = o .short }
+    record {
+      ranges = ap₂ _&&_ (ap₂ _&&_ (all .0) (ap₂ _&&_ (ap₂ _&&_ starts hours) mwh)) (permitted .1);
+      shape = o .shape;
+      dated = o .dated;
+      short = o .short;
+    }
 
 taken-same : (k l : Limit) → AtMost k l → takenOf k ≡ takenOf l
 taken-same None None h = refl
@@ -180,7 +188,7 @@ module _ (u : UnitRecord) (ok : Ranged u) (n : ℕ) where
 
 -- the best plan under smaller limitations is that of another cell of the same table
 pub best-under : (u : UnitRecord) → Ranged u → (prices : List ℤ) (limits : Limits) → Under limits (u .limits)
-    → best (limited u limits) prices ≡ planAt (figuresOf u (length prices)) anywhere prices (openingCell (limited u limits) (length prices))
+    → best (limited u limits) prices ≡ planAt (figuresOf u (length prices)) anywhere (quartersOf u prices) (openingCell (limited u limits) (length prices))
 unfolding figuresOf
 best-under u ok prices limits h =
     let n = length prices in
@@ -192,10 +200,11 @@ best-under u ok prices limits h =
       taken-same (limits .mwh) (u .limits .mwh) (h Mwh),
     ) in
     best-steps v prices
-    ∙ same-plan v ok (countFor u n Starts) (countFor u n Hours) (countFor u n Mwh) prices (before v) (openingCell v n) (opening-alike v ok n)
-    ∙ ap (λ (f : Figures). planAt f anywhere prices (openingCell v n)) same
+    ∙ same-plan v ok (countFor u n Starts) (countFor u n Hours) (countFor u n Mwh) (quartersOf u prices) (before v) (openingCell v n)
+    (rw (quarters-length (opensIn (u .permit)) 0 prices) (opening-alike v ok n))
+    ∙ ap (λ (f : Figures). planAt f anywhere (quartersOf u prices) (openingCell v n)) same
 
 -- the best plan is that of the opening cell
 pub best-cell : (u : UnitRecord) → Ranged u → (prices : List ℤ)
-    → best u prices ≡ planAt (figuresOf u (length prices)) anywhere prices (openingCell u (length prices))
+    → best u prices ≡ planAt (figuresOf u (length prices)) anywhere (quartersOf u prices) (openingCell u (length prices))
 best-cell u ok prices = best-under u ok prices (u .limits) (under-itself (u .limits))

@@ -13,7 +13,7 @@ use Rattle.commitment.specs.Best.{best, profitOf}
 use Rattle.commitment.specs.Limits.{limited}
 use Rattle.commitment.specs.Valuing.{lowered, gapBetween, gapAt}
 use Rattle.optimality.specs.Machine.{anywhere}
-use Rattle.optimality.specs.Cells.{figuresOf, valueAt, openingCell}
+use Rattle.optimality.specs.Cells.{figuresOf, quartersOf, valueAt, openingCell}
 use Rattle.optimality.specs.Runs.{Under}
 use Rattle.optimality.proofs.Ranges.{Ranged}
 use Rattle.optimality.proofs.Opening.{best-under}
@@ -28,6 +28,8 @@ gap-above profit zero h = absurd (h refl)
 gap-above profit (suc k) h = ap (λ (n : ℕ). gapBetween (profit (suc k)) (profit n)) (omega arith)
 
 pub profit-under : (u : UnitRecord) → Ranged u → (prices : List ℤ) (limits : Limits) → Under limits (u .limits)
-    → profitOf (best (limited u limits) prices) ≡ valueAt (figuresOf u (length prices)) anywhere prices (openingCell (limited u limits) (length prices))
+    → profitOf (best (limited u limits) prices) ≡ valueAt (figuresOf u (length prices)) anywhere (quartersOf u prices)
+    (openingCell (limited u limits) (length prices))
 profit-under u ok prices limits h =
-    ap profitOf (best-under u ok prices limits h) ∙ plan-value (figuresOf u (length prices)) anywhere prices (openingCell (limited u limits) (length prices))
+    ap profitOf (best-under u ok prices limits h)
+    ∙ plan-value (figuresOf u (length prices)) anywhere (quartersOf u prices) (openingCell (limited u limits) (length prices))

@@ -22,7 +22,7 @@ use Rattle.commitment.specs.declared.Outcome.{Outcome}
 use Rattle.commitment.specs.declared.Outcome.the-variants as outcome
 use Rattle.commitment.specs.declared.UnitRecord.{UnitRecord}
 use Rattle.commitment.specs.Limits.{within, limitFor, withLimit, limited}
-use Rattle.commitment.specs.Keeping.{wasOn, startsIn, onIntervals, outputSum, keepsRuns, keepsSpells}
+use Rattle.commitment.specs.Keeping.{wasOn, startsIn, onIntervals, outputSum, keepsRuns, keepsSpells, keepsWindow}
 use Rattle.commitment.specs.Profit.{profit}
 use Rattle.commitment.specs.Best.{Plan, nothing, plan, best, profitOf}
 use Rattle.commitment.specs.Rivals.{Rival, IsBest}
@@ -51,7 +51,8 @@ module _ (u : UnitRecord) (prices : List ℤ) (a b : Limits) (under : Under a b)
       let A = within 1 starts (a .starts) in
       let B = within 4 (onIntervals s) (a .hours) in
       let C = within 4 (outputSum s) (a .mwh) in
-      let all = both (A && keepsRuns u s && keepsSpells u s && B) C (r .kept) in
+      let hours = both (A && keepsRuns u s && keepsSpells u s && B && C) (keepsWindow u s) (r .kept) in
+      let all = both (A && keepsRuns u s && keepsSpells u s && B) C (hours .0) in
       let first = both (A && keepsRuns u s && keepsSpells u s) B (all .0) in
       let times = both (A && keepsRuns u s) (keepsSpells u s) (first .0) in
       let start = both A (keepsRuns u s) (times .0) in
@@ -64,6 +65,7 @@ module _ (u : UnitRecord) (prices : List ℤ) (a b : Limits) (under : Under a b)
               times .1,
               within-more 4 (onIntervals s) (a .hours) (b .hours) (under Hours) (first .1),
               within-more 4 (outputSum s) (a .mwh) (b .mwh) (under Mwh) (all .1),
+              hours .1,
             );
       }
 

@@ -12,13 +12,13 @@ use Rattle.commitment.specs.declared.BestProfit.{BestProfit}
 use Rattle.commitment.specs.declared.BestProfit.the-variants.{Nothing}
 use Rattle.commitment.specs.declared.UnitRecord.{UnitRecord}
 use Rattle.commitment.specs.Bounds.{mostMw, mostBlocks, mostTime, mostVec, mostMlc, mostSuc, mostIntervals}
-use Rattle.commitment.specs.Keeping.{wasOn}
+use Rattle.commitment.specs.Keeping.{wasOn, opensIn}
 use Rattle.commitment.specs.Profit.{margin}
 use Rattle.commitment.specs.Best.{Plan, ladder}
 use Rattle.commitment.specs.Cells.{countFor}
 use Rattle.optimality.specs.declared.Figures.{Figures}
 use Rattle.optimality.specs.declared.Cell.{Cell}
-use Rattle.optimality.specs.Machine.{Step, allow, go, bestFrom, more, valueAlong, valueFrom}
+use Rattle.optimality.specs.Machine.{Step, Quarter, quartersFrom, inQuarter, allow, go, bestFrom, more, valueAlong, valueFrom}
 
 abbrev pub cell : ℕ → ℕ → ℕ → ℕ → Cell
 cell state starts ons blocks = record { state = state; starts = starts; ons = ons; blocks = blocks }
@@ -129,14 +129,18 @@ rungs f = suc (f .pmax) - f .pmin
 abbrev pub choices : Figures → List ℕ
 choices f = 0 ∷ ladder (f .block) (f .pmin * f .block) (rungs f)
 
--- ---- the best plan from a cell over the prices to come, and its profit alone
+-- ---- the best plan from a cell over the quarters to come, and its profit alone
 
 module _ (f : Figures) (ends : Cell → BestProfit) where
-  unfoldable pub planAt : List ℤ → Cell → Plan
-  planAt prices c = bestFrom Cell ℤ (cellStep f) ends (choices f) prices c
+  unfoldable pub planAt : List Quarter → Cell → Plan
+  planAt quarters c = bestFrom Cell Quarter (inQuarter (cellStep f)) ends (choices f) quarters c
 
-  unfoldable pub valueAt : List ℤ → Cell → BestProfit
-  valueAt prices c = valueFrom Cell ℤ (cellStep f) ends (choices f) prices c
+  unfoldable pub valueAt : List Quarter → Cell → BestProfit
+  valueAt quarters c = valueFrom Cell Quarter (inQuarter (cellStep f)) ends (choices f) quarters c
+
+-- the quarters of a case
+abbrev pub quartersOf : UnitRecord → List ℤ → List Quarter
+quartersOf u prices = quartersFrom (opensIn (u .permit)) 0 prices
 
 -- ---- a cell by the cells after it: what the rest of the intervals is worth from each cell being `rest`
 

@@ -1,9 +1,10 @@
 -- A machine of steps: from a state, what an interval brings (an input) and an output lead to a next state and earn something, or are not allowed.
 -- Its best plan by recursion over the intervals, and the best plan's profit alone; `ends` says of each state what a plan that ends there earns in it,
 -- if it may end there.
-use mathlib.Core.Bool.{Bool, true, false, cond}
+use mathlib.Core.Bool.{Bool, true, false, cond, _||_}
 use mathlib.Core.List.{List, [], _∷_, map}
-use Prim.Native.Nat.{ℕ}
+use Prim.Native.Nat.{ℕ, suc}
+use lib.Dec.{eqb}
 use lib.IntN.{ℤ, pos, _+ℤ_}
 use lib.Signed.{ltZ}
 use Rattle.commitment.specs.declared.BestProfit.{BestProfit}
@@ -22,6 +23,24 @@ allow false step = stop
 -- a plan may end in any state, which earns nothing more
 abbrev pub anywhere : {State : Type 0} → State → BestProfit
 anywhere x = Profit (pos 0)
+
+-- ---- what a quarter-hour brings: its price, and whether the unit may run
+
+pub record Quarter : Type 0 where
+  pub price : ℤ
+  pub opens : Bool
+
+abbrev pub quarter : ℤ → Bool → Quarter
+quarter price opened = record { price = price; opens = opened }
+
+-- the quarters of a list of prices, from the interval of a number on
+abbrev pub quartersFrom : (ℕ → Bool) → ℕ → List ℤ → List Quarter
+quartersFrom opens i [] = []
+quartersFrom opens i (price ∷ prices) = quarter price (opens i) ∷ quartersFrom opens (suc i) prices
+
+-- a machine that goes by prices, over quarters: in one that is shut, off is all that is allowed
+abbrev pub inQuarter : {State : Type 0} → (State → ℤ → ℕ → Step State) → State → Quarter → ℕ → Step State
+inQuarter step x q m = allow (eqb m 0 || q .opens) (step x (q .price) m)
 
 -- ---- plans
 

@@ -3,6 +3,7 @@ use mathlib.Core.Path.{_≡_, sym, ap, _∙_}
 use mathlib.Core.Bool.{Bool, true}
 use mathlib.Core.List.{List, [], _∷_, _++_}
 use Prim.Native.Nat.{ℕ, _+_, _*_, _≤_}
+use native.Mathlib.Omega.{arith}
 use borrow.Author.Tests.{leb-true}
 use lib.Dec.{leb}
 use lib.IntN.{ℤ, pos}
@@ -12,17 +13,23 @@ use Rattle.commitment.specs.declared.Checked.the-variants.{Passed}
 use Rattle.commitment.specs.declared.UnitRecord.{UnitRecord}
 use Rattle.commitment.specs.Causes.{_else_, firstOf}
 use Rattle.commitment.specs.Cells.{cellsNeeded}
-use Rattle.commitment.specs.Ranges.{pricesKept, caseChecks, caseChecked, Priced}
+use Rattle.commitment.specs.Keeping.{opensIn}
+use Rattle.commitment.specs.Ranges.{pricesKept, permitKept, dateKept, caseChecks, caseChecked, Priced}
+use Rattle.commitment.specs.declared.windows.Hours.{Hours}
+use Rattle.commitment.specs.Windows.{opens, HoursOf}
 use Rattle.commitment.proofs.Causes.{checkedThen, in-turn, unless-passed, then-passed}
 use Rattle.commitment.proofs.Passing.{Passing, passing, prices-small}
+use Rattle.commitment.proofs.Ranges.{in-range}
 use Rattle.optimality.specs.declared.Figures.{Figures}
 use Rattle.optimality.specs.Machine.{anywhere}
-use Rattle.optimality.specs.Cells.{Sound, figuresOf}
+use Rattle.optimality.specs.Cells.{Sound, figuresOf, quartersOf}
 use Rattle.optimality.proofs.Opening.{figures-sound}
+use Rattle.optimality.proofs.Quarters.{quarters-same}
 use Rattle.optimality.proofs.Ranges.{ranged}
 use Rattle.geometry.specs.Geometry.{width}
 use Rattle.geometry.specs.Layers.{Room, Filled}
 use Rattle.geometry.proofs.Widths.{width-is}
+use Rattle.layers.specs.Filling.{quartersIn}
 use Rattle.planner.specs.Planning.{slicesChecks, lentChecks, lentChecked, scheduleChecks, scheduleChecked, planChecked, scratchAfter}
 use Rattle.planner.specs.Tables.{Worked}
 use Rattle.planner.specs.Valuing.{valueLentChecks, valueLent, valueChecked}
@@ -76,13 +83,24 @@ pub record Fitted (u : UnitRecord) (prices : List ℤ) (scratch : ℕ) (f : Figu
   pub priced : Priced prices
   pub all : (length prices + 1) * w ≡ cellsNeeded u (length prices)
   pub most : (length prices + 1) * w ≤ scratch
-  pub works : (cells : List ℤ) → length cells ≡ scratch → Filled f anywhere prices cells → Worked u prices cells
+  pub works : (hours : Hours) → HoursOf (u .permit) hours
+      → (cells : List ℤ) → length cells ≡ scratch → Filled f anywhere (quartersIn hours prices) cells → Worked u prices cells
 
 module _ (u : UnitRecord) (prices : List ℤ) (scratch : ℕ) (h : Lent u prices true scratch) (f : Figures) (is : f ≡ figuresOf u (length prices)) where
   pub lent-sound : Sound f
   lent-sound =
       let o = h .case .order in
       rw is (figures-sound u (ranged u (o .ranges) (o .shape)) (length prices) (o .short))
+
+  -- the quarters of the hours are those of the case
+  quarters-are : (hours : Hours) → HoursOf (u .permit) hours → quartersIn hours prices ≡ quartersOf u prices
+  quarters-are hours of =
+      let short = h .case .order .short in
+      quarters-same (opens hours) (opensIn (u .permit)) 0 prices (λ t k. of .same (0 + t) (omega (arith, short)))
+
+  -- a case that passed has a permit in order
+  pub permitted : (permitKept (u .permit) ≡ true) × (dateKept (u .permit) ≡ true)
+  permitted = (in-range u (h .case .order .ranges) .permit, h .case .order .dated)
 
   pub fitted : (w : ℕ) → w ≡ width f → Fitted u prices scratch f w
   fitted w wide =
@@ -96,7 +114,7 @@ module _ (u : UnitRecord) (prices : List ℤ) (scratch : ℕ) (h : Lent u prices
         priced = priced;
         all = cells;
         most = rw cells (h .cells);
-        works = λ stored long filled. worked u prices stored o priced (rw long (h .cells)) (rw is at filled);
+        works = λ hours of stored long filled. worked u prices stored o priced (rw long (h .cells)) (rw (is, quarters-are hours of) at filled);
       }
 
 -- the scratch after all layers are cleared, of which the fill left what lies behind them

@@ -13,17 +13,20 @@ use Rattle.commitment.specs.declared.UnitRecord.{UnitRecord}
 use Rattle.commitment.specs.Best.{Plan, nothing, plan, best, profitOf}
 use Rattle.commitment.specs.Bounds.{mostIntervals}
 use Rattle.commitment.specs.Cells.{cellsNeeded}
+use Rattle.commitment.specs.Keeping.{opensIn}
 use Rattle.commitment.specs.Limits.{limited}
 use Rattle.commitment.specs.Ranges.{InOrder, Priced}
 use Rattle.optimality.specs.Machine.{anywhere}
-use Rattle.optimality.specs.Cells.{Sound, InTable, figuresOf, openingCell, planAt, valueAt}
+use Rattle.optimality.specs.Cells.{Sound, InTable, figuresOf, quartersOf, openingCell, planAt, valueAt}
 use Rattle.optimality.specs.Runs.{Under}
 use Rattle.optimality.proofs.Opening.{under-itself, figures-sound, opening-in-table, best-cell}
+use Rattle.optimality.proofs.Quarters.{quarters-length, quarters-priced}
 use Rattle.optimality.proofs.Ranges.{Ranged, ranged}
 use Rattle.optimality.proofs.Runs.{profit-under}
 use Rattle.geometry.specs.Layers.{told, inFront, Holds, Filled, Room}
 use Rattle.geometry.proofs.Telling.{first-told}
 use Rattle.geometry.proofs.Widths.{width-is}
+use Rattle.table.specs.Reading.{PlanFrom}
 use Rattle.planner.specs.declared.Reported.{Reported}
 use Rattle.planner.specs.declared.Reported.the-variants.{Report as Given}
 use Rattle.planner.specs.Tables.{amount, mostAmount, Told, Worked}
@@ -51,17 +54,19 @@ stored-small n (Profit p) r h k = omega (arith, k .1)
 
 -- of a case in order
 pub worked : (u : UnitRecord) (prices cells : List ℤ) → InOrder u (length prices) → Priced prices → cellsNeeded u (length prices) ≤ length cells
-    → Filled (figuresOf u (length prices)) anywhere prices cells → Worked u prices cells
+    → Filled (figuresOf u (length prices)) anywhere (quartersOf u prices) cells → Worked u prices cells
 worked u prices cells order priced room filled =
     let n = length prices in
     let f = figuresOf u n in
+    let quarters = quartersOf u prices in
+    let short : length quarters ≤ mostIntervals = omega (arith, quarters-length (opensIn (u .permit)) 0 prices, order .short) in
     record {
       told =
           record {
             order = order;
             wide = omega (arith, width-is u n, room);
-            first = λ c i. first-told f anywhere prices cells c filled (order .short) i;
-            small = λ c i. stored-small n (valueAt f anywhere prices c) _ (order .short) (filled .layers 0 (omega arith) .holds c i);
+            first = λ c i. first-told f anywhere quarters cells c filled short i;
+            small = λ c i. stored-small (length quarters) (valueAt f anywhere quarters c) _ short (filled .layers 0 (omega arith) .holds c i);
           };
       priced = priced;
       room = room;
@@ -99,13 +104,18 @@ module _ (u : UnitRecord) (prices cells : List ℤ) (w : Worked u prices cells) 
   pub opening-inside : InTable (figuresOf u (length prices)) (openingCell u (length prices))
   opening-inside = run-inside u prices cells (w .told) (u .limits) (under-itself (u .limits))
 
-  pub opening-plan : planAt (figuresOf u (length prices)) anywhere prices (openingCell u (length prices)) ≡ best u prices
+  pub opening-plan : planAt (figuresOf u (length prices)) anywhere (quartersOf u prices) (openingCell u (length prices)) ≡ best u prices
   opening-plan = sym (best-cell u (unit-ranged u prices cells (w .told)) prices)
 
   -- where there is a schedule, the opening cell has a best profit
-  pub opening-some : (p : ℤ) → profitOf (best u prices) ≡ Profit p
-      → valueAt (figuresOf u (length prices)) anywhere prices (openingCell u (length prices)) ≡ Nothing → ⊥
+  opening-some : (p : ℤ) → profitOf (best u prices) ≡ Profit p
+      → valueAt (figuresOf u (length prices)) anywhere (quartersOf u prices) (openingCell u (length prices)) ≡ Nothing → ⊥
   opening-some p e n =
       let none : profitOf (best u prices) ≡ Nothing = profit-under u (unit-ranged u prices cells (w .told)) prices (u .limits) (under-itself (u .limits)) ∙ n in
       let z : _≡_ {A = ℕ} 0 1 = cc in
       omega arith
+
+  -- so the plan can be read off from it
+  pub opening-plans : (p : ℤ) → profitOf (best u prices) ≡ Profit p
+      → PlanFrom (figuresOf u (length prices)) prices cells (openingCell u (length prices)) (quartersOf u prices)
+  opening-plans p e = record { priced = quarters-priced (opensIn (u .permit)) 0 prices; filled = w .filled; some = opening-some p e }

@@ -12,7 +12,7 @@ use Rattle.commitment.specs.Ranges.{InOrder, Priced}
 use Rattle.optimality.specs.declared.Cell.{Cell}
 use Rattle.optimality.specs.declared.Figures.{Figures}
 use Rattle.optimality.specs.Machine.{anywhere}
-use Rattle.optimality.specs.Cells.{figuresOf, InTable, valueAt}
+use Rattle.optimality.specs.Cells.{figuresOf, quartersOf, InTable, valueAt}
 use Rattle.geometry.specs.Geometry.{width}
 use Rattle.geometry.specs.Layers.{told, inFront, Filled}
 
@@ -29,8 +29,9 @@ pub record Told (u : UnitRecord) (prices cells : List ℤ) : Type 0 where
   pub order : InOrder u (length prices)
   pub wide : width (figuresOf u (length prices)) ≤ length cells
   pub first : (c : Cell) → InTable (figuresOf u (length prices)) c
-      → told (inFront (figuresOf u (length prices)) cells c) ≡ valueAt (figuresOf u (length prices)) anywhere prices c
-  pub small : (c : Cell) → InTable (figuresOf u (length prices)) c → natAbs (amount (valueAt (figuresOf u (length prices)) anywhere prices c)) < mostAmount
+      → told (inFront (figuresOf u (length prices)) cells c) ≡ valueAt (figuresOf u (length prices)) anywhere (quartersOf u prices) c
+  pub small : (c : Cell) → InTable (figuresOf u (length prices)) c
+      → natAbs (amount (valueAt (figuresOf u (length prices)) anywhere (quartersOf u prices) c)) < mostAmount
 
 -- to one who has the figures of the case
 abbrev pub ToldBy : Figures → UnitRecord → List ℤ → List ℤ → Type 0
@@ -41,4 +42,4 @@ pub record Worked (u : UnitRecord) (prices cells : List ℤ) : Type 0 where
   pub told : Told u prices cells
   pub priced : Priced prices
   pub room : cellsNeeded u (length prices) ≤ length cells
-  pub filled : Filled (figuresOf u (length prices)) anywhere prices cells
+  pub filled : Filled (figuresOf u (length prices)) anywhere (quartersOf u prices) cells

@@ -41,7 +41,7 @@ pub enum Reported {
     Refused(Cause),
 }
 
-// The best plan, in the front of the schedule slice; or 3, 4, 5, 7, 8 or 9.
+// The best plan, in the front of the schedule slice; or 3, 4, 12, 5, 7, 8 or 9.
 pub fn plan_into(
     unit: UnitRecord,
     prices: &[i64],
@@ -55,7 +55,7 @@ pub fn plan_into(
     contents::plan_of(report_into(unit, prices, scratch, schedule))
 }
 
-// The three outcomes; or 3, 4, 5, 8 or 9.
+// The three outcomes; or 3, 4, 12, 5, 8 or 9.
 pub fn value(unit: UnitRecord, prices: &[i64], scratch: &mut [i64]) -> Valued
     ensures { λ r. ⌜ r ≡ valued unit (now (prices .entry)) (length (now (scratch .entry))) ⌝ }
     ensures { λ _. ⌜ now (scratch .exit) ≡ scratchValued unit (now (prices .entry)) (now (scratch .entry)) ⌝ }

@@ -7,6 +7,7 @@ use crate::runs;
 use commitment::BestProfit;
 use commitment::Cause;
 use commitment::UnitRecord;
+use commitment::windows;
 use optimality::Figures;
 ghost use mathlib.Core.Path.{_≡_};
 ghost use mathlib.Core.Bool.{true};
@@ -38,7 +39,9 @@ pub fn report_case(
     let n = prices.len();
     let f = budgets::figures_of(unit, n);
     let w = geometry::layer_cells(f);
-    layers::fill_all(&mut *scratch, w, f, prices);
+    let permit = unit.permit;
+    let hours = windows::hours_of(permit);
+    layers::fill_all(&mut *scratch, w, f, prices, hours);
     let answer = read_report(unit, f, w, prices, &scratch[..], schedule);
     layers::clear(scratch, (n + 1) * w);
     answer
@@ -52,7 +55,9 @@ pub fn value_case(unit: UnitRecord, prices: &[i64], scratch: &mut [i64]) -> Valu
     let n = prices.len();
     let f = budgets::figures_of(unit, n);
     let w = geometry::layer_cells(f);
-    layers::fill_all(&mut *scratch, w, f, prices);
+    let permit = unit.permit;
+    let hours = windows::hours_of(permit);
+    layers::fill_all(&mut *scratch, w, f, prices, hours);
     let answer = read_outcomes(unit, f, prices, &scratch[..]);
     layers::clear(scratch, (n + 1) * w);
     answer

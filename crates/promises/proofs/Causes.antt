@@ -3,14 +3,18 @@ use mathlib.Core.Path.{_≡_, refl, sym, ap, _∙_}
 use mathlib.Core.Bool.{Bool, true, false, _&&_, not}
 use mathlib.Core.List.{List, [], _∷_, _++_}
 use mathlib.Core.Logic.{_↔_, inl, inr, ⊎-elim, Iff·rfl, Iff·trans}
-use Prim.Native.Nat.{ℕ, _<_}
+use Prim.Native.Nat.{ℕ, _-_, _/_, _<_}
 use native.Mathlib.Omega.{arith}
 use borrow.Author.Tests.{leb-false, lt-leb, eqb-false, ne-eqb, not-true}
 use lib.Dec.{leb, eqb}
 use lib.IntN.{ℤ}
 use lib.ListN.{length}
 use Rattle.lists.proofs.Conjunctions.{both}
+use Rattle.calendar.specs.declared.Date.{Date}
+use Rattle.calendar.specs.Clock.{clockAfter}
 use Rattle.commitment.specs.declared.Cause.{Cause}
+use Rattle.commitment.specs.declared.windows.ClockRead.the-variants as clock
+use Rattle.commitment.specs.Windows.{clockChecks, clockBy, clockHour}
 use Rattle.commitment.specs.declared.Cause.the-variants.{Length, Scratch, NoSchedule}
 use Rattle.commitment.specs.declared.Checked.{Checked}
 use Rattle.commitment.specs.declared.Checked.the-variants.{Passed, Refused}
@@ -45,7 +49,7 @@ use Rattle.answers.specs.declared.Lent.{Lent}
 use Rattle.answers.specs.Answering.{longEnough, allFound, reportOn}
 use Rattle.answers.specs.Answering as answers
 use Rattle.promises.specs.Causes.{Reason, _when_, FirstOf, NoneOf, caseCauses, textCauses, readingCauses, costCauses, handedCauses, handInCauses}
-use Rattle.promises.specs.Causes.{NoRival, tableCauses, slicesCauses, planningCauses, valuingCauses, answeringCauses}
+use Rattle.promises.specs.Causes.{NoRival, tableCauses, slicesCauses, planningCauses, valuingCauses, answeringCauses, clockCauses}
 
 -- ---- along any list of checks: each fails exactly where its cause holds, where those before it are kept
 
@@ -167,7 +171,7 @@ module _ (u : UnitRecord) (prices : List ℤ) where
 
   case-judged : (checks : List Check) (reasons : List Reason) → CaseKept (Judged checks reasons)
       → Judged (caseChecks u (pricesKept prices) (length prices) ++ checks) (caseCauses u prices ++ reasons)
-  case-judged checks reasons next = (refl, Iff·rfl, λ ranges. (refl, Iff·rfl, λ shape. (refl, Iff·rfl, λ _. next ranges shape)))
+  case-judged checks reasons next = (refl, Iff·rfl, λ ranges. (refl, Iff·rfl, λ shape. (refl, Iff·rfl, λ _. (refl, Iff·rfl, λ _. next ranges shape))))
 
 text-judged : (text : List ℕ) (checks : List Check) (reasons : List Reason) → CaseKept (unitIn text) (pricesIn text) (Judged checks reasons)
     → Judged (writtenChecks text ++ checks) (textCauses text ++ reasons)
@@ -354,8 +358,9 @@ module _ (text : List ℕ) (lent : Lent) where
   answer-judged : Judged (answers.lentChecks text lent ++ scheduleChecks (unitIn text) (pricesIn text)) (answeringCauses text lent)
   answer-judged =
       let count = length (pricesIn text) in
-      text-judged text (slicesChecks (unitIn text) count (longEnough count lent) (lent .cells) ++ scheduleChecks (unitIn text) (pricesIn text))
-      ((Length when longEnough count lent ≡ false) ∷ tableCauses (unitIn text) (pricesIn text) (lent .cells))
+      let long = longEnough (unitIn text .permit) count lent in
+      text-judged text (slicesChecks (unitIn text) count long (lent .cells) ++ scheduleChecks (unitIn text) (pricesIn text))
+      ((Length when long ≡ false) ∷ tableCauses (unitIn text) (pricesIn text) (lent .cells))
       (λ ranges shape. (refl, Iff·rfl, λ _. table-judged (unitIn text) (pricesIn text) (lent .cells) ranges shape))
 
   answer-found : allFound text lent ≡ Passed → best (unitIn text) (pricesIn text) ≡ nothing → ⊥
@@ -373,3 +378,18 @@ module _ (text : List ℕ) (lent : Lent) where
   answering-answered =
       Iff·trans (report-given (unitIn text) (pricesIn text) (allFound text lent) answer-found)
       (passed-none (answers.lentChecks text lent ++ scheduleChecks (unitIn text) (pricesIn text)) (answeringCauses text lent) answer-judged)
+
+-- ---- the clock hour
+
+module _ (d : Date) (interval : ℕ) where
+  clock-judged : Judged (clockChecks d interval) (clockCauses d interval)
+  clock-judged = (refl, Iff·rfl, λ _. (refl, Iff·rfl, λ _. tt))
+
+  clock-answers : Answers (λ k. clockBy k (clockAfter d ((interval - 1) / 4))) clock.Refused
+  clock-answers = record { is = λ _. refl; alike = λ _ _ e. cc; other = λ _ e. let z : _≡_ {A = ℕ} 0 1 = cc in absurd (omega arith) }
+
+  pub clock-refused : {cause : Cause} → (clockHour d interval ≡ clock.Refused cause) ↔ FirstOf (clockCauses d interval) cause
+  clock-refused = answer-refused clock-answers (clockChecks d interval) (clockCauses d interval) clock-judged
+
+  pub clock-answered : (clockHour d interval ≡ clock.Hour (clockAfter d ((interval - 1) / 4))) ↔ NoneOf (clockCauses d interval)
+  clock-answered = answer-given clock-answers (clockChecks d interval) (clockCauses d interval) clock-judged

@@ -3,7 +3,7 @@
 use mathlib.Core.Path.{_≡_, refl}
 use mathlib.Core.Bool.{true, false, _&&_, not, cond}
 use mathlib.Core.List.{List, [], _++_}
-use mathlib.Core.Logic.{_↔_}
+use mathlib.Core.Logic.{_↔_, _⊎_}
 use Prim.Native.Nat.{ℕ, _≤_, _<_}
 use lib.Dec.{eqb}
 use lib.IntN.{ℤ, pos}
@@ -38,9 +38,9 @@ use Rattle.casefile.specs.Reading.{unitIn, pricesIn}
 use Rattle.writing.specs.AsWritten.{AsWritten}
 use Rattle.tabletext.specs.Tables.{named}
 use Rattle.tabletext.specs.Pieces.{fieldsOf}
-use Rattle.casetext.specs.Names.{unitNames, unitOptional, priceNames}
+use Rattle.casetext.specs.Names.{unitNames, unitOptional, datedNames, priceNames}
 use Rattle.casetext.specs.Form.{mostBytes, unitHead, priceHead, formKept, namesKept}
-use Rattle.writing.specs.Writing.{written}
+use Rattle.writing.specs.Writing.{namesFor, written}
 use Rattle.writing.proofs.AsWritten.{read-as-written}
 use Rattle.writing.proofs.Back.{written-read}
 use Rattle.assessment.specs.declared.Assessed.the-variants as assessing
@@ -123,10 +123,13 @@ answering-refused text lent cause = causes.answering-refused text lent
 pub form-exactly : (text : List ℕ) → (formKept text ≡ true) ↔ TwoTables text
 form-exactly = forms.form-exactly
 
--- The names of a text are kept, so that 2 does not hold, exactly when they are the thirteen in some sequence and `price`.
+-- The names of a text are kept, so that 2 does not hold, exactly when they are the thirteen, or the thirteen and the four of a date and its hour word,
+-- in some sequence, and `price`.
 
 pub names-exactly : (text : List ℕ)
-    → (namesKept text ≡ true) ↔ (InSomeSequence unitNames (fieldsOf (unitHead text)) × InSomeSequence priceNames (fieldsOf (priceHead text)))
+    → (namesKept text ≡ true)
+    ↔ ((InSomeSequence unitNames (fieldsOf (unitHead text)) ⊎ InSomeSequence (unitNames ++ datedNames) (fieldsOf (unitHead text)))
+    × InSomeSequence priceNames (fieldsOf (priceHead text)))
 names-exactly = names.names-exactly
 
 -- and every cause that holds is met by a refusal: there is an answer exactly where none holds
@@ -210,11 +213,11 @@ pub answer-number : (text : List ℕ) (lent : Lent) → answered text lent .numb
 answer-number = printing.answer-number
 
 pub answer-refusal : (text : List ℕ) (lent : Lent) {cause : Cause} → reportOn text lent ≡ reporting.Refused cause
-    → printed text lent ≡ cond (eqb (numberOf cause) 7 && not (serves (length (pricesIn text)) (lent .bytes))) [] (refusal (numberOf cause))
+    → printed text lent ≡ cond (eqb (numberOf cause) 7 && not (serves (unitIn text .permit) (length (pricesIn text)) (lent .bytes))) [] (refusal (numberOf cause))
 answer-refusal = printing.answer-refusal
 
 pub seven-untouched : (text : List ℕ) (lent : Lent) (out : List ℕ) → reportOn text lent ≡ reporting.Refused Length
-    → serves (length (pricesIn text)) (lent .bytes) ≡ false → bufferAfter (printed text lent) out ≡ out
+    → serves (unitIn text .permit) (length (pricesIn text)) (lent .bytes) ≡ false → bufferAfter (printed text lent) out ≡ out
 seven-untouched = printing.seven-untouched
 
 pub short-buffer-untouched : (text : List ℕ) (lent : Lent) (out : List ℕ) → lent .bytes ≡ length out → lent .bytes < length (printed text lent)
@@ -236,10 +239,10 @@ pub as-written : (text : List ℕ) (slice : List ℤ) (u : UnitRecord) (count : 
     → readCase text (length slice) ≡ reading.Case u count → AsWritten text u (take count (readPrices text slice))
 as-written = read-as-written
 
--- and what a writer of the format writes, with the names in any sequence, is read back
+-- and what a writer of the format writes, with the names in any sequence, and with the four where the record has them, is read back
 
 pub written-is-read : (u : UnitRecord) (prices : List ℤ) (names : List (List ℕ)) (slice : List ℤ) → caseChecked u (pricesKept prices) (length prices) ≡ Passed
-    → named unitNames unitOptional names ≡ true → length (written names u prices) ≤ mostBytes → length prices ≤ length slice
+    → named (namesFor (u .permit)) unitOptional names ≡ true → length (written names u prices) ≤ mostBytes → length prices ≤ length slice
     → (readCase (written names u prices) (length slice) ≡ reading.Case u (length prices))
     × (readPrices (written names u prices) slice ≡ prices ++ drop (length prices) slice)
 written-is-read = written-read

@@ -1,8 +1,8 @@
 -- The names of a text are kept exactly when they are those of their tables in some sequence: both say that each name occurs as often as in its table.
 use mathlib.Core.Path.{_≡_, refl, sym, ap, ap₂, _∙_}
-use mathlib.Core.Bool.{Bool, true, false, _&&_, _||_, false≢true}
+use mathlib.Core.Bool.{Bool, true, false, _&&_, _||_, or-true, false≢true}
 use mathlib.Core.List.{List, [], _∷_, _++_}
-use mathlib.Core.Logic.{_↔_}
+use mathlib.Core.Logic.{_↔_, _⊎_, inl, inr, ⊎-elim, ⊎-map}
 use Prim.Native.Nat.{ℕ, _+_, _≤_}
 use native.Mathlib.Omega.{arith}
 use borrow.Author.Tests.{leb-true, leb-false, le-leb, eqb-true}
@@ -14,8 +14,8 @@ use Rattle.tabletext.specs.Pieces.{fieldsOf}
 use Rattle.tabletext.specs.Tables.{occurs, standing, known, named}
 use Rattle.tabletext.proofs.Alike.{same-refl, same-eq}
 use Rattle.tabletext.proofs.Walks.{weight}
-use Rattle.casetext.specs.Names.{unitNames, unitOptional, priceNames, priceOptional}
-use Rattle.casetext.specs.Form.{unitHead, priceHead, namesKept}
+use Rattle.casetext.specs.Names.{unitNames, unitOptional, datedNames, priceNames, priceOptional}
+use Rattle.casetext.specs.Form.{unitHead, priceHead, unitNamed, namesKept}
 use Rattle.writing.proofs.Sequences.{of-table}
 use Rattle.promises.specs.Sequences.{InSomeSequence}
 use Rattle.promises.proofs.Forms.{every-also}
@@ -115,14 +115,29 @@ module _ (names fields : List (List ℕ)) (distinct : Distinct names) where
 
 -- ---- of a text
 
+one-of : (a b : Bool) → a || b ≡ true → (a ≡ true) ⊎ (b ≡ true)
+one-of true b e = inl refl
+one-of false b e = inr e
+
+-- all four of the date and its word, or none
 pub names-exactly : (text : List ℕ)
-    → (namesKept text ≡ true) ↔ (InSomeSequence unitNames (fieldsOf (unitHead text)) × InSomeSequence priceNames (fieldsOf (priceHead text)))
+    → (namesKept text ≡ true)
+    ↔ ((InSomeSequence unitNames (fieldsOf (unitHead text)) ⊎ InSomeSequence (unitNames ++ datedNames) (fieldsOf (unitHead text)))
+    × InSomeSequence priceNames (fieldsOf (priceHead text)))
 unfolding namesKept
 names-exactly text =
-    let unit = named-exactly unitNames (fieldsOf (unitHead text)) refl in
+    let head = fieldsOf (unitHead text) in
+    let plain = named-exactly unitNames head refl in
+    let dated = named-exactly (unitNames ++ datedNames) head refl in
     let price = named-exactly priceNames (fieldsOf (priceHead text)) refl in (
       λ e.
-          let p = both (named unitNames unitOptional (fieldsOf (unitHead text))) (named priceNames priceOptional (fieldsOf (priceHead text))) e in
-          (unit .0 (p .0), price .0 (p .1)),
-      λ s. ap₂ _&&_ (unit .1 (s .0)) (price .1 (s .1)),
+          let p = both (unitNamed head) (named priceNames priceOptional (fieldsOf (priceHead text))) e in
+          (⊎-map (plain .0) (dated .0) (one-of (named unitNames unitOptional head) (named (unitNames ++ datedNames) unitOptional head) (p .0)), price .0 (p .1)),
+      λ s.
+          ap₂ _&&_
+          (⊎-elim (λ (one : InSomeSequence unitNames head). ap (λ (t : Bool). t || named (unitNames ++ datedNames) unitOptional head) (plain .1 one))
+          (λ (all : InSomeSequence (unitNames ++ datedNames) head).
+          ap (λ (t : Bool). named unitNames unitOptional head || t) (dated .1 all) ∙ or-true (named unitNames unitOptional head))
+          (s .0))
+          (price .1 (s .1)),
     )

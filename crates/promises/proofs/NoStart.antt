@@ -15,7 +15,7 @@ use Rattle.commitment.specs.declared.Limit.{Limit}
 use Rattle.commitment.specs.declared.Limit.the-variants.{None, At}
 use Rattle.commitment.specs.declared.Limitation.the-variants.{Starts}
 use Rattle.commitment.specs.declared.UnitRecord.{UnitRecord}
-use Rattle.commitment.specs.Keeping.{wasOn, startsIn, runsLast, spellsLast, onIntervals, outputSum, keepsStarts, keepsRuns, keepsSpells, keepsHours, keepsMwh}
+use Rattle.commitment.specs.Keeping.{wasOn, startsIn, runsLast, spellsLast, onIntervals, outputSum, keepsStarts, keepsRuns, keepsSpells, keepsHours, keepsMwh, opensIn, offWhereShut, keepsWindow}
 use Rattle.commitment.specs.Limits.{within}
 use Rattle.commitment.specs.Rivals.{Rival}
 use Rattle.commitment.specs.Schedule.{isOutput}
@@ -74,6 +74,15 @@ less-within : (unit a b : ℕ) (limit : Limit) → a ≤ b → within unit b lim
 less-within unit a b None h e = refl
 less-within unit a b (At limit) h e = le-leb a (unit * limit) (omega (arith, h, leb-true b (unit * limit) e))
 
+-- off wherever the schedule is, so wherever it is shut
+front-shut : (opens : ℕ → Bool) (i : ℕ) (on : Bool) (s : List ℕ) → offWhereShut opens i s ≡ true → offWhereShut opens i (front on s) ≡ true
+front-shut opens i on [] e = refl
+front-shut opens i on (zero ∷ s) e = front-shut opens (suc i) false s e
+front-shut opens i true (suc m ∷ s) e =
+    let h = both (opens i) (offWhereShut opens (suc i) s) e in
+    ap₂ _&&_ (h .0) (front-shut opens (suc i) true s (h .1))
+front-shut opens i false (suc m ∷ s) e = front-shut opens (suc i) false s (both (opens i) (offWhereShut opens (suc i) s) e .1)
+
 -- ---- it is a schedule
 
 front-length : (on : Bool) (s : List ℕ) → length (front on s) ≡ length s
@@ -97,7 +106,8 @@ module _ (u : UnitRecord) (prices : List ℤ) (less : ℕ) where
   front-rival s v =
       let on = wasOn (u .opening) in
       let sized = both (eqb (length s) (length prices)) (every (isOutput (u .generator)) s) (v .schedule) in
-      let mwh = both (keepsStarts u s && keepsRuns u s && keepsSpells u s && keepsHours u s) (keepsMwh u s) (v .kept) in
+      let shut = both (keepsStarts u s && keepsRuns u s && keepsSpells u s && keepsHours u s && keepsMwh u s) (keepsWindow u s) (v .kept) in
+      let mwh = both (keepsStarts u s && keepsRuns u s && keepsSpells u s && keepsHours u s) (keepsMwh u s) (shut .0) in
       let hours = both (keepsStarts u s && keepsRuns u s && keepsSpells u s) (keepsHours u s) (mwh .0) in
       let runs = both (keepsStarts u s) (keepsRuns u s) (both (keepsStarts u s && keepsRuns u s) (keepsSpells u s) (hours .0) .0) in
       let starts : leb (startsIn on (front on s)) (1 * less) ≡ true = le-leb (startsIn on (front on s)) (1 * less) (omega (arith, no-start on s)) in
@@ -108,8 +118,10 @@ module _ (u : UnitRecord) (prices : List ℤ) (less : ℕ) where
             ap₂ _&&_ (eq-eqb (length (front on s)) (length prices) (front-length on s ∙ eqb-true (length s) (length prices) (sized .0)))
             (front-outputs (u .generator) on s (sized .1));
         kept =
-            ap₂ _&&_ (ap₂ _&&_ times (less-within 4 (onIntervals (front on s)) (onIntervals s) (u .limits .hours) (front-on on s) (hours .1)))
-            (less-within 4 (outputSum (front on s)) (outputSum s) (u .limits .mwh) (front-output on s) (mwh .1));
+            ap₂ _&&_
+            (ap₂ _&&_ (ap₂ _&&_ times (less-within 4 (onIntervals (front on s)) (onIntervals s) (u .limits .hours) (front-on on s) (hours .1)))
+            (less-within 4 (outputSum (front on s)) (outputSum s) (u .limits .mwh) (front-output on s) (mwh .1)))
+            (front-shut (opensIn (u .permit)) 0 on s (shut .1));
       }
 
   pub none-lower-none : NoRival (runAt u Starts less) prices → NoRival u prices

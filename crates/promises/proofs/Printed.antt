@@ -17,6 +17,8 @@ use Rattle.commitment.specs.declared.Checked.{Checked}
 use Rattle.commitment.specs.declared.Checked.the-variants.{Passed, Refused}
 use Rattle.commitment.specs.declared.Generator.{Generator}
 use Rattle.commitment.specs.declared.Outcomes.{Outcomes}
+use Rattle.commitment.specs.declared.Permit.{Permit}
+use Rattle.commitment.specs.declared.Permit.the-variants.{AnyHour, Within}
 use Rattle.commitment.specs.declared.UnitRecord.{UnitRecord}
 use Rattle.commitment.specs.Best.{Plan, nothing, plan, best}
 use Rattle.commitment.specs.Bounds.{mostMw, mostIntervals}
@@ -29,14 +31,14 @@ use Rattle.assessment.proofs.Bounds.{output-most}
 use Rattle.casefile.specs.Reading.{unitIn, pricesIn}
 use Rattle.listing.specs.declared.Fit.{Fit}
 use Rattle.listing.specs.declared.Fit.the-variants.{Bytes, TooLong}
-use Rattle.listing.specs.Listing.{intervalLine, intervalLines, listing, refusal, writtenBy, bytesIn, bufferAfter}
+use Rattle.listing.specs.Listing.{intervalLine, intervalLines, windowLine, listing, refusal, writtenBy, bytesIn, bufferAfter}
 use Rattle.listing.proofs.Numbers.{number-short, number-digits}
-use Rattle.listing.proofs.Lengths.{signed-short, outcome-short, line-length, profit-length, outcomes-length, listing-length, refusal-length}
+use Rattle.listing.proofs.Lengths.{line-length, totals-short, window-short, listing-length, refusal-length}
 use Rattle.planner.specs.declared.Reported.the-variants as reports
 use Rattle.planner.specs.Planning.{plannedPart}
 use Rattle.planner.specs.Reporting.{reportedBy, reportedNumber}
 use Rattle.answers.specs.declared.Lent.{Lent}
-use Rattle.answers.specs.Answering.{mostPrinted, serves, longEnough, lentFound, allFound, reportPrinted, printedFor}
+use Rattle.answers.specs.Answering.{mostTotals, mostPrinted, wordOf, serves, longEnough, lentFound, allFound, reportPrinted, printedFor}
 use Rattle.answers.specs.Answering.{unwritten, linesFor, reportOn, answered, printed}
 use Rattle.answers.specs.Sizes.{cellRoom, priceRoom, outRoom, programLends}
 use Rattle.answers.proofs.Found.{passed, all-lines, refused-in-all}
@@ -50,6 +52,20 @@ numbers-below : (i mw : ℕ) → i < 10000 → mw ≤ mostMw → length (interva
 numbers-below i mw few small =
     omega (arith, line-length i mw, number-digits 3 i (omega arith) (omega arith), number-digits 2 mw (omega arith) (omega arith))
 
+-- the line of the hour word, where there is one
+window-most : (permit : Permit) → 136 + length (windowLine (wordOf permit)) ≤ mostTotals permit
+window-most AnyHour = omega arith
+window-most (Within w) = omega (arith, window-short (wordOf (Within w)))
+
+-- the program's buffer is long enough for either
+totals-most : (permit : Permit) → mostTotals permit ≤ 146
+totals-most AnyHour = omega arith
+totals-most (Within w) = omega arith
+
+totals-least : (permit : Permit) → 136 ≤ mostTotals permit
+totals-least AnyHour = omega arith
+totals-least (Within w) = omega arith
+
 module _ (g : Generator) (small : (m : ℕ) → isOutput g m ≡ true → m ≤ mostMw) where
   lines-most : (i : ℕ) (s : List ℕ) → every (isOutput g) s ≡ true → i + length s ≤ 10000 → length (intervalLines i s) ≤ 9 * length s
   lines-most i [] kept few = omega arith
@@ -62,21 +78,18 @@ module _ (g : Generator) (small : (m : ℕ) → isOutput g m ≡ true → m ≤ 
         lines-most (suc i) s (k .1) (omega arith),
       )
 
-  listing-most : (n : ℕ) (s : List ℕ) (p : ℤ) (o : Outcomes) → isSchedule g n s ≡ true → n ≤ mostIntervals → length (listing s p o) ≤ mostPrinted n
-  listing-most n s p o kept short =
+  listing-most : (n : ℕ) (s : List ℕ) (p : ℤ) (o : Outcomes) (permit : Permit) → isSchedule g n s ≡ true → n ≤ mostIntervals
+      → length (listing s p o (wordOf permit)) ≤ mostPrinted permit n
+  listing-most n s p o permit kept short =
       let k = both (eqb (length s) n) (every (isOutput g) s) kept in
       let count = eqb-true (length s) n (k .0) in
       omega (
         arith,
         count,
-        listing-length s p o,
+        listing-length s p o (wordOf permit),
         lines-most 1 s (k .1) (omega arith),
-        profit-length p,
-        signed-short p,
-        outcomes-length o,
-        outcome-short (o .starts),
-        outcome-short (o .hours),
-        outcome-short (o .mwh),
+        totals-short p o,
+        window-most permit,
       )
 
 -- ---- what is printed, by what was found of a case
@@ -85,16 +98,17 @@ refusal-most : (cause : Cause) → length (refusal (numberOf cause)) ≤ 29
 refusal-most cause = omega (arith, refusal-length (numberOf cause), number-short (numberOf cause))
 
 module _ (u : UnitRecord) (prices : List ℤ) (order : InOrder u (length prices)) where
-  case-most : (found : Checked) → length (printedFor found u prices) ≤ mostPrinted (length prices)
+  case-most : (found : Checked) → length (printedFor found u prices) ≤ mostPrinted (u .permit) (length prices)
   case-most found = by found (best u prices) refl
     where
       by : (k : Checked) (b : Plan) → best u prices ≡ b
-          → length (reportPrinted (reportedBy k b (outcomesOf u prices)) (plannedPart k b)) ≤ mostPrinted (length prices)
+          → length (reportPrinted (wordOf (u .permit)) (reportedBy k b (outcomesOf u prices)) (plannedPart k b)) ≤ mostPrinted (u .permit) (length prices)
       by Passed (plan s p) is =
           let own = plan-exactly u (order .ranges) (order .shape) prices s p .0 is .own in
-          listing-most (u .generator) (output-most u (order .ranges) (order .shape)) (length prices) s p (outcomesOf u prices) (own .schedule) (order .short)
-      by Passed nothing is = omega (arith, refusal-most NoSchedule)
-      by (Refused cause) b is = omega (arith, refusal-most cause)
+          listing-most (u .generator) (output-most u (order .ranges) (order .shape)) (length prices) s p (outcomesOf u prices) (u .permit) (own .schedule)
+          (order .short)
+      by Passed nothing is = omega (arith, refusal-most NoSchedule, totals-least (u .permit))
+      by (Refused cause) b is = omega (arith, refusal-most cause, totals-least (u .permit))
 
 -- ---- of a text
 
@@ -119,7 +133,7 @@ unfolding printed
 every-text-is-answered text = by (lentFound text (programLends outRoom)) refl
   where
     served : Bool
-    served = serves (length (pricesIn text)) outRoom
+    served = serves (unitIn text .permit) (length (pricesIn text)) outRoom
 
     line-most : (t : Bool) (cause : Cause) → length (cond t [] (refusal (numberOf cause))) ≤ 29
     line-most true cause = omega arith
@@ -141,25 +155,26 @@ answer-number text lent = refl
 
 -- the line of its number; nothing on 7 where the buffer does not serve
 pub answer-refusal : (text : List ℕ) (lent : Lent) {cause : Cause} → reportOn text lent ≡ reports.Refused cause
-    → printed text lent ≡ cond (eqb (numberOf cause) 7 && not (serves (length (pricesIn text)) (lent .bytes))) [] (refusal (numberOf cause))
+    → printed text lent ≡ cond (eqb (numberOf cause) 7 && not (serves (unitIn text .permit) (length (pricesIn text)) (lent .bytes))) [] (refusal (numberOf cause))
 unfolding printed
 answer-refusal text lent {cause} e = by (allFound text lent) (best (unitIn text) (pricesIn text)) e
   where
     served : Bool
-    served = serves (length (pricesIn text)) (lent .bytes)
+    served = serves (unitIn text .permit) (length (pricesIn text)) (lent .bytes)
 
     line : Cause → List ℕ
     line c = cond (eqb (numberOf c) 7 && not served) [] (refusal (numberOf c))
 
     by : (k : Checked) (b : Plan) → reportedBy k b (outcomesOf (unitIn text) (pricesIn text)) ≡ reports.Refused cause
-        → cond (unwritten k served) [] (reportPrinted (reportedBy k b (outcomesOf (unitIn text) (pricesIn text))) (plannedPart k b)) ≡ line cause
+        → cond (unwritten k served) [] (reportPrinted (wordOf (unitIn text .permit)) (reportedBy k b (outcomesOf (unitIn text) (pricesIn text))) (plannedPart k b))
+        ≡ line cause
     by Passed nothing e = let same : NoSchedule ≡ cause = cc in ap line same
     by Passed (plan s p) e = let z : _≡_ {A = ℕ} 0 1 = cc in absurd (omega arith)
     by (Refused given) b e = let same : given ≡ cause = cc in ap line same
 
 -- so that on 7 a buffer that does not serve is as it was, and so is one that a line does not fit
 pub seven-untouched : (text : List ℕ) (lent : Lent) (out : List ℕ) → reportOn text lent ≡ reports.Refused Length
-    → serves (length (pricesIn text)) (lent .bytes) ≡ false → bufferAfter (printed text lent) out ≡ out
+    → serves (unitIn text .permit) (length (pricesIn text)) (lent .bytes) ≡ false → bufferAfter (printed text lent) out ≡ out
 seven-untouched text lent out e short =
     let none : printed text lent ≡ [] =
     answer-refusal text lent e ∙ ap (λ (t : Bool). cond (not t) [] (refusal (numberOf Length))) short in
@@ -190,11 +205,11 @@ longer-refused text more lent long = (too-long text long, too-long (text ++ more
 
 -- ---- the program's slices suffice for every case in order: it never gives 7
 
-in-order-has-room : (n : ℕ) → horizonKept n ≡ true → longEnough n (programLends outRoom) ≡ true
-in-order-has-room n kept =
+in-order-has-room : (permit : Permit) (n : ℕ) → horizonKept n ≡ true → longEnough permit n (programLends outRoom) ≡ true
+in-order-has-room permit n kept =
     let short = leb-true n mostIntervals (both (leb 1 n) (leb n mostIntervals) kept .1) in
     let entries = le-leb n priceRoom (omega (arith, short)) in
-    ap₂ _&&_ entries (ap₂ _&&_ entries (le-leb (mostPrinted n) outRoom (omega (arith, short))))
+    ap₂ _&&_ entries (ap₂ _&&_ entries (le-leb (mostPrinted permit n) outRoom (omega (arith, short, totals-most permit))))
 
 pub program-has-room : (text : List ℕ) → reportOn text (programLends outRoom) ≡ reports.Refused Length → ⊥
 program-has-room text e = kept (horizonKept count) refl
@@ -203,7 +218,7 @@ program-has-room text e = kept (horizonKept count) refl
     count = length (pricesIn text)
 
     too-short : Reason
-    too-short = Length when longEnough count (programLends outRoom) ≡ false
+    too-short = Length when longEnough (unitIn text .permit) count (programLends outRoom) ≡ false
 
     -- 7 holds, and no cause of the text does
     seven : NoneOf (textCauses text) × too-short .Holds
@@ -212,8 +227,8 @@ program-has-room text e = kept (horizonKept count) refl
         (answering-refused text (programLends outRoom) .0 e)
 
     kept : (t : Bool) → horizonKept count ≡ t → ⊥
-    kept false i = seven .0 .1 .1 .1 .1 .0 i
+    kept false i = seven .0 .1 .1 .1 .1 .1 .0 i
     kept true i =
-        let no : true ≡ false = sym (in-order-has-room count i) ∙ seven .1 in
+        let no : true ≡ false = sym (in-order-has-room (unitIn text .permit) count i) ∙ seven .1 in
         let z : _≡_ {A = ℕ} 0 1 = cc in
         absurd (omega arith)

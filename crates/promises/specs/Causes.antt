@@ -6,14 +6,16 @@ use mathlib.Core.Logic.{_⊎_}
 use Prim.Native.Nat.{ℕ, _<_}
 use lib.IntN.{ℤ}
 use lib.ListN.{length}
+use Rattle.calendar.specs.declared.Date as calendar
+use Rattle.calendar.specs.Dates.{exists}
 use Rattle.commitment.specs.declared.Cause.{Cause}
-use Rattle.commitment.specs.declared.Cause.the-variants.{Form, Name, Range, Shape, Horizon, Segments, Length, Scratch, NoSchedule, NotKept}
+use Rattle.commitment.specs.declared.Cause.the-variants.{Form, Name, Range, Shape, Date, Horizon, Segments, Length, Scratch, NoSchedule, NotKept}
 use Rattle.commitment.specs.declared.CostInputs.{CostInputs}
 use Rattle.commitment.specs.declared.UnitRecord.{UnitRecord}
 use Rattle.commitment.specs.Cells.{cellsNeeded}
 use Rattle.commitment.specs.Figures.{totalMw}
 use Rattle.commitment.specs.Keeping.{keepsCase}
-use Rattle.commitment.specs.Ranges.{rangesKept, shapeKept, pricesKept, horizonKept}
+use Rattle.commitment.specs.Ranges.{rangesKept, shapeKept, dateRanged, dateKept, pricesKept, horizonKept}
 use Rattle.commitment.specs.Rivals.{Rival}
 use Rattle.commitment.specs.Schedule.{isSchedule}
 use Rattle.casetext.specs.Form.{formKept, namesKept}
@@ -47,6 +49,7 @@ abbrev pub caseCauses : UnitRecord → List ℤ → List Reason
 caseCauses u prices =
     (Range when (rangesKept u && pricesKept prices) ≡ false)
     ∷ (Shape when shapeKept (u .generator) ≡ false)
+    ∷ (Date when dateKept (u .permit) ≡ false)
     ∷ (Horizon when horizonKept (length prices) ≡ false)
     ∷ []
 
@@ -98,4 +101,11 @@ valuingCauses u prices cells = caseCauses u prices ++ tableCauses u prices cells
 
 abbrev pub answeringCauses : List ℕ → Lent → List Reason
 answeringCauses text lent =
-    textCauses text ++ (Length when longEnough (length (pricesIn text)) lent ≡ false) ∷ tableCauses (unitIn text) (pricesIn text) (lent .cells)
+    textCauses text
+    ++ (Length when longEnough (unitIn text .permit) (length (pricesIn text)) lent ≡ false)
+    ∷ tableCauses (unitIn text) (pricesIn text) (lent .cells)
+
+-- ---- the clock hour of an interval from a date's midnight on
+
+abbrev pub clockCauses : calendar.Date → ℕ → List Reason
+clockCauses d interval = (Range when (dateRanged d && horizonKept interval) ≡ false) ∷ (Date when exists d ≡ false) ∷ []

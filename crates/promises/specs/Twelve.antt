@@ -1,4 +1,5 @@
--- What the calls answer of C1 to C12 (specification 18), in the order and the kinds of the values given for them.
+-- What the calls answer of C1 to C12 (specification 18) and of the cases of permitted hours (specification 22), in the order and the kinds of the
+-- values given for them.
 use mathlib.Core.List.{List, [], _∷_, _++_}
 use Prim.Native.Nat.{ℕ}
 use lib.IntN.{ℤ, pos}
@@ -9,6 +10,7 @@ use Rattle.commitment.specs.declared.Limitation.the-variants.{Starts, Hours, Mw
 use Rattle.commitment.specs.declared.UnitRecord.{UnitRecord}
 use Rattle.commitment.specs.Causes.{numberOf}
 use Rattle.commitment.specs.Twelve.{Value, schedule, profit, number, outcome, ties, cents, tiesOf, c1-prices, c1, c2, c4, c5, c6, c7, c8, c9, c10-but}
+use Rattle.commitment.specs.HourCases.{c1-word, c1-on-word}
 use Rattle.costs.specs.declared.CostFigures.{CostFigures}
 use Rattle.costs.specs.declared.Costed.{Costed}
 use Rattle.costs.specs.declared.Costed.the-variants as costing
@@ -69,4 +71,12 @@ answersOfTwelve =
     ∷ (figureAt (c10-but 280 0 0 0 0 0 0) (λ figures. figures .vec) ∷ [])
     ∷ (figureAt (c10-but 280 50 1300 531148 0 0 0) (λ figures. figures .mlc) ∷ [])
     ∷ (figureAt (c10-but 0 50 0 0 100 2 30) (λ figures. figures .suc) ∷ [])
+    ∷ []
+
+-- C1's unit and prices with a date and an hour word
+abbrev pub answersOfHours : List (List Value)
+answersOfHours =
+    (plansOf (c1-word 1) c1-prices ++ (outcomeAt (c1-word 1) Starts ∷ outcomeAt (c1-word 1) Hours ∷ []))
+    ∷ plansOf (c1-on-word 2) c1-prices
+    ∷ plansOf (c1-word 0) c1-prices
     ∷ []

@@ -16,16 +16,16 @@ use Rattle.lists.proofs.Conjunctions.{both}
 use Rattle.optimality.specs.declared.Figures.{Figures}
 use Rattle.optimality.specs.declared.Cell.{Cell}
 use Rattle.commitment.specs.declared.BestProfit.the-variants.{Profit}
-use Rattle.optimality.specs.Machine.{after}
+use Rattle.optimality.specs.Machine.{Quarter, after}
 use Rattle.optimality.specs.Cells.{Sound, InTable, startPays, gain, mayRun, onCell, rungs, planAt, valueAt, offValue, onValue}
 use Rattle.optimality.proofs.Values.{no-earning}
 use Rattle.optimality.proofs.Turns.{off-turn, on-turn, some-turn, off-in-table, on-in-table}
 use Rattle.geometry.specs.Layers.{swing, Layer}
-use Rattle.layers.specs.Turns.{raised, offStored, roomFor, onStored, cellStored}
+use Rattle.layers.specs.Turns.{raised, offStored, roomFor, onStored, cellStored, quarterStored}
 use Rattle.table.specs.Reading.{firstOn, chosen, nextCell, Allowed}
 use Rattle.layers.proofs.Stretches.{last-or-before}
 use Rattle.layers.proofs.Raising.{raised-above, raised-reach}
-use Rattle.geometry.proofs.Holding.{offered, offers-best, offers-earning}
+use Rattle.geometry.proofs.Holding.{Offers, offered, offers-best, offers-earning}
 use Rattle.layers.proofs.Turning.{off-holds, on-is, on-offers}
 
 -- ---- the first that reaches
@@ -85,9 +85,9 @@ module _ (f : Figures) (stored : Cell → ℤ) (c : Cell) (price best : ℤ) whe
         (raised-reach (roomFor f stored c) (onStored f stored c price) (offStored f stored c) (f .pmin) (rungs f) k lo (omega arith) room)
 
     -- where off falls short the unit may run
-    pub must-run : ltZ (offStored f stored c) best ≡ true → mayRun f c ≡ true
+    open-runs : ltZ (offStored f stored c) best ≡ true → mayRun f c ≡ true
     unfolding cellStored
-    must-run short = by (mayRun f c) refl is
+    open-runs short = by (mayRun f c) refl is
       where
         by : (t : Bool) → mayRun f c ≡ t
             → cond t (raised (roomFor f stored c) (onStored f stored c price) (offStored f stored c) (f .pmin) (rungs f)) (offStored f stored c) ≡ best
@@ -98,107 +98,130 @@ module _ (f : Figures) (stored : Cell → ℤ) (c : Cell) (price best : ℤ) whe
 -- ---- the output read off
 
 -- what so many blocks make of a cell, where they are the plan's
-pub record Chosen (f : Figures) (ends : Cell → BestProfit) (price : ℤ) (prices : List ℤ) (c : Cell) (k : ℕ) : Type 0 where
+pub record Chosen (f : Figures) (ends : Cell → BestProfit) (q : Quarter) (quarters : List Quarter) (c : Cell) (k : ℕ) : Type 0 where
   pub inside : InTable f (nextCell f c k)
   pub allowed : Allowed f c k
   pub most : k ≤ f .pmax
   pub earns : ℤ
-  pub is : planAt f ends (price ∷ prices) c ≡ after (k * f .block) earns (planAt f ends prices (nextCell f c k))
+  pub is : planAt f ends (q ∷ quarters) c ≡ after (k * f .block) earns (planAt f ends quarters (nextCell f c k))
 
-module _ (f : Figures) (ok : Sound f) (price : ℤ) (small : natAbs price ≤ mostPrice) (ends : Cell → BestProfit) (prices : List ℤ)
-    (short : length prices < mostIntervals) (stored : Cell → ℤ)
-    (layer : Layer f ends prices stored) (c : Cell) (here : InTable f c) (best : ℤ) (is : cellStored f stored c price ≡ best)
-    (worth : valueAt f ends (price ∷ prices) c ≡ Profit best)
-    (bound : natAbs best ≤ suc (length prices) * swing) where
-  off-chosen : ltZ (offStored f stored c) best ≡ false → Chosen f ends price prices c 0
-  off-chosen e =
-      let i : offStored f stored c ≡ best = ≤ℤ-antisym (off-below f stored c price best is) (ltZ-false (offStored f stored c) best e) in
-      let h = offered (suc (length prices)) (offValue f (valueAt f ends prices) c) (offStored f stored c)
-      (off-holds f ok price small ends prices short stored layer c here) in
-      let v = offers-best (suc (length prices)) (offValue f (valueAt f ends prices) c) best short bound (rw i at h) in
-      let t = off-turn f ok ends price prices c best worth v in
+module _ (f : Figures) (ok : Sound f) (q : Quarter) (small : natAbs (q .price) ≤ mostPrice) (ends : Cell → BestProfit) (quarters : List Quarter)
+    (short : length quarters < mostIntervals) (stored : Cell → ℤ)
+    (layer : Layer f ends quarters stored) (c : Cell) (here : InTable f c) (best : ℤ)
+    (worth : valueAt f ends (q ∷ quarters) c ≡ Profit best)
+    (bound : natAbs best ≤ suc (length quarters) * swing) where
+  off-offers : Offers (suc (length quarters)) (offValue f (valueAt f ends quarters) c) (offStored f stored c)
+  off-offers =
+      offered (suc (length quarters)) (offValue f (valueAt f ends quarters) c) (offStored f stored c)
+      (off-holds f ok (q .price) small ends quarters short stored layer c here)
+
+  -- off, open or shut
+  off-chosen : offStored f stored c ≡ best → Chosen f ends q quarters c 0
+  off-chosen i =
+      let v = offers-best (suc (length quarters)) (offValue f (valueAt f ends quarters) c) best short bound (rw i at off-offers) in
+      let t = off-turn f ok ends q quarters c best worth v in
       record {
         inside = off-in-table f c here (t .leads);
         allowed = λ nay. absurd (nay refl);
         most = omega arith;
         earns = pos 0;
-        is = t .is ∙ ap (λ (m : ℕ). after m (pos 0) (planAt f ends prices (nextCell f c 0))) (sym (zero-mul (f .block)));
+        is = t .is ∙ ap (λ (m : ℕ). after m (pos 0) (planAt f ends quarters (nextCell f c 0))) (sym (zero-mul (f .block)));
       }
 
-  module _ (falls : ltZ (offStored f stored c) best ≡ true) where
+  module _ (opened : q .opens ≡ true) (is : cellStored f stored c (q .price) ≡ best) (falls : ltZ (offStored f stored c) best ≡ true) where
     may : mayRun f c ≡ true
-    may = must-run f stored c price best is falls
+    may = open-runs f stored c (q .price) best is falls
 
-    off-short : offValue f (valueAt f ends prices) c ≡ Profit best → ⊥
+    off-short : offValue f (valueAt f ends quarters) c ≡ Profit best → ⊥
     off-short v =
-        let h = offered (suc (length prices)) (offValue f (valueAt f ends prices) c) (offStored f stored c)
-        (off-holds f ok price small ends prices short stored layer c here) in
-        let i = offers-earning (suc (length prices)) (offValue f (valueAt f ends prices) c) (offStored f stored c) best h v in
+        let i = offers-earning (suc (length quarters)) (offValue f (valueAt f ends quarters) c) (offStored f stored c) best off-offers v in
         false≢true (sym (le-ltZ best best (≤ℤ-refl best)) ∙ (rw i at falls))
 
     -- an output meets the test exactly where it reaches the value
-    met : (k : ℕ) → f .pmin ≤ k → k ≤ f .pmax → meets f stored c price best k ≡ true → onValue f (valueAt f ends prices) c price k ≡ Profit best
+    met : (k : ℕ) → f .pmin ≤ k → k ≤ f .pmax → meets f stored c (q .price) best k ≡ true → onValue f (valueAt f ends quarters) c (q .price) k ≡ Profit best
     met k lo hi e =
-        let b = both (roomFor f stored c k) (not (ltZ (onStored f stored c price k) best)) e in
-        let l = ltZ-false (onStored f stored c price k) best (not-true′ (ltZ (onStored f stored c price k) best) (b .1)) in
-        let i : onStored f stored c price k ≡ best = ≤ℤ-antisym (on-below f stored c price best is may k lo hi (b .0)) l in
-        let h = on-offers f ok price small ends prices short stored layer c here may k hi (b .0) in
-        offers-best (suc (length prices)) (onValue f (valueAt f ends prices) c price k) best short bound (rw i at h)
+        let b = both (roomFor f stored c k) (not (ltZ (onStored f stored c (q .price) k) best)) e in
+        let l = ltZ-false (onStored f stored c (q .price) k) best (not-true′ (ltZ (onStored f stored c (q .price) k) best) (b .1)) in
+        let i : onStored f stored c (q .price) k ≡ best = ≤ℤ-antisym (on-below f stored c (q .price) best is may k lo hi (b .0)) l in
+        let h = on-offers f ok (q .price) small ends quarters short stored layer c here may k hi (b .0) in
+        offers-best (suc (length quarters)) (onValue f (valueAt f ends quarters) c (q .price) k) best short bound (rw i at h)
       where
         not-true′ : (t : Bool) → not t ≡ true → t ≡ false
         not-true′ true e = absurd (false≢true e)
         not-true′ false e = refl
 
-    unmet : (k : ℕ) → k ≤ f .pmax → meets f stored c price best k ≡ false → onValue f (valueAt f ends prices) c price k ≡ Profit best → ⊥
+    unmet : (k : ℕ) → k ≤ f .pmax → meets f stored c (q .price) best k ≡ false → onValue f (valueAt f ends quarters) c (q .price) k ≡ Profit best → ⊥
     unmet k hi e v = by (roomFor f stored c k) refl
       where
         by : (t : Bool) → roomFor f stored c k ≡ t → ⊥
-        by false r = no-earning (sym (on-is f ok price small ends prices short stored layer c here may k false r) ∙ v)
+        by false r = no-earning (sym (on-is f ok (q .price) small ends quarters short stored layer c here may k false r) ∙ v)
         by true r =
-            let i = offers-earning (suc (length prices)) (onValue f (valueAt f ends prices) c price k) (onStored f stored c price k) best
-            (on-offers f ok price small ends prices short stored layer c here may k hi r) v in
-            let m : meets f stored c price best k ≡ true = rw (r, i, le-ltZ best best (≤ℤ-refl best)) in
+            let i = offers-earning (suc (length quarters)) (onValue f (valueAt f ends quarters) c (q .price) k) (onStored f stored c (q .price) k) best
+            (on-offers f ok (q .price) small ends quarters short stored layer c here may k hi r) v in
+            let m : meets f stored c (q .price) best k ≡ true = rw (r, i, le-ltZ best best (≤ℤ-refl best)) in
             true≢false (sym m ∙ e)
 
     record Found : Type 0 where
       at : ℕ
       low : f .pmin ≤ at
       high : at ≤ f .pmax
-      passed : (j : ℕ) → f .pmin ≤ j → j < at → meets f stored c price best j ≡ false
-      meeting : meets f stored c price best at ≡ true
+      passed : (j : ℕ) → f .pmin ≤ j → j < at → meets f stored c (q .price) best j ≡ false
+      meeting : meets f stored c (q .price) best at ≡ true
 
-    found : (n k : ℕ) → k + n ≡ suc (f .pmax) → f .pmin ≤ k → ((j : ℕ) → f .pmin ≤ j → j < k → meets f stored c price best j ≡ false) → Found
+    found : (n k : ℕ) → k + n ≡ suc (f .pmax) → f .pmin ≤ k → ((j : ℕ) → f .pmin ≤ j → j < k → meets f stored c (q .price) best j ≡ false) → Found
     found zero k e lo passed =
-        absurd (some-turn f ok ends price prices c best worth off-short (λ j l h. unmet j h (passed j l (omega arith))))
-    found (suc n) k e lo passed = by (λ more. found n (suc k) (omega arith) (omega arith) more) (meets f stored c price best k) refl
+        absurd (some-turn f ok ends q quarters c best worth opened off-short (λ j l h. unmet j h (passed j l (omega arith))))
+    found (suc n) k e lo passed = by (λ more. found n (suc k) (omega arith) (omega arith) more) (meets f stored c (q .price) best k) refl
       where
-        by : (((j : ℕ) → f .pmin ≤ j → j < suc k → meets f stored c price best j ≡ false) → Found) → (t : Bool) → meets f stored c price best k ≡ t → Found
+        by : (((j : ℕ) → f .pmin ≤ j → j < suc k → meets f stored c (q .price) best j ≡ false) → Found) → (t : Bool) → meets f stored c (q .price) best k ≡ t → Found
         by later true m = record { at = k; low = lo; high = omega arith; passed = passed; meeting = m }
         by later false m = later (λ j l h. ⊎-elim (λ (i : j ≡ k). rw i m) (λ (i : j < k). passed j l i) (last-or-before j k (omega arith)))
 
-    on-chosen : Chosen f ends price prices c (firstOn f stored c price best (f .pmin) (rungs f))
+    on-chosen : Chosen f ends q quarters c (firstOn f stored c (q .price) best (f .pmin) (rungs f))
     on-chosen =
         let r = found (rungs f) (f .pmin) (omega (arith, ok .pmax)) (omega arith) (λ j l h. absurd (omega arith)) in
-        subst (Chosen f ends price prices c) (sym (first-at f stored c price best (r .at) (r .low) (r .high) (r .passed) (r .meeting))) (made (r .at) r refl)
+        subst (Chosen f ends q quarters c) (sym (first-at f stored c (q .price) best (r .at) (r .low) (r .high) (r .passed) (r .meeting))) (made (r .at) r refl)
       where
-        made : (k : ℕ) → (r : Found) → r .at ≡ k → Chosen f ends price prices c (r .at)
+        made : (k : ℕ) → (r : Found) → r .at ≡ k → Chosen f ends q quarters c (r .at)
         made zero r e = absurd (omega (arith, r .low, ok .pmin))
         made (suc k) r e =
-            let t = on-turn f ok ends price prices c best worth off-short (r .at) (r .low) (r .high)
+            let t = on-turn f ok ends q quarters c best worth opened off-short (r .at) (r .low) (r .high)
             (λ j l h. unmet j (omega (arith, r .high)) (r .passed j l h)) (met (r .at) (r .low) (r .high) (r .meeting)) in
             let n : nextCell f c (r .at) ≡ onCell f c (r .at) = rw e in
             record {
               inside = rw n (on-in-table f c (r .at) here (t .leads));
               allowed = λ nay. (t .starts, t .ons, t .blocks);
               most = r .high;
-              earns = gain f price (r .at) -ℤ pos (startPays f (c .state));
+              earns = gain f (q .price) (r .at) -ℤ pos (startPays f (c .state));
               is = rw n (t .is);
             }
 
-  pub chosen-is : Chosen f ends price prices c (chosen f stored c price best)
+  open-chosen : q .opens ≡ true → cellStored f stored c (q .price) ≡ best → Chosen f ends q quarters c (chosen f stored c (q .price) best)
   unfolding chosen
-  chosen-is = by (ltZ (offStored f stored c) best) refl
+  open-chosen opened is = by (ltZ (offStored f stored c) best) refl
     where
-      by : (t : Bool) → ltZ (offStored f stored c) best ≡ t → Chosen f ends price prices c (cond t (firstOn f stored c price best (f .pmin) (rungs f)) 0)
-      by true e = on-chosen e
-      by false e = off-chosen e
+      by : (t : Bool) → ltZ (offStored f stored c) best ≡ t
+          → Chosen f ends q quarters c (cond t (firstOn f stored c (q .price) best (f .pmin) (rungs f)) 0)
+      by true e = on-chosen opened is e
+      by false e = off-chosen (≤ℤ-antisym (off-below f stored c (q .price) best is) (ltZ-false (offStored f stored c) best e))
+
+  shut-chosen : offStored f stored c ≡ best → Chosen f ends q quarters c (chosen f stored c (q .price) best)
+  unfolding chosen
+  shut-chosen i = rw (i, le-ltZ best best (≤ℤ-refl best)) (off-chosen i)
+
+  pub chosen-is : quarterStored f stored c q ≡ best → Chosen f ends q quarters c (chosen f stored c (q .price) best)
+  chosen-is is = by (q .opens) refl is
+    where
+      by : (t : Bool) → q .opens ≡ t → cond t (cellStored f stored c (q .price)) (offStored f stored c) ≡ best
+          → Chosen f ends q quarters c (chosen f stored c (q .price) best)
+      by true opened is = open-chosen opened is
+      by false shut is = shut-chosen is
+
+-- where off falls short the quarter is open, and the unit may run
+pub must-run : (f : Figures) (stored : Cell → ℤ) (c : Cell) (q : Quarter) (best : ℤ) → quarterStored f stored c q ≡ best
+    → ltZ (offStored f stored c) best ≡ true → mayRun f c ≡ true
+must-run f stored c q best is short = by (q .opens) is
+  where
+    by : (t : Bool) → cond t (cellStored f stored c (q .price)) (offStored f stored c) ≡ best → mayRun f c ≡ true
+    by true is = open-runs f stored c (q .price) best is short
+    by false is = absurd (false≢true (sym (le-ltZ best best (≤ℤ-refl best)) ∙ (rw is at short)))

@@ -1,17 +1,19 @@
 -- The output that is read off a cell, by the numbers that the cells of the next layer hold, and the schedule of a plan.
 use mathlib.Core.Path.{_≡_}
 use mathlib.Core.Bool.{Bool, cond, not, _&&_}
-use mathlib.Core.List.{List, [], _++_}
+use mathlib.Core.List.{List, [], _++_, map}
 use Prim.Native.Nat.{ℕ, zero, suc, _+_, _-_, _*_, _≤_}
 use lib.Dec.{leb}
 use lib.IntN.{ℤ, pos, _+ℤ_}
 use lib.ListN.{length, getD, drop}
 use lib.Signed.{ltZ}
+use Rattle.commitment.specs.declared.BestProfit.the-variants.{Nothing}
 use Rattle.commitment.specs.Best.{Plan, nothing, plan}
+use Rattle.geometry.specs.Layers.{Filled}
 use Rattle.optimality.specs.declared.Figures.{Figures}
 use Rattle.optimality.specs.declared.Cell.{Cell}
-use Rattle.optimality.specs.Machine.{anywhere}
-use Rattle.optimality.specs.Cells.{startTakes, offCell, onCell, rungs, planAt}
+use Rattle.optimality.specs.Machine.{Quarter, anywhere}
+use Rattle.optimality.specs.Cells.{startTakes, offCell, onCell, rungs, planAt, valueAt}
 use Rattle.layers.specs.Turns.{net, offStored, roomFor, onStored}
 
 module _ (f : Figures) (stored : Cell → ℤ) (c : Cell) where
@@ -42,6 +44,14 @@ abbrev pub scheduleOf : Plan → List ℕ
 scheduleOf nothing = []
 scheduleOf (plan s p) = s
 
+-- a table that is filled for quarters of these prices, whichever of them are open, and a cell that has a plan
+pub record PlanFrom (f : Figures) (prices cells : List ℤ) (from : Cell) (quarters : List Quarter) : Type 0 where
+  pub priced : map (λ (q : Quarter). q .price) quarters ≡ prices
+  pub filled : Filled f anywhere quarters cells
+  pub some : valueAt f anywhere quarters from ≡ Nothing → ⊥
+
 -- the best plan from a cell stands in the schedule's front, and the rest is as it was
-abbrev pub ReadOff : Figures → List ℤ → Cell → List ℕ → List ℕ → Type 0
-ReadOff f prices from was schedule = schedule ≡ scheduleOf (planAt f anywhere prices from) ++ drop (length prices) was
+abbrev pub ReadOff : Figures → List ℤ → List ℤ → Cell → List ℕ → List ℕ → Type 0
+ReadOff f prices cells from was schedule =
+    (quarters : List Quarter) → PlanFrom f prices cells from quarters
+    → schedule ≡ scheduleOf (planAt f anywhere quarters from) ++ drop (length quarters) was

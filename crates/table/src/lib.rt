@@ -9,13 +9,13 @@ use optimality::Figures;
 ghost use mathlib.Core.Path.{_≡_};
 ghost use Prim.Native.Nat.{_≤_};
 ghost use lib.ListN.{length};
-ghost use Rattle.optimality.specs.Machine.{anywhere};
-ghost use Rattle.commitment.specs.declared.BestProfit.the-variants.{Nothing};
-ghost use Rattle.optimality.specs.Cells.{InTable, valueAt, Sound};
+ghost use mathlib.Core.List.{List};
+ghost use Rattle.optimality.specs.Machine.{Quarter};
+ghost use Rattle.optimality.specs.Cells.{InTable, Sound};
 ghost use Rattle.geometry.specs.Geometry.{width};
-ghost use Rattle.geometry.specs.Layers.{Filled, Room, told, inFront};
+ghost use Rattle.geometry.specs.Layers.{Room, told, inFront};
 ghost use Rattle.commitment.specs.Ranges.{Priced};
-ghost use Rattle.table.specs.Reading.{ReadOff};
+ghost use Rattle.table.specs.Reading.{PlanFrom, ReadOff};
 
 // The best profit that a cell of the first layer tells.
 pub fn best_at(scratch: &[i64], f: Figures, at: Cell) -> BestProfit
@@ -36,11 +36,10 @@ pub fn read_off(
     schedule: &mut [u64],
 )
     requires { ⌜ (Room f (length (now prices)) (length (now scratch))) × (w ≡ width f) × (Priced (now prices)) ⌝ }
-    requires { ⌜ Filled f anywhere (now prices) (now scratch) ⌝ }
+    requires { ⌜ ((quarters : List Quarter) × PlanFrom f (now prices) (now scratch) from quarters) ⌝ }
     requires { ⌜ InTable f from ⌝ }
     requires { ⌜ length (now prices) ≤ length (now schedule) ⌝ }
-    requires { ⌜ (valueAt f anywhere (now prices) from ≡ Nothing → ⊥) ⌝ }
-    ensures { λ _. ⌜ ReadOff f (now (prices .entry)) from (now (schedule .entry)) (now (schedule .exit)) ⌝ }
+    ensures { λ _. ⌜ ReadOff f (now (prices .entry)) (now (scratch .entry)) from (now (schedule .entry)) (now (schedule .exit)) ⌝ }
 {
     let n = prices.len();
     let mut at = 0;

@@ -85,7 +85,7 @@ fn values_in(line: &[u8]) -> usize
 }
 
 // A name stands in a line at least so often, and at most once.
-fn stands(least: usize, line: &[u8], name: &[u8]) -> bool
+pub fn stands(least: usize, line: &[u8], name: &[u8]) -> bool
     ensures { λ r. ⌜ r ≡ standing least (fieldsOf (now (line .entry))) (now (name .entry)) ⌝ }
 {
     let times = walking::count(Pieces::Fields, Counted::Alike, line, name);

@@ -1,8 +1,10 @@
 // The enumerator beside the calls, on one small case.
 
 use crate::enumerator;
+use crate::enumerator::Allowed;
 use crate::enumerator::Cap;
 use crate::enumerator::Case;
+use crate::enumerator::ROOM;
 use crate::enumerator::Which;
 use crate::enumerator::Worth;
 use crate::numbers::difference;
@@ -11,6 +13,7 @@ use crate::numbers::wide8;
 use crate::numbers::wide16;
 use crate::numbers::wide32;
 use assessment::Assessed;
+use calendar::Date;
 use commitment::Costs;
 use commitment::Generator;
 use commitment::Limit;
@@ -18,7 +21,9 @@ use commitment::Limits;
 use commitment::Opening;
 use commitment::Outcome;
 use commitment::Outcomes;
+use commitment::Permit;
 use commitment::UnitRecord;
+use commitment::Window;
 use planner::Planned;
 use planner::Reported;
 use planner::Valued;
@@ -27,12 +32,13 @@ ghost use Rattle.trials.specs.Expecting.{ExpectedOf};
 // What no output of a small case is: entries that a call leaves as they were still hold it.
 const UNTOUCHED: u64 = 7777;
 
-// What the enumerator says of a case.
+// What the enumerator says of a case: a plan, or 9 or 12.
 pub struct Expected {
     pub planned: bool,
+    pub refusal: u64,
     pub tied: bool,
     pub profit: i64,
-    pub schedule: [u64; 6],
+    pub schedule: [u64; ROOM],
     pub starts: Worth,
     pub hours: Worth,
     pub mwh: Worth,
@@ -53,9 +59,10 @@ pub fn expected_of(case: Case) -> Expected
     if !best.any {
         return Expected {
             planned: false,
+            refusal: refusal_of(case, 9),
             tied: false,
             profit: 0,
-            schedule: [UNTOUCHED; 6],
+            schedule: [UNTOUCHED; ROOM],
             starts: Worth::None,
             hours: Worth::None,
             mwh: Worth::None,
@@ -63,6 +70,7 @@ pub fn expected_of(case: Case) -> Expected
     }
     Expected {
         planned: true,
+        refusal: 0,
         tied: best.tied,
         profit: enumerator::profit_of(best),
         schedule: schedule_of(case, best.number),
@@ -72,11 +80,19 @@ pub fn expected_of(case: Case) -> Expected
     }
 }
 
+// The number of the call's refusal, or 12 where the date does not exist.
+fn refusal_of(case: Case, number: u64) -> u64 {
+    if enumerator::date_exists(case) {
+        return number;
+    }
+    12
+}
+
 // The list in the front of a slice that was lent.
-fn schedule_of(case: Case, number: u64) -> [u64; 6] {
+fn schedule_of(case: Case, number: u64) -> [u64; ROOM] {
     let list = enumerator::list_of(case, number);
     let n = enumerator::intervals_of(case);
-    let mut schedule = [UNTOUCHED; 6];
+    let mut schedule = [UNTOUCHED; ROOM];
     let mut i = 0;
     while i < n {
         schedule[i] = wide32(list[i]);
@@ -111,6 +127,7 @@ fn unit_of(case: Case) -> UnitRecord {
     let starts = case.starts;
     let hours = case.hours;
     let mwh = case.mwh;
+    let allowed = case.allowed;
     UnitRecord {
         generator: Generator {
             block: wide8(case.block),
@@ -133,7 +150,22 @@ fn unit_of(case: Case) -> UnitRecord {
             hours: limit_of(hours),
             mwh: limit_of(mwh),
         },
+        permit: permit_of(allowed),
     }
+}
+
+fn permit_of(allowed: Allowed) -> Permit {
+    if !allowed.given {
+        return Permit::AnyHour;
+    }
+    Permit::Within(Window {
+        date: Date {
+            year: wide16(allowed.year),
+            month: wide8(allowed.month),
+            day: wide8(allowed.day),
+        },
+        word: wide32(allowed.word),
+    })
 }
 
 fn limit_of(cap: Cap) -> Limit {
@@ -143,12 +175,12 @@ fn limit_of(cap: Cap) -> Limit {
     Limit::None
 }
 
-fn prices_of(case: Case) -> [i64; 6] {
+fn prices_of(case: Case) -> [i64; ROOM] {
     let up = case.up;
     let down = wide16(case.down);
-    let mut prices = [0i64; 6];
+    let mut prices = [0i64; ROOM];
     let mut i = 0;
-    while i < 6 {
+    while i < ROOM {
         prices[i] = difference(wide16(up[i]), down);
         i += 1;
     }
@@ -157,15 +189,21 @@ fn prices_of(case: Case) -> [i64; 6] {
 
 // ---- one call each
 
-fn same_plan(unit: UnitRecord, prices: &[i64], expected: Expected, scratch: &mut [i64]) -> bool {
-    let mut schedule = [UNTOUCHED; 6];
+pub fn same_plan(
+    unit: UnitRecord,
+    prices: &[i64],
+    expected: Expected,
+    scratch: &mut [i64],
+) -> bool {
+    let mut schedule = [UNTOUCHED; ROOM];
     let answer = planner::plan_into(unit, prices, scratch, &mut schedule);
     plan_agrees(answer, prices.len(), expected) & same_entries(&schedule, expected)
 }
 
 fn plan_agrees(answer: Planned, intervals: usize, expected: Expected) -> bool {
     match answer {
-        Planned::Refused(cause) => !expected.planned & (commitment::number_of(cause) == 9),
+        Planned::Refused(cause) => !expected.planned
+            & (commitment::number_of(cause) == expected.refusal),
         Planned::Plan { count, profit } => {
             expected.planned & (count == intervals) & (profit == expected.profit)
         }
@@ -174,20 +212,22 @@ fn plan_agrees(answer: Planned, intervals: usize, expected: Expected) -> bool {
 
 fn same_value(unit: UnitRecord, prices: &[i64], expected: Expected, scratch: &mut [i64]) -> bool {
     match planner::value(unit, prices, scratch) {
-        Valued::Refused(cause) => !expected.planned & (commitment::number_of(cause) == 9),
+        Valued::Refused(cause) => !expected.planned
+            & (commitment::number_of(cause) == expected.refusal),
         Valued::Outcomes(outcomes) => expected.planned & same_outcomes(outcomes, expected),
     }
 }
 
 fn same_report(unit: UnitRecord, prices: &[i64], expected: Expected, scratch: &mut [i64]) -> bool {
-    let mut schedule = [UNTOUCHED; 6];
+    let mut schedule = [UNTOUCHED; ROOM];
     let answer = planner::report_into(unit, prices, scratch, &mut schedule);
     report_agrees(answer, prices.len(), expected) & same_entries(&schedule, expected)
 }
 
 fn report_agrees(answer: Reported, intervals: usize, expected: Expected) -> bool {
     match answer {
-        Reported::Refused(cause) => !expected.planned & (commitment::number_of(cause) == 9),
+        Reported::Refused(cause) => !expected.planned
+            & (commitment::number_of(cause) == expected.refusal),
         Reported::Report(report) => {
             let outcomes = report.outcomes;
             expected.planned
@@ -198,7 +238,7 @@ fn report_agrees(answer: Reported, intervals: usize, expected: Expected) -> bool
     }
 }
 
-// Every list handed in, kept or not: it is passed with its profit, or refused with 10.
+// Every list handed in, kept or not: it is passed with its profit, or refused with 10, or with 12 where the date does not exist.
 fn same_profits(case: Case, unit: UnitRecord, prices: &[i64]) -> bool {
     let lists = enumerator::lists_of(case);
     let mut number = 0;
@@ -215,16 +255,17 @@ fn same_profit(case: Case, unit: UnitRecord, prices: &[i64], number: u64) -> boo
     let n = enumerator::intervals_of(case);
     let schedule = schedule_of(case, number);
     let judged = enumerator::judged(case, number);
+    let refusal = refusal_of(case, 10);
     match assessment::assess(unit, prices, &schedule[..n]) {
-        Assessed::Refused(cause) => !judged.any & (commitment::number_of(cause) == 10),
+        Assessed::Refused(cause) => !judged.any & (commitment::number_of(cause) == refusal),
         Assessed::Profit(profit) => judged.any & (profit == enumerator::profit_of(judged)),
     }
 }
 
-fn same_entries(schedule: &[u64; 6], expected: Expected) -> bool {
+fn same_entries(schedule: &[u64; ROOM], expected: Expected) -> bool {
     let wanted = expected.schedule;
     let mut i = 0;
-    while i < 6 {
+    while i < ROOM {
         if schedule[i] != wanted[i] {
             return false;
         }

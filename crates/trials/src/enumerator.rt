@@ -9,12 +9,26 @@ use crate::numbers::wide16;
 use crate::numbers::wide32;
 ghost use mathlib.Core.Path.{_≡_};
 ghost use Prim.Native.Nat.{_+_, _*_, _/_, _<_, _≤_, _^_};
-ghost use Rattle.trials.specs.Expecting.{Summed, OneMore, capOf, earnings, WorthOf};
+ghost use Rattle.trials.specs.Expecting.{room, mostOutputs, Summed, OneMore, capOf, earnings, WorthOf};
+
+// The intervals that a list has room for, so that the third hour of the day is reached, and the outputs of an interval. specs/Expecting.antt has the same.
+pub const ROOM: usize = 9;
+
+const MOST_OUTPUTS: u64 = 64;
 
 // A limitation: at most so much, where it is limited.
 pub struct Cap {
     pub limited: bool,
     pub most: u32,
+}
+
+// The permitted hours, where they are given: the date whose midnight opens interval 1, and the word whose bit h allows clock hour h.
+pub struct Allowed {
+    pub given: bool,
+    pub year: u16,
+    pub month: u8,
+    pub day: u8,
+    pub word: u32,
 }
 
 // A case in plain numbers. The price of interval i + 1 is up[i] − down.
@@ -33,7 +47,8 @@ pub struct Case {
     pub starts: Cap,
     pub hours: Cap,
     pub mwh: Cap,
-    pub up: [u16; 6],
+    pub allowed: Allowed,
+    pub up: [u16; ROOM],
     pub down: u16,
 }
 
@@ -74,29 +89,34 @@ pub enum Worth {
 
 // The lists have room for so many intervals.
 pub fn intervals_of(case: Case) -> usize
-    ensures { λ r. ⌜ r ≤ 6 ⌝ }
+    ensures { λ r. ⌜ r ≤ room ⌝ }
 {
-    if 6 < case.intervals {
-        return 6;
+    let n = case.intervals as usize;
+    if ROOM < n {
+        return ROOM;
     }
-    case.intervals as usize
+    n
 }
 
 // Off, or pmin to pmax blocks.
 fn outputs_of(case: Case) -> u64
-    ensures { λ r. ⌜ (1 ≤ r) × (r ≤ 2 ^ 9) ⌝ }
+    ensures { λ r. ⌜ (1 ≤ r) × (r ≤ mostOutputs) ⌝ }
 {
     let low = wide8(case.pmin);
     let high = wide8(case.pmax);
     if high < low {
         return 1;
     }
-    high - low + 2
+    let outputs = high - low + 2;
+    if MOST_OUTPUTS < outputs {
+        return MOST_OUTPUTS;
+    }
+    outputs
 }
 
 // Output 0 is off, output 1 is pmin × block, and so on up.
 fn output_of(case: Case, choice: u64) -> u64
-    requires { ⌜ choice < 2 ^ 9 ⌝ }
+    requires { ⌜ choice < mostOutputs ⌝ }
     ensures { λ r. ⌜ r < 2 ^ 32 ⌝ }
 {
     if choice == 0 {
@@ -119,9 +139,9 @@ pub fn lists_of(case: Case) -> u64 {
 }
 
 // The number's digits, the first interval's the most significant: counting up goes by the order of schedules.
-pub fn list_of(case: Case, number: u64) -> [u32; 6] {
+pub fn list_of(case: Case, number: u64) -> [u32; ROOM] {
     let outputs = outputs_of(case);
-    let mut list = [0u32; 6];
+    let mut list = [0u32; ROOM];
     let mut rest = number;
     let mut i = intervals_of(case);
     while 0 < i {
@@ -135,8 +155,8 @@ pub fn list_of(case: Case, number: u64) -> [u32; 6] {
 // ---- keeping the case (specification 5), by the times and by the limitations
 
 // Every spell on, or every spell off, that the other state ends lasts at least so many intervals, those before interval 1 included.
-fn spells_last(n: usize, list: [u32; 6], on: bool, before: u64, least: u64) -> bool
-    requires { ⌜ (n ≤ 6) × (before < 2 ^ 8) ⌝ }
+fn spells_last(n: usize, list: [u32; ROOM], on: bool, before: u64, least: u64) -> bool
+    requires { ⌜ (n ≤ room) × (before < 2 ^ 8) ⌝ }
 {
     let mut spell = before;
     let mut i = 0;
@@ -177,7 +197,7 @@ fn within(cap: Cap, unit: u64, count: u64) -> bool
     !cap.limited | (count <= times(wide32(cap.most), unit))
 }
 
-fn times_kept(case: Case, list: [u32; 6]) -> bool {
+fn times_kept(case: Case, list: [u32; ROOM]) -> bool {
     let n = intervals_of(case);
     let mot = wide8(case.mot);
     let mdt = wide8(case.mdt);
@@ -186,7 +206,7 @@ fn times_kept(case: Case, list: [u32; 6]) -> bool {
 }
 
 fn limits_kept(case: Case, sums: Sums) -> bool
-    requires { ⌜ Summed 6 sums ⌝ }
+    requires { ⌜ Summed room sums ⌝ }
 {
     let starts = case.starts;
     let hours = case.hours;
@@ -194,10 +214,91 @@ fn limits_kept(case: Case, sums: Sums) -> bool
     within(starts, 1, sums.starts) & within(hours, 4, sums.running) & within(mwh, 4, sums.output)
 }
 
+// ---- the permitted hours
+
+// Off in each interval whose clock hour is not allowed.
+fn hours_kept(case: Case, list: [u32; ROOM]) -> bool {
+    let n = intervals_of(case);
+    let allowed = case.allowed;
+    if !allowed.given {
+        return true;
+    }
+    let mut i = 0;
+    while i < n {
+        if 0 < list[i] {
+            if !may_run(allowed, (i / 4) as u64) {
+                return false;
+            }
+        }
+        i += 1;
+    }
+    true
+}
+
+fn may_run(allowed: Allowed, passed: u64) -> bool
+    requires { ⌜ passed < 20 ⌝ }
+{
+    let hour = hour_after(allowed, passed);
+    (wide32(allowed.word) >> hour) % 2 == 1
+}
+
+// From midnight on the hours are 0 and 1, and then 2; on one Sunday of March 3 comes after 1, on one of November 1 again.
+fn hour_after(allowed: Allowed, passed: u64) -> u64
+    requires { ⌜ passed < 20 ⌝ }
+    ensures { λ r. ⌜ r < 24 ⌝ }
+{
+    if passed < 2 {
+        return passed;
+    }
+    if goes_forward(allowed) {
+        return passed + 1;
+    }
+    if goes_back(allowed) {
+        return passed - 1;
+    }
+    passed
+}
+
+// The second Sunday of March.
+pub fn goes_forward(allowed: Allowed) -> bool {
+    (allowed.month == 3) & (7 < allowed.day) & (allowed.day < 15) & is_sunday(allowed)
+}
+
+// The first Sunday of November.
+pub fn goes_back(allowed: Allowed) -> bool {
+    (allowed.month == 11) & (allowed.day < 8) & is_sunday(allowed)
+}
+
+// Zeller's congruence, for a year from 2000 to 2099 and a month from March on.
+fn is_sunday(allowed: Allowed) -> bool {
+    let year = wide16(allowed.year) % 100;
+    let month = wide8(allowed.month);
+    (wide8(allowed.day) + 13 * (month + 1) / 5 + year + year / 4) % 7 == 1
+}
+
+// A date that is given is one of its month.
+pub fn date_exists(case: Case) -> bool {
+    let allowed = case.allowed;
+    !allowed.given | (wide8(allowed.day) <= days_of(allowed))
+}
+
+// From 2004 to 2096 every fourth year is leap.
+fn days_of(allowed: Allowed) -> u64 {
+    let month = allowed.month;
+    match month {
+        2 => 28 + one_if(allowed.year % 4 == 0),
+        4 => 30,
+        6 => 30,
+        9 => 30,
+        11 => 30,
+        _ => 31,
+    }
+}
+
 // ---- what a list adds up to: the counts of the limitations, and formula 7
 
-fn sums_of(case: Case, list: [u32; 6]) -> Sums
-    ensures { λ r. ⌜ Summed 6 r ⌝ }
+fn sums_of(case: Case, list: [u32; ROOM]) -> Sums
+    ensures { λ r. ⌜ Summed room r ⌝ }
 {
     let n = intervals_of(case);
     let mut sums = nothing_yet(case.was_on);
@@ -225,7 +326,7 @@ fn nothing_yet(was_on: bool) -> Sums
 
 // An interval on after one that is off is a start.
 fn with_interval(case: Case, sums: Sums, output: u64, price: u64) -> Sums
-    requires { ⌜ Summed 6 sums × (output < 2 ^ 32) × (price < 2 ^ 16) ⌝ }
+    requires { ⌜ Summed room sums × (output < 2 ^ 32) × (price < 2 ^ 16) ⌝ }
     ensures { λ r. ⌜ OneMore sums r ⌝ }
 {
     let on = 0 < output;
@@ -269,8 +370,11 @@ pub fn judged(case: Case, number: u64) -> Found
     ensures { λ r. ⌜ (r .earned < 2 ^ 60) × (r .spent < 2 ^ 60) ⌝ }
 {
     let list = list_of(case, number);
+    if !(date_exists(case) & times_kept(case, list) & hours_kept(case, list)) {
+        return nothing();
+    }
     let sums = sums_of(case, list);
-    if !(times_kept(case, list) & limits_kept(case, sums)) {
+    if !limits_kept(case, sums) {
         return nothing();
     }
     Found {

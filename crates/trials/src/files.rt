@@ -6,8 +6,10 @@ use crate::printing::line;
 use crate::printing::text;
 use assessment::Assessed;
 use commitment::Outcomes;
+use commitment::Permit;
 use commitment::UnitRecord;
 use libc::STDOUT_FILENO;
+use listing::HourWord;
 use planner::Valued;
 ghost use Rattle.io.specs.Counts.{Counts};
 
@@ -78,20 +80,34 @@ fn try_plan(unit: UnitRecord, prices: &[i64], outcomes: Outcomes) {
         &mut number,
         &mut profit,
     );
-    planned(&plan[..], profit, outcomes);
+    let permit = unit.permit;
+    planned(&plan[..], profit, outcomes, word_of(permit));
     hand_in(unit, prices, &plan[..], profit);
 }
 
-fn planned(schedule: &[u64], profit: i64, outcomes: Outcomes) {
+fn word_of(permit: Permit) -> HourWord {
+    match permit {
+        Permit::AnyHour => HourWord::None,
+        Permit::Within(window) => HourWord::Word(window.word),
+    }
+}
+
+fn planned(schedule: &[u64], profit: i64, outcomes: Outcomes, word: HourWord) {
     let mut out = [0u8; 32768];
-    let bytes = put_listing(schedule, profit, outcomes, &mut out);
+    let bytes = put_listing(schedule, profit, outcomes, word, &mut out);
     io::write_all(STDOUT_FILENO, &out[..bytes]);
 }
 
-fn put_listing(schedule: &[u64], profit: i64, outcomes: Outcomes, out: &mut [u8]) -> usize
+fn put_listing(
+    schedule: &[u64],
+    profit: i64,
+    outcomes: Outcomes,
+    word: HourWord,
+    out: &mut [u8],
+) -> usize
     ensures { λ r. ⌜ Counts r (now (out .exit)) ⌝ }
 {
-    listing::bytes_in(listing::write_listing(schedule, profit, outcomes, out))
+    listing::bytes_in(listing::write_listing(schedule, profit, outcomes, word, out))
 }
 
 fn refused(number: u64) {

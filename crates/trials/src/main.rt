@@ -1,6 +1,7 @@
 // The planner, the reader and the other calls, tried on files and beside a simple enumerator.
 
 mod bids;
+mod clock;
 mod comparison;
 mod enumerator;
 mod figures;
@@ -10,24 +11,33 @@ mod numbers;
 mod others;
 mod printing;
 mod tally;
+mod texts;
 
+use comparison::Expected;
 use comparison::agreed_on;
 use comparison::expected_of;
+use enumerator::Case;
 use generator::case_of;
+use generator::dated_case_of;
 use generator::draws_from;
 use tally::Tally;
 
 const CASES: u64 = 4096;
 
+const DATED_CASES: u64 = 512;
+
 fn main() {
     files::try_texts();
     others::try_others();
+    clock::try_clock();
     figures::try_figures();
     bids::try_bids();
-    let mut scratch = [0i64; 16384];
+    let mut scratch = [0i64; 32768];
     generated(&mut scratch);
+    dated(&mut scratch);
 }
 
+// A case without hours takes 24 draws; the next one goes on from there.
 fn generated(scratch: &mut [i64]) {
     let mut counts = tally::nothing();
     let mut seed = 1;
@@ -35,17 +45,39 @@ fn generated(scratch: &mut [i64]) {
     while number < CASES {
         let draws = draws_from(seed);
         seed = draws[23];
-        counts = tried(counts, number, draws, &mut *scratch);
+        let case = case_of(number, draws);
+        counts = tried(counts, number, case, expected_of(case), &mut *scratch);
         number += 1;
     }
     tally::print(counts);
 }
 
-fn tried(counts: Tally, number: u64, draws: [u32; 24], scratch: &mut [i64]) -> Tally {
-    let case = case_of(number, draws);
-    let expected = expected_of(case);
+// Cases with permitted hours, in a part of their own, and their texts.
+fn dated(scratch: &mut [i64]) {
+    let mut counts = tally::nothing();
+    let mut seed = 2;
+    let mut number = 0;
+    while number < DATED_CASES {
+        let draws = draws_from(seed);
+        seed = draws[31];
+        let case = dated_case_of(number, draws);
+        let expected = expected_of(case);
+        counts = tried(counts, number, case, expected, &mut *scratch);
+        counts = read(counts, number, case, expected, &mut *scratch);
+        number += 1;
+    }
+    tally::print_dates(counts);
+    tally::print(counts);
+}
+
+fn tried(counts: Tally, number: u64, case: Case, expected: Expected, scratch: &mut [i64]) -> Tally {
     let agreed = agreed_on(case, expected, scratch);
     let with_case = tally::with_case(counts, case);
     let with_expected = tally::with_expected(with_case, expected);
     tally::with_agreed(with_expected, number, agreed)
+}
+
+fn read(counts: Tally, number: u64, case: Case, expected: Expected, scratch: &mut [i64]) -> Tally {
+    let agrees = texts::same_text(case, number, expected, scratch);
+    tally::with_text(counts, number, texts::number_for(case, number), agrees)
 }

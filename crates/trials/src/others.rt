@@ -1,28 +1,38 @@
-// C1 besides its plan: the cells that it needs, slices too short, schedules handed in.
+// C1 besides its plan: the cells that it needs, slices too short, schedules handed in, and those two where only hour 0 is permitted.
 
 use crate::files::contents;
 use crate::files::hand_in;
 use crate::printing::line;
 use crate::printing::text;
+use casefile::CaseRead;
 use commitment::UnitRecord;
 
 // 0 where there is no refusal.
 pub fn try_others() {
-    let mut bytes = [0u8; 512];
-    let size = contents(b"c1.csv", &mut bytes);
-    try_prices(&bytes[..size]);
+    try_prices();
     let mut prices = [0i64; 6];
-    let unit = casefile::unit_of(casefile::read_into(&bytes[..size], &mut prices));
+    let unit = unit_in(b"c1.csv", &mut prices);
     try_scratch(unit, &prices);
     try_schedules(unit, &prices);
+    try_first_hour();
     text(b"\n");
 }
 
-fn try_prices(bytes: &[u8]) {
+fn unit_in(path: &[u8], prices: &mut [i64]) -> UnitRecord {
+    casefile::unit_of(read_from(path, prices))
+}
+
+fn read_from(path: &[u8], prices: &mut [i64]) -> CaseRead {
+    let mut bytes = [0u8; 512];
+    let size = contents(path, &mut bytes);
+    casefile::read_into(&bytes[..size], prices)
+}
+
+fn try_prices() {
     let mut short = [0i64; 5];
     line(
         b"c1 read into 5 prices,",
-        casefile::number_of(casefile::read_into(bytes, &mut short)),
+        casefile::number_of(read_from(b"c1.csv", &mut short)),
     );
 }
 
@@ -55,4 +65,13 @@ fn try_schedules(unit: UnitRecord, prices: &[i64]) {
     hand_in(unit, prices, &[0, 20, 20, 10, 20], 400000);
     hand_in(unit, prices, &[0, 20, 20, 10, 20, 20], 400000);
     hand_in(unit, prices, &[0, 20, 0, 0, 20, 20], 400000);
+}
+
+// C1's plan runs past hour 0.
+fn try_first_hour() {
+    let mut prices = [0i64; 6];
+    let unit = unit_in(b"hours-first.csv", &mut prices);
+    text(b"c1 within hour 0\n");
+    hand_in(unit, &prices, &[0, 20, 20, 10, 20, 20], 400000);
+    hand_in(unit, &prices, &[0, 20, 20, 0, 0, 0], 200000);
 }

@@ -13,18 +13,23 @@ use crate::printing::text;
 ghost use mathlib.Core.Path.{_≡_};
 ghost use mathlib.Core.Bool.{true, not};
 ghost use Prim.Native.Nat.{_<_};
+ghost use lib.Dec.{eqb};
 ghost use Rattle.trials.specs.Counting as counting;
 
-// `limited` goes by which limitations there are; `starts`, `hours` and `mwh` by their outcomes in the cases planned.
+// `dates` goes by the date of the permitted hours, `texts` by the number that reading says, `limited` by which limitations there are;
+// `starts`, `hours` and `mwh` by their outcomes in the cases planned.
 pub struct Tally {
     pub cases: u64,
     pub planned: u64,
     pub refused: u64,
+    pub missing: u64,
     pub negative: u64,
     pub tied: u64,
     pub was_on: u64,
     pub was_off: u64,
     pub differences: u64,
+    pub dates: [u64; 5],
+    pub texts: [u64; 3],
     pub limited: [u64; 8],
     pub starts: [u64; 6],
     pub hours: [u64; 6],
@@ -38,11 +43,14 @@ pub fn nothing() -> Tally
         cases: 0,
         planned: 0,
         refused: 0,
+        missing: 0,
         negative: 0,
         tied: 0,
         was_on: 0,
         was_off: 0,
         differences: 0,
+        dates: [0; 5],
+        texts: [0; 3],
         limited: [0; 8],
         starts: [0; 6],
         hours: [0; 6],
@@ -55,12 +63,14 @@ pub fn with_case(tally: Tally, case: Case) -> Tally
         × (r .«was_on» ≡ counting.counted (tally .«was_on») (case .«was_on»)) × (r .differences ≡ tally .differences) ⌝ }
 {
     let at = limits_in(case);
+    let date = date_in(case);
     let mut t = tally;
     t.cases = counted(t.cases, true);
     t.negative = counted(t.negative, has_negative_price(case));
     t.was_on = counted(t.was_on, case.was_on);
     t.was_off = counted(t.was_off, !case.was_on);
     t.limited[at] = counted(t.limited[at], true);
+    t.dates[date] = counted(t.dates[date], true);
     t
 }
 
@@ -73,6 +83,26 @@ fn limits_in(case: Case) -> usize
     let mwh = case.mwh;
     let limits = one_if(starts.limited) + 2 * one_if(hours.limited) + 4 * one_if(mwh.limited);
     limits as usize
+}
+
+// No hours, a date that does not exist, a date on which time does not change, the Sunday of March, that of November.
+fn date_in(case: Case) -> usize
+    ensures { λ r. ⌜ r < 5 ⌝ }
+{
+    let allowed = case.allowed;
+    if !allowed.given {
+        return 0;
+    }
+    if !enumerator::date_exists(case) {
+        return 1;
+    }
+    if enumerator::goes_forward(allowed) {
+        return 3;
+    }
+    if enumerator::goes_back(allowed) {
+        return 4;
+    }
+    2
 }
 
 fn has_negative_price(case: Case) -> bool {
@@ -90,11 +120,13 @@ fn has_negative_price(case: Case) -> bool {
 
 pub fn with_expected(tally: Tally, expected: Expected) -> Tally
     ensures { λ r. ⌜ (r .planned ≡ counting.counted (tally .planned) (expected .planned))
-        × (r .refused ≡ counting.counted (tally .refused) (not (expected .planned))) × (r .differences ≡ tally .differences) ⌝ }
+        × (r .refused ≡ counting.counted (tally .refused) (eqb (expected .refusal) 9))
+        × (r .missing ≡ counting.counted (tally .missing) (eqb (expected .refusal) 12)) × (r .differences ≡ tally .differences) ⌝ }
 {
     let mut t = tally;
     t.planned = counted(t.planned, expected.planned);
-    t.refused = counted(t.refused, !expected.planned);
+    t.refused = counted(t.refused, expected.refusal == 9);
+    t.missing = counted(t.missing, expected.refusal == 12);
     t.tied = counted(t.tied, expected.tied);
     if !expected.planned {
         return t;
@@ -167,11 +199,43 @@ fn differing(differences: u64, number: u64, words: &[u8], agrees: bool) -> u64
     counted(differences, true)
 }
 
+// A text that is read otherwise is a difference, too.
+pub fn with_text(tally: Tally, number: u64, refusal: u64, agrees: bool) -> Tally
+    ensures { λ r. ⌜ (r .differences ≡ counting.counted (tally .differences) (not agrees)) × (r .cases ≡ tally .cases) ⌝ }
+{
+    let at = text_in(refusal);
+    let mut t = tally;
+    t.texts[at] = counted(t.texts[at], true);
+    t.differences = differing(t.differences, number, b"text differs on case ", agrees);
+    t
+}
+
+fn text_in(refusal: u64) -> usize
+    ensures { λ r. ⌜ r < 3 ⌝ }
+{
+    match refusal {
+        0 => 0,
+        2 => 1,
+        _ => 2,
+    }
+}
+
 pub fn print(tally: Tally) {
     print_cases(tally);
     print_limited(tally);
     print_worths(tally);
     line(b"differences,", tally.differences);
+}
+
+pub fn print_dates(tally: Tally) {
+    let dates = tally.dates;
+    let texts = tally.texts;
+    text(b"\nhours,none,no such date,another day,clocks forward,clocks back\ncases");
+    row(&dates);
+    line(b"refused 12,", tally.missing);
+    text(b"\ntexts,read,refused 2,refused 12\ncases");
+    row(&texts);
+    text(b"\n");
 }
 
 fn print_cases(t: Tally) {

@@ -12,31 +12,36 @@ use borrow.Author.Tests.{leb-true, eqb-true}
 use Rattle.commitment.specs.Bounds.{mostStarts, mostHours, mostMwh}
 use Rattle.commitment.specs.declared.Checked.{Checked}
 use Rattle.commitment.specs.declared.Checked.the-variants.{Passed, Refused}
+use Rattle.commitment.specs.declared.Permit.the-variants.{AnyHour, Within}
 use Rattle.commitment.specs.declared.UnitRecord.{UnitRecord}
 use Rattle.commitment.specs.Limits.{limitKept}
-use Rattle.commitment.specs.Ranges.{pricesKept, caseChecked}
+use Rattle.commitment.specs.Ranges.{permitKept, pricesKept, caseChecked}
 use Rattle.lists.specs.Every.{every}
 use Rattle.lists.proofs.Conjunctions.{both}
 use Rattle.commitment.proofs.Passing.{Passing, passing, prices-small}
 use Rattle.lists.proofs.Every.{every-at}
-use Rattle.commitment.proofs.Ranges.{InRange, in-range}
+use Rattle.commitment.proofs.Ranges.{InRange, in-range, window-ranges}
 use Rattle.tabletext.specs.declared.Class.the-variants.{Comma}
 use Rattle.tabletext.specs.declared.Value.{Value}
 use Rattle.tabletext.specs.declared.Value.the-variants.{Malformed, WordNone, Number}
 use Rattle.tabletext.specs.Bytes.{isOf, same}
 use Rattle.tabletext.specs.Pieces.{onto, linesOf, lastClosed, fieldsOf}
-use Rattle.tabletext.specs.Tables.{nameLine, valueLine, occurs, named, under}
+use Rattle.tabletext.specs.Tables.{nameLine, valueLine, occurs, standing, known, named, under}
 use Rattle.tabletext.specs.Values.{valueOf, isValue}
 use Rattle.tabletext.proofs.Alike.{same-eq}
 use Rattle.casefile.specs.declared.CaseRead.the-variants.{Case}
 use Rattle.casefile.specs.Answers.{readBy, readCase, readPrices}
+use Rattle.casetext.specs.Names.{blockName, pminName, pmaxName, motName, mdtName, wasName, heldName, vecName, mlcName, sucName}
+use Rattle.casetext.specs.Names.{startsName, hoursName, mwhName, yearName, monthName, dayName, windowName}
 use Rattle.casetext.specs.Names.{priceName, unitNames, unitOptional, priceNames, priceOptional}
-use Rattle.casetext.specs.Form.{mostBytes, unitHead, unitRow, emptyLine, priceHead, priceRows, isEmpty, tableFormed, formKept, namesKept}
-use Rattle.casefile.specs.Reading.{beyond, wholeOf, limitOf, centsOf, unitIn, priceOf, pricesIn, textChecked}
+use Rattle.casetext.specs.Form.{mostBytes, unitHead, unitRow, emptyLine, priceHead, priceRows, isEmpty, tableFormed, formKept, unitNamed, namesKept}
+use Rattle.casefile.specs.Reading.{beyond, wholeOf, limitOf, centsOf, windowOf, permitOf, unitIn, priceOf, pricesIn, textChecked}
 use Rattle.casefile.proofs.Checking.{text-passed, answer-read}
-use Rattle.writing.specs.AsWritten.{StandsUnder, limitValue, AsWritten}
-use Rattle.writing.proofs.Places.{stands}
-use Rattle.writing.proofs.Sequences.{names-are, all-this}
+use Rattle.writing.specs.AsWritten.{StandsUnder, limitValue, StandsNowhere, PermitWritten, AsWritten}
+use Rattle.writing.specs.Writing.{namesFor}
+use Rattle.writing.proofs.Places.{nowhere, stands}
+use Rattle.writing.proofs.Sequences.{Named, names-are, none-of, all-this}
+use Rattle.writing.proofs.Permits.{named-for}
 
 -- ---- a number in its range is the number that is written
 
@@ -141,38 +146,64 @@ getD-map f [] i h = absurd (omega arith)
 getD-map f (row ∷ rows) zero h = refl
 getD-map f (row ∷ rows) (suc i) h = getD-map f rows i (omega arith)
 
--- in the first table, under a name, and under the name at place k of the names
-abbrev Standing : List ℕ → List ℕ → Value → Type 0
-Standing text = StandsUnder (fieldsOf (unitHead text)) (fieldsOf (unitRow text))
+-- the names and the values of the first table, and what stands under a name
+abbrev namesIn : List ℕ → List (List ℕ)
+namesIn text = fieldsOf (unitHead text)
 
-abbrev found : List ℕ → ℕ → Value
-found text k = under (getD unitNames k []) (fieldsOf (unitHead text)) (fieldsOf (unitRow text))
+abbrev valuesIn : List ℕ → List (List ℕ)
+valuesIn text = fieldsOf (unitRow text)
+
+abbrev Standing : List ℕ → List ℕ → Value → Type 0
+Standing text = StandsUnder (namesIn text) (valuesIn text)
+
+abbrev found : List ℕ → List ℕ → Value
+found text name = under name (namesIn text) (valuesIn text)
 
 module _ (text : List ℕ) (form : formKept text ≡ true) (names-once : namesKept text ≡ true)
     (checks : caseChecked (unitIn text) (pricesKept (pricesIn text)) (length (pricesIn text)) ≡ Passed) where
   formed : Formed text
   formed = formed-is text form
 
-  both-named : (named unitNames unitOptional (fieldsOf (unitHead text)) ≡ true) × (named priceNames priceOptional (fieldsOf (priceHead text)) ≡ true)
+  both-named : (unitNamed (namesIn text) ≡ true) × (named priceNames priceOptional (fieldsOf (priceHead text)) ≡ true)
   unfolding namesKept
-  both-named = both (named unitNames unitOptional (fieldsOf (unitHead text))) (named priceNames priceOptional (fieldsOf (priceHead text))) names-once
+  both-named = both (unitNamed (namesIn text)) (named priceNames priceOptional (fieldsOf (priceHead text))) names-once
 
-  under-name : (k : ℕ) → k < 13 → Standing text (getD unitNames k []) (found text k)
-  under-name k h =
-      let names = fieldsOf (unitHead text) in
-      let row = both (valueLine (length names) (unitRow text)) true (both (nameLine (unitHead text)) _ (formed .unit-table) .1) in
-      stands (getD unitNames k []) names (fieldsOf (unitRow text)) (names-are unitNames unitOptional names (both-named .0) .once k h)
-      (row-length _ (unitRow text) (row .0))
+  names-for : Named (namesFor (permitOf (namesIn text) (valuesIn text))) unitOptional (namesIn text)
+  names-for = names-are _ unitOptional (namesIn text) (named-for (namesIn text) (valuesIn text) (both-named .0))
+
+  -- under a name that stands once
+  under-name : (name : List ℕ) → occurs name (namesIn text) ≡ 1 → Standing text name (found text name)
+  under-name name once =
+      let row = both (valueLine (length (namesIn text)) (unitRow text)) true (both (nameLine (unitHead text)) _ (formed .unit-table) .1) in
+      stands name (namesIn text) (valuesIn text) once (row-length _ (unitRow text) (row .0))
 
   as-value : {name : List ℕ} {v w : Value} → v ≡ w → Standing text name v → Standing text name w
   as-value e s = record { place = s .place; within = s .within; named = s .named; holds = s .holds ∙ e; only = s .only }
 
-  whole-at : (k : ℕ) → k < 13 → wholeOf (found text k) < beyond → Standing text (getD unitNames k []) (Number (pos (wholeOf (found text k))))
-  whole-at k h b = as-value (whole-is _ b) (under-name k h)
+  whole-at : (name : List ℕ) → occurs name (namesIn text) ≡ 1 → wholeOf (found text name) < beyond
+      → Standing text name (Number (pos (wholeOf (found text name))))
+  whole-at name once b = as-value (whole-is _ b) (under-name name once)
 
-  limit-at : (k : ℕ) → k < 13 → (most : ℕ) → most < beyond → limitKept most (limitOf (found text k)) ≡ true
-      → Standing text (getD unitNames k []) (limitValue (limitOf (found text k)))
-  limit-at k h most m b = as-value (limit-is most _ m b) (under-name k h)
+  limit-at : (name : List ℕ) → occurs name (namesIn text) ≡ 1 → (most : ℕ) → most < beyond → limitKept most (limitOf (found text name)) ≡ true
+      → Standing text name (limitValue (limitOf (found text name)))
+  limit-at name once most m b = as-value (limit-is most _ m b) (under-name name once)
+
+  -- the permit, by whether the four names are there
+  permit-at : (t : Bool) →
+      let p = cond t (Within (windowOf (namesIn text) (valuesIn text))) AnyHour in
+      Named (namesFor p) unitOptional (namesIn text) → permitKept p ≡ true → PermitWritten (namesIn text) (valuesIn text) p
+  permit-at true n k =
+      let r = window-ranges (windowOf (namesIn text) (valuesIn text)) k in
+      record {
+        year = whole-at yearName (n .once 13 (omega arith)) (omega (arith, r .year-most));
+        month = whole-at monthName (n .once 14 (omega arith)) (omega (arith, r .month-most));
+        day = whole-at dayName (n .once 15 (omega arith)) (omega (arith, r .day-most));
+        window = whole-at windowName (n .once 16 (omega arith)) (omega (arith, r .word-most));
+      }
+  permit-at false n k = record { no-year = missing refl; no-month = missing refl; no-day = missing refl; no-window = missing refl }
+    where
+      missing : {name : List ℕ} → known unitNames unitOptional name ≡ false → StandsNowhere (namesIn text) name
+      missing {name} u = nowhere name (namesIn text) (none-of unitNames unitOptional name u (namesIn text) (n .no-other))
 
   head-is : priceHead text ≡ priceName
   head-is = one-name priceName (priceHead text) (both-named .1)
@@ -209,22 +240,24 @@ module _ (text : List ℕ) (form : formKept text ≡ true) (names-once : namesKe
   unfolding unitIn
   text-as-written =
       let r = in-ranges in
+      let once = names-for .once in
       record {
         lines = lines-are (linesOf text) (formed .four)
             ∙ ap (λ (third : List ℕ). unitHead text ∷ unitRow text ∷ third ∷ priceHead text ∷ priceRows text) (formed .third-empty);
-        block = whole-at 0 (omega arith) (omega (arith, r .generator .block-most));
-        pmin = whole-at 1 (omega arith) (omega (arith, r .generator .pmin-most));
-        pmax = whole-at 2 (omega arith) (omega (arith, r .generator .pmax-most));
-        mot = whole-at 3 (omega arith) (omega (arith, r .generator .mot-most));
-        mdt = whole-at 4 (omega arith) (omega (arith, r .generator .mdt-most));
-        was = whole-at 5 (omega arith) (omega (arith, r .opening .was-most));
-        held = whole-at 6 (omega arith) (omega (arith, r .opening .held-most));
-        vec = whole-at 7 (omega arith) (omega (arith, r .costs .vec-most));
-        mlc = whole-at 8 (omega arith) (omega (arith, r .costs .mlc-most));
-        suc-cost = whole-at 9 (omega arith) (omega (arith, r .costs .suc-most));
-        starts = limit-at 10 (omega arith) mostStarts (omega arith) (r .limits .starts-kept);
-        hours = limit-at 11 (omega arith) mostHours (omega arith) (r .limits .hours-kept);
-        mwh = limit-at 12 (omega arith) mostMwh (omega arith) (r .limits .mwh-kept);
+        block = whole-at blockName (once 0 (omega arith)) (omega (arith, r .generator .block-most));
+        pmin = whole-at pminName (once 1 (omega arith)) (omega (arith, r .generator .pmin-most));
+        pmax = whole-at pmaxName (once 2 (omega arith)) (omega (arith, r .generator .pmax-most));
+        mot = whole-at motName (once 3 (omega arith)) (omega (arith, r .generator .mot-most));
+        mdt = whole-at mdtName (once 4 (omega arith)) (omega (arith, r .generator .mdt-most));
+        was = whole-at wasName (once 5 (omega arith)) (omega (arith, r .opening .was-most));
+        held = whole-at heldName (once 6 (omega arith)) (omega (arith, r .opening .held-most));
+        vec = whole-at vecName (once 7 (omega arith)) (omega (arith, r .costs .vec-most));
+        mlc = whole-at mlcName (once 8 (omega arith)) (omega (arith, r .costs .mlc-most));
+        suc-cost = whole-at sucName (once 9 (omega arith)) (omega (arith, r .costs .suc-most));
+        starts = limit-at startsName (once 10 (omega arith)) mostStarts (omega arith) (r .limits .starts-kept);
+        hours = limit-at hoursName (once 11 (omega arith)) mostHours (omega arith) (r .limits .hours-kept);
+        mwh = limit-at mwhName (once 12 (omega arith)) mostMwh (omega arith) (r .limits .mwh-kept);
+        permit = permit-at (standing 1 (namesIn text) yearName) names-for (r .permit);
         price-name = head-is;
         one-a-line = prices-long;
         price = price-written;

@@ -1,6 +1,6 @@
 -- The way back: the text that a writer makes of any record and prices within range, its names in any sequence, is read as that record and those prices.
 use mathlib.Core.Path.{_≡_, refl, sym, ap, ap₂, _∙_}
-use mathlib.Core.Bool.{Bool, true, false, _&&_}
+use mathlib.Core.Bool.{Bool, true, false, _&&_, cond}
 use mathlib.Core.List.{List, [], _∷_, _++_, map}
 use Prim.Native.Nat.{ℕ, suc, _≤_, _<_, _^_}
 use native.Mathlib.Omega.{arith}
@@ -17,12 +17,15 @@ use Rattle.commitment.specs.declared.Checked.{Checked}
 use Rattle.commitment.specs.declared.Checked.the-variants.{Passed}
 use Rattle.commitment.specs.declared.Limit.{Limit}
 use Rattle.commitment.specs.declared.Limit.the-variants.{None, At}
+use Rattle.commitment.specs.declared.Permit.{Permit}
+use Rattle.commitment.specs.declared.Permit.the-variants.{AnyHour, Within}
+use Rattle.commitment.specs.declared.Window.{Window}
 use Rattle.commitment.specs.declared.UnitRecord.{UnitRecord}
 use Rattle.commitment.specs.Limits.{limitKept}
-use Rattle.commitment.specs.Ranges.{pricesKept, caseChecked}
+use Rattle.commitment.specs.Ranges.{permitKept, pricesKept, caseChecked}
 use Rattle.lists.specs.Every.{every}
 use Rattle.commitment.proofs.Passing.{Passing, passing, prices-small}
-use Rattle.commitment.proofs.Ranges.{InRange, in-range}
+use Rattle.commitment.proofs.Ranges.{WindowRanges, window-ranges, InRange, in-range}
 use Rattle.tabletext.specs.declared.Class.the-variants.{Comma, LineEnd}
 use Rattle.tabletext.specs.declared.Value.{Value}
 use Rattle.tabletext.specs.declared.Value.the-variants.{Number}
@@ -33,14 +36,17 @@ use Rattle.tabletext.specs.Values.{isName, valueOf, wellFormed, isValue}
 use Rattle.tabletext.proofs.Alike.{same-eq}
 use Rattle.casefile.specs.declared.CaseRead.the-variants.{Case}
 use Rattle.casefile.specs.Answers.{readBy, readCase, readPrices}
-use Rattle.casetext.specs.Names.{priceName, unitNames, unitOptional, priceNames, priceOptional}
-use Rattle.casetext.specs.Form.{mostBytes, isEmpty, unitHead, unitRow, priceHead, priceRows, tableFormed, formKept, namesKept}
-use Rattle.casefile.specs.Reading.{wholeOf, limitOf, centsOf, unitOf, unitIn, priceOf, pricesIn, textChecked}
+use Rattle.casetext.specs.Names.{blockName, pminName, pmaxName, motName, mdtName, wasName, heldName, vecName, mlcName, sucName}
+use Rattle.casetext.specs.Names.{startsName, hoursName, mwhName, yearName, monthName, dayName, windowName}
+use Rattle.casetext.specs.Names.{priceName, unitNames, unitOptional, datedNames, priceNames, priceOptional}
+use Rattle.casetext.specs.Form.{mostBytes, isEmpty, unitHead, unitRow, priceHead, priceRows, tableFormed, formKept, unitNamed, namesKept}
+use Rattle.casefile.specs.Reading.{wholeOf, limitOf, centsOf, windowOf, permitOf, unitOf, unitIn, priceOf, pricesIn, textChecked}
 use Rattle.casefile.proofs.Checking.{every-map, values-decide, values-turn, answer-read}
-use Rattle.writing.specs.Writing.{joined, shownWhole, shownPrice, shownLimit, shownField, written}
+use Rattle.writing.specs.Writing.{joined, shownWhole, shownPrice, shownLimit, shownDated, shownField, datedFor, namesFor, written}
 use Rattle.writing.specs.AsWritten.{limitValue}
 use Rattle.writing.proofs.Numbers.{whole-back, price-back, limit-back, whole-unparted, price-unparted, limit-unparted}
 use Rattle.writing.proofs.Sequences.{Named, names-are, some-name, of-names}
+use Rattle.writing.proofs.Permits.{dated, every-name, year-tells, unit-named}
 use Rattle.writing.proofs.Pieces.{free, field-alone, fields-back, lines-back, closing-closed, joined-line}
 
 -- ---- tests of every element
@@ -93,19 +99,33 @@ limits-alike : {a a′ b b′ c c′ : Limit} → a ≡ a′ → b ≡ b′ → 
     → _≡_ {A = Limits} (record { starts = a; hours = b; mwh = c }) (record { starts = a′; hours = b′; mwh = c′ })
 limits-alike p q r = cc
 
-unit-alike : {g g′ : Generator} {k k′ : Costs} {o o′ : Opening} {l l′ : Limits} → g ≡ g′ → k ≡ k′ → o ≡ o′ → l ≡ l′
-    → _≡_ {A = UnitRecord} (record { generator = g; costs = k; opening = o; limits = l }) (record { generator = g′; costs = k′; opening = o′; limits = l′ })
-unit-alike p q r s = cc
+window-alike : {a a′ b b′ c c′ d d′ : ℕ} → a ≡ a′ → b ≡ b′ → c ≡ c′ → d ≡ d′
+    → _≡_ {A = Window} (record { date = record { year = a; month = b; day = c }; word = d })
+    (record { date = record { year = a′; month = b′; day = c′ }; word = d′ })
+window-alike p q r s = cc
+
+unit-alike : {g g′ : Generator} {k k′ : Costs} {o o′ : Opening} {l l′ : Limits} {h h′ : Permit} → g ≡ g′ → k ≡ k′ → o ≡ o′ → l ≡ l′ → h ≡ h′
+    → _≡_ {A = UnitRecord} (record { generator = g; costs = k; opening = o; limits = l; permit = h })
+    (record { generator = g′; costs = k′; opening = o′; limits = l′; permit = h′ })
+unit-alike p q r s t = cc
 
 -- ---- a record and prices within range, and the names in some sequence
 
 module _ (u : UnitRecord) (prices : List ℤ) (names : List (List ℕ))
-    (kept : caseChecked u (pricesKept prices) (length prices) ≡ Passed) (each : named unitNames unitOptional names ≡ true) where
-  names-kept : Named unitNames unitOptional names
-  names-kept = names-are unitNames unitOptional names each
+    (kept : caseChecked u (pricesKept prices) (length prices) ≡ Passed) (each : named (namesFor (u .permit)) unitOptional names ≡ true) where
+  names-for : (p : Permit) → u .permit ≡ p → Named (namesFor p) unitOptional names
+  names-for p is = names-are (namesFor p) unitOptional names (ap (λ (q : Permit). named (namesFor q) unitOptional names) (sym is) ∙ each)
+
+  names-kept : Named (namesFor (u .permit)) unitOptional names
+  names-kept = names-for (u .permit) refl
 
   some : 0 < length names
-  some = some-name unitNames unitOptional names names-kept (omega arith)
+  some = some-name (namesFor (u .permit)) unitOptional names names-kept (omega arith)
+
+  -- a test that each name of the tables passes, every name passes
+  names-pass : (test : List ℕ → Bool) → every test unitNames ≡ true → every test (unitNames ++ datedNames) ≡ true → every test names ≡ true
+  names-pass test plain dated =
+      of-names test (namesFor (u .permit)) unitOptional (every-name test plain dated (u .permit)) refl names (names-kept .no-other)
 
   case-kept : Passing u (pricesKept prices) (length prices)
   case-kept = passing u (pricesKept prices) (length prices) kept
@@ -113,16 +133,38 @@ module _ (u : UnitRecord) (prices : List ℤ) (names : List (List ℕ))
   ranges : InRange u
   ranges = in-range u (case-kept .order .ranges)
 
+  -- ---- of a record with a date
+
+  module _ (w : Window) (is : u .permit ≡ Within w) where
+    dated-ranges : WindowRanges w
+    dated-ranges = window-ranges w (ap permitKept (sym is) ∙ ranges .permit)
+
+    dated-shown : (name : List ℕ) → shownDated (u .permit) name ≡ shownDated (Within w) name
+    dated-shown name = ap (λ (p : Permit). shownDated p name) is
+
+  -- ---- tests that what is shown passes
+
   abbrev values : List (List ℕ)
   values = map (shownField u) names
 
   abbrev rows : List (List ℕ)
   rows = map shownPrice prices
 
+  dated-pass : (test : List ℕ → Bool) → ((n : ℕ) → n < 10 ^ 10 → test (shownWhole n) ≡ true) → (p : Permit) → u .permit ≡ p
+      → every (λ name. test (shownField u name)) (datedFor p) ≡ true
+  dated-pass test whole AnyHour is = refl
+  dated-pass test whole (Within w) is =
+      let r = dated-ranges w is in
+      let shown = dated-shown w is in
+      conj (ap test (shown yearName) ∙ whole (w .date .year) (omega (arith, r .year-most)))
+      (conj (ap test (shown monthName) ∙ whole (w .date .month) (omega (arith, r .month-most)))
+      (conj (ap test (shown dayName) ∙ whole (w .date .day) (omega (arith, r .day-most)))
+      (conj (ap test (shown windowName) ∙ whole (w .word) (omega (arith, r .word-most))) refl)))
+
   -- a test that every number and every limitation passes as it is shown, every field of the record passes
   fields-pass : (test : List ℕ → Bool) → ((n : ℕ) → n < 10 ^ 10 → test (shownWhole n) ≡ true)
       → ((l : Limit) → ((n : ℕ) → l ≡ At n → n < 10 ^ 10) → test (shownLimit l) ≡ true)
-      → every (λ name. test (shownField u name)) unitNames ≡ true
+      → every (λ name. test (shownField u name)) (namesFor (u .permit)) ≡ true
   fields-pass test whole limit =
       let r = ranges in
       conj (whole (u .generator .block) (omega (arith, r .generator .block-most)))
@@ -137,12 +179,13 @@ module _ (u : UnitRecord) (prices : List ℤ) (names : List (List ℕ))
       (conj (whole (u .costs .suc) (omega (arith, r .costs .suc-most)))
       (conj (limit (u .limits .starts) (limit-small mostStarts (u .limits .starts) (omega arith) (r .limits .starts-kept)))
       (conj (limit (u .limits .hours) (limit-small mostHours (u .limits .hours) (omega arith) (r .limits .hours-kept)))
-      (conj (limit (u .limits .mwh) (limit-small mostMwh (u .limits .mwh) (omega arith) (r .limits .mwh-kept))) refl))))))))))))
+      (conj (limit (u .limits .mwh) (limit-small mostMwh (u .limits .mwh) (omega arith) (r .limits .mwh-kept)))
+      (dated-pass test whole (u .permit) refl)))))))))))))
 
-  values-pass : (test : List ℕ → Bool) → every (λ name. test (shownField u name)) unitNames ≡ true → every test values ≡ true
+  values-pass : (test : List ℕ → Bool) → every (λ name. test (shownField u name)) (namesFor (u .permit)) ≡ true → every test values ≡ true
   values-pass test h =
       sym (every-map test (shownField u) names)
-      ∙ of-names (λ name. test (shownField u name)) unitNames unitOptional h refl names (names-kept .no-other)
+      ∙ of-names (λ name. test (shownField u name)) (namesFor (u .permit)) unitOptional h refl names (names-kept .no-other)
 
   rows-pass : (test : List ℕ → Bool) → ((z : ℤ) → natAbs z < 10 ^ 10 → test (shownPrice z) ≡ true) → every test rows ≡ true
   rows-pass test price =
@@ -153,7 +196,7 @@ module _ (u : UnitRecord) (prices : List ℤ) (names : List (List ℕ))
 
   names-back : fieldsOf (joined names) ≡ names
   unfolding isOf
-  names-back = some-fields names some (of-names (free Comma) unitNames unitOptional refl refl names (names-kept .no-other))
+  names-back = some-fields names some (names-pass (free Comma) refl refl)
 
   values-back : fieldsOf (joined values) ≡ values
   values-back =
@@ -166,7 +209,7 @@ module _ (u : UnitRecord) (prices : List ℤ) (names : List (List ℕ))
   parts-free : every (free LineEnd) parts ≡ true
   unfolding isOf
   parts-free =
-      conj (joined-line names (of-names (free LineEnd) unitNames unitOptional refl refl names (names-kept .no-other)))
+      conj (joined-line names (names-pass (free LineEnd) refl refl))
       (conj
       (joined-line values
       (values-pass (free LineEnd) (fields-pass (free LineEnd) (λ n h. whole-unparted n h .no-end) (λ l h. limit-unparted l h .no-end))))
@@ -213,7 +256,7 @@ module _ (u : UnitRecord) (prices : List ℤ) (names : List (List ℕ))
   unit-table : tableFormed (joined names) (joined values ∷ []) ≡ true
   unfolding isName isOf
   unit-table =
-      conj (ap (every isName) names-back ∙ of-names isName unitNames unitOptional refl refl names (names-kept .no-other))
+      conj (ap (every isName) names-back ∙ names-pass isName refl refl)
       (conj (conj (eq-eqb _ _ as-many) (ap (every isValue) values-back ∙ values-kept)) refl)
 
   price-line : (z : ℤ) → natAbs z < 10 ^ 10 → valueLine 1 (shownPrice z) ≡ true
@@ -239,44 +282,60 @@ module _ (u : UnitRecord) (prices : List ℤ) (names : List (List ℕ))
     named-text : namesKept text ≡ true
     unfolding namesKept isOf
     named-text =
-        conj (ap (λ (head : List ℕ). named unitNames unitOptional (fieldsOf head)) head-is ∙ ap (named unitNames unitOptional) names-back ∙ each)
+        conj (ap (λ (head : List ℕ). unitNamed (fieldsOf head)) head-is ∙ ap unitNamed names-back ∙ unit-named names (u .permit) each)
         (ap (λ (head : List ℕ). named priceNames priceOptional (fieldsOf head)) price-head-is)
 
     -- ---- the record and the prices
 
-    under-name : (k : ℕ) → k < 13 → under (getD unitNames k []) names values ≡ valueOf (shownField u (getD unitNames k []))
-    under-name k h =
-        under-back (shownField u) (getD unitNames k []) names (omega (arith, names-kept .once k h))
+    whole-field : (name : List ℕ) → occurs name names ≡ 1 → (n : ℕ) → n < 10 ^ 10 → shownField u name ≡ shownWhole n → wholeOf (under name names values) ≡ n
+    whole-field name once n b e = ap wholeOf (under-back (shownField u) name names (omega (arith, once)) ∙ ap valueOf e ∙ whole-back n b)
 
-    whole-field : (k : ℕ) → k < 13 → (n : ℕ) → n < 10 ^ 10 → shownField u (getD unitNames k []) ≡ shownWhole n
-        → wholeOf (under (getD unitNames k []) names values) ≡ n
-    whole-field k h n b e = ap wholeOf (under-name k h ∙ ap valueOf e ∙ whole-back n b)
+    limit-field : (name : List ℕ) → occurs name names ≡ 1 → (most : ℕ) → most < 10 ^ 10 → (l : Limit) → limitKept most l ≡ true
+        → shownField u name ≡ shownLimit l → limitOf (under name names values) ≡ l
+    limit-field name once most m l b e =
+        ap limitOf (under-back (shownField u) name names (omega (arith, once)) ∙ ap valueOf e ∙ limit-back l (limit-small most l m b)) ∙ limit-of-value l
 
-    limit-field : (k : ℕ) → k < 13 → (most : ℕ) → most < 10 ^ 10 → (l : Limit) → limitKept most l ≡ true
-        → shownField u (getD unitNames k []) ≡ shownLimit l → limitOf (under (getD unitNames k []) names values) ≡ l
-    limit-field k h most m l b e = ap limitOf (under-name k h ∙ ap valueOf e ∙ limit-back l (limit-small most l m b)) ∙ limit-of-value l
+    -- the four names stand where the record has a date
+    told : (p : Permit) → u .permit ≡ p → permitOf names values ≡ cond (dated p) (Within (windowOf names values)) AnyHour
+    told p is = ap (λ (t : Bool). cond t (Within (windowOf names values)) AnyHour) (year-tells names p (names-for p is))
+
+    permit-is : (p : Permit) → u .permit ≡ p → permitOf names values ≡ p
+    permit-is AnyHour is = told AnyHour is
+    permit-is (Within w) is =
+        let once = names-for (Within w) is .once in
+        let r = dated-ranges w is in
+        let shown = dated-shown w is in
+        told (Within w) is
+        ∙ ap Within
+        (window-alike
+        (whole-field yearName (once 13 (omega arith)) (w .date .year) (omega (arith, r .year-most)) (shown yearName))
+        (whole-field monthName (once 14 (omega arith)) (w .date .month) (omega (arith, r .month-most)) (shown monthName))
+        (whole-field dayName (once 15 (omega arith)) (w .date .day) (omega (arith, r .day-most)) (shown dayName))
+        (whole-field windowName (once 16 (omega arith)) (w .word) (omega (arith, r .word-most)) (shown windowName)))
 
     fields-are : unitOf names values ≡ u
     fields-are =
         let r = ranges in
+        let once = names-kept .once in
         unit-alike
         (generator-alike
-        (whole-field 0 (omega arith) (u .generator .block) (omega (arith, r .generator .block-most)) refl)
-        (whole-field 1 (omega arith) (u .generator .pmin) (omega (arith, r .generator .pmin-most)) refl)
-        (whole-field 2 (omega arith) (u .generator .pmax) (omega (arith, r .generator .pmax-most)) refl)
-        (whole-field 3 (omega arith) (u .generator .mot) (omega (arith, r .generator .mot-most)) refl)
-        (whole-field 4 (omega arith) (u .generator .mdt) (omega (arith, r .generator .mdt-most)) refl))
+        (whole-field blockName (once 0 (omega arith)) (u .generator .block) (omega (arith, r .generator .block-most)) refl)
+        (whole-field pminName (once 1 (omega arith)) (u .generator .pmin) (omega (arith, r .generator .pmin-most)) refl)
+        (whole-field pmaxName (once 2 (omega arith)) (u .generator .pmax) (omega (arith, r .generator .pmax-most)) refl)
+        (whole-field motName (once 3 (omega arith)) (u .generator .mot) (omega (arith, r .generator .mot-most)) refl)
+        (whole-field mdtName (once 4 (omega arith)) (u .generator .mdt) (omega (arith, r .generator .mdt-most)) refl))
         (costs-alike
-        (whole-field 7 (omega arith) (u .costs .vec) (omega (arith, r .costs .vec-most)) refl)
-        (whole-field 8 (omega arith) (u .costs .mlc) (omega (arith, r .costs .mlc-most)) refl)
-        (whole-field 9 (omega arith) (u .costs .suc) (omega (arith, r .costs .suc-most)) refl))
+        (whole-field vecName (once 7 (omega arith)) (u .costs .vec) (omega (arith, r .costs .vec-most)) refl)
+        (whole-field mlcName (once 8 (omega arith)) (u .costs .mlc) (omega (arith, r .costs .mlc-most)) refl)
+        (whole-field sucName (once 9 (omega arith)) (u .costs .suc) (omega (arith, r .costs .suc-most)) refl))
         (opening-alike
-        (whole-field 5 (omega arith) (u .opening .was) (omega (arith, r .opening .was-most)) refl)
-        (whole-field 6 (omega arith) (u .opening .held) (omega (arith, r .opening .held-most)) refl))
+        (whole-field wasName (once 5 (omega arith)) (u .opening .was) (omega (arith, r .opening .was-most)) refl)
+        (whole-field heldName (once 6 (omega arith)) (u .opening .held) (omega (arith, r .opening .held-most)) refl))
         (limits-alike
-        (limit-field 10 (omega arith) mostStarts (omega arith) (u .limits .starts) (r .limits .starts-kept) refl)
-        (limit-field 11 (omega arith) mostHours (omega arith) (u .limits .hours) (r .limits .hours-kept) refl)
-        (limit-field 12 (omega arith) mostMwh (omega arith) (u .limits .mwh) (r .limits .mwh-kept) refl))
+        (limit-field startsName (once 10 (omega arith)) mostStarts (omega arith) (u .limits .starts) (r .limits .starts-kept) refl)
+        (limit-field hoursName (once 11 (omega arith)) mostHours (omega arith) (u .limits .hours) (r .limits .hours-kept) refl)
+        (limit-field mwhName (once 12 (omega arith)) mostMwh (omega arith) (u .limits .mwh) (r .limits .mwh-kept) refl))
+        (permit-is (u .permit) refl)
 
     unit-is : unitIn text ≡ u
     unfolding unitIn
@@ -307,7 +366,7 @@ module _ (u : UnitRecord) (prices : List ℤ) (names : List (List ℕ))
 
 -- what is written is read: the answer is the record, and the slice has the prices in front and behind them what was there
 pub written-read : (u : UnitRecord) (prices : List ℤ) (names : List (List ℕ)) (slice : List ℤ) → caseChecked u (pricesKept prices) (length prices) ≡ Passed
-    → named unitNames unitOptional names ≡ true → length (written names u prices) ≤ mostBytes → length prices ≤ length slice
+    → named (namesFor (u .permit)) unitOptional names ≡ true → length (written names u prices) ≤ mostBytes → length prices ≤ length slice
     → (readCase (written names u prices) (length slice) ≡ Case u (length prices))
     × (readPrices (written names u prices) slice ≡ prices ++ drop (length prices) slice)
 written-read u prices names slice kept each short fits =

@@ -1,10 +1,13 @@
--- C1's text as it stands in the specification, and damaged ones, each with the number that it gets: from the definitions alone, by computing.
+-- C1's text as it stands in the specification, the same with a date, and damaged ones, each with the number that it gets: from the
+-- definitions alone, by computing.
 use mathlib.Core.List.{List, [], _∷_, _++_, map}
 use mathlib.Core.Path.{_≡_, refl}
 use Prim.Native.Nat.{ℕ}
+use Prim.Native.String.{String}
 use lib.IntN.{pos}
 use lib.ListN.{replicate}
 use Rattle.commitment.specs.declared.Limit.the-variants.{None, At}
+use Rattle.commitment.specs.declared.Permit.the-variants.{AnyHour, Within}
 use Rattle.commitment.specs.Causes.{checkedNumber}
 use Rattle.commitment.specs.Ranges.{rangesKept, pricesKept}
 use Rattle.lists.specs.Text.{bytes}
@@ -37,9 +40,28 @@ pub c1-case : readCase c1 6
       costs = record { vec = 3000; mlc = 30000; suc = 5000 };
       opening = record { was = 0; held = 2 };
       limits = record { starts = At 2; hours = At 2; mwh = None };
+      permit = AnyHour;
     }) 6
 unfolding isOf isName numeral valueOf isValue rangesKept pricesKept formKept namesKept unitIn pricesIn textChecked readCase
 c1-case = refl
+
+-- with a date and its word, their names among the others
+abbrev c1-dated : List ℕ
+c1-dated =
+    closing
+    (bytes "window,block,pmin,pmax,day,mot,mdt,was,held,vec,year,mlc,suc,starts,hours,mwh,month"
+    ∷ bytes "16776960,10,1,2,8,2,2,0,2,3000,2026,30000,5000,2,2,none,3" ∷ [] ∷ head ∷ prices)
+
+pub c1-dated-case : readCase c1-dated 6
+    ≡ Case (record {
+      generator = record { block = 10; pmin = 1; pmax = 2; mot = 2; mdt = 2 };
+      costs = record { vec = 3000; mlc = 30000; suc = 5000 };
+      opening = record { was = 0; held = 2 };
+      limits = record { starts = At 2; hours = At 2; mwh = None };
+      permit = Within (record { date = record { year = 2026; month = 3; day = 8 }; word = 16776960 });
+    }) 6
+unfolding isOf isName numeral valueOf isValue rangesKept pricesKept formKept namesKept unitIn pricesIn textChecked readCase
+c1-dated-case = refl
 
 pub c1-prices : pricesIn c1 ≡ pos 2000 ∷ pos 9000 ∷ pos 8000 ∷ pos 1000 ∷ pos 7000 ∷ pos 10000 ∷ []
 unfolding isOf isName numeral valueOf isValue rangesKept pricesKept formKept namesKept unitIn pricesIn textChecked
@@ -49,6 +71,13 @@ c1-prices = refl
 pub c1-short : checkedNumber (textChecked c1 5) ≡ 7
 unfolding isOf isName numeral valueOf isValue rangesKept pricesKept formKept namesKept unitIn pricesIn textChecked
 c1-short = refl
+
+-- the four names behind the thirteen, and behind C1's values others
+abbrev dated : List ℕ
+dated = names ++ bytes ",year,month,day,window"
+
+abbrev valuesAnd : String → List ℕ
+valuesAnd others = values ++ 44 ∷ bytes others
 
 abbrev texts : List (List ℕ)
 texts =
@@ -134,10 +163,30 @@ texts =
     ∷ (closing (names ∷ values ∷ [] ∷ head ∷ replicate 2977 (bytes "0")))
     -- 3: a price out of range beyond the 2,976th
     ∷ (closing (names ∷ values ∷ [] ∷ head ∷ (replicate 2976 (bytes "0") ++ bytes "200001" ∷ [])))
+    -- 0: a date and its word
+    ∷ (closing (dated ∷ valuesAnd "2026,3,8,16776960" ∷ [] ∷ head ∷ prices))
+    -- 2: a date without its word
+    ∷ (closing ((names ++ bytes ",year,month,day") ∷ valuesAnd "2026,3,8" ∷ [] ∷ head ∷ prices))
+    -- 2: a word without its date
+    ∷ (closing ((names ++ bytes ",window") ∷ valuesAnd "16776960" ∷ [] ∷ head ∷ prices))
+    -- 2: one of the four twice
+    ∷ (closing ((dated ++ bytes ",day") ∷ valuesAnd "2026,3,8,16776960,8" ∷ [] ∷ head ∷ prices))
+    -- 3: `none` under one of the four
+    ∷ (closing (dated ∷ valuesAnd "2026,3,8,none" ∷ [] ∷ head ∷ prices))
+    -- 3: a year before the first
+    ∷ (closing (dated ∷ valuesAnd "2006,3,8,16776960" ∷ [] ∷ head ∷ prices))
+    -- 3: a word of 25 hours
+    ∷ (closing (dated ∷ valuesAnd "2026,3,8,16777216" ∷ [] ∷ head ∷ prices))
+    -- 12: 30 February, with prices and without: 12 comes before 5
+    ∷ (closing (dated ∷ valuesAnd "2024,2,30,1" ∷ [] ∷ head ∷ prices))
+    ∷ (closing (dated ∷ valuesAnd "2024,2,30,1" ∷ [] ∷ head ∷ []))
+    -- 4: 30 February and pmin over pmax: 4 comes before 12
+    ∷ (closing (dated ∷ bytes "10,3,2,2,2,0,2,3000,30000,5000,2,2,none,2024,2,30,1" ∷ [] ∷ head ∷ prices))
     ∷ []
 
 pub numbers : map (λ text. checkedNumber (textChecked text 6144)) texts
     ≡ 0 ∷ 0 ∷ 1 ∷ 1 ∷ 1 ∷ 1 ∷ 1 ∷ 1 ∷ 1 ∷ 1 ∷ 1 ∷ 1 ∷ 1 ∷ 1 ∷ 1 ∷ 1 ∷ 1 ∷ 1 ∷ 1 ∷ 1 ∷ 1 ∷ 1 ∷ 1 ∷ 1
-    ∷ 2 ∷ 2 ∷ 2 ∷ 2 ∷ 2 ∷ 2 ∷ 3 ∷ 3 ∷ 3 ∷ 3 ∷ 3 ∷ 3 ∷ 4 ∷ 4 ∷ 5 ∷ 5 ∷ 3 ∷ []
+    ∷ 2 ∷ 2 ∷ 2 ∷ 2 ∷ 2 ∷ 2 ∷ 3 ∷ 3 ∷ 3 ∷ 3 ∷ 3 ∷ 3 ∷ 4 ∷ 4 ∷ 5 ∷ 5 ∷ 3 ∷ 0 ∷ 2 ∷ 2 ∷ 2 ∷ 3 ∷ 3 ∷ 3
+    ∷ 12 ∷ 12 ∷ 4 ∷ []
 unfolding isOf isName numeral valueOf isValue rangesKept pricesKept formKept namesKept unitIn pricesIn textChecked
 numbers = refl

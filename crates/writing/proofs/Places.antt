@@ -10,16 +10,16 @@ use Rattle.tabletext.specs.Tables.{occurs, under}
 use Rattle.tabletext.specs.Values.{valueOf}
 use Rattle.tabletext.proofs.Alike.{same-refl, same-eq}
 use Rattle.tabletext.proofs.Walks.{weight}
-use Rattle.writing.specs.AsWritten.{StandsUnder}
+use Rattle.writing.specs.AsWritten.{StandsUnder, StandsNowhere}
 
 alike : (field name : List ℕ) → field ≡ name → same field name ≡ true
 alike field name e = ap (λ (s : List ℕ). same s name) e ∙ same-refl name
 
 -- a name that does not occur stands nowhere
-nowhere : (name : List ℕ) (fields : List (List ℕ)) (i : ℕ) → occurs name fields ≡ 0 → i < length fields → getD fields i [] ≡ name → ⊥
-nowhere name [] i z h e = omega (arith, h)
-nowhere name (field ∷ fields) zero z h e = omega (arith, ap weight (alike field name e), z)
-nowhere name (field ∷ fields) (suc i) z h e = nowhere name fields i (omega (arith, z)) (omega arith) e
+pub nowhere : (name : List ℕ) (fields : List (List ℕ)) → occurs name fields ≡ 0 → StandsNowhere fields name
+nowhere name [] z i h e = omega (arith, h)
+nowhere name (field ∷ fields) z zero h e = omega (arith, ap weight (alike field name e), z)
+nowhere name (field ∷ fields) z (suc i) h e = nowhere name fields (omega (arith, z)) i (omega arith) e
 
 -- a name that occurs once has its value under it
 pub stands : (name : List ℕ) (names values : List (List ℕ)) → occurs name names ≡ 1 → length values ≡ length names
@@ -42,7 +42,7 @@ stands name (field ∷ fields) (value ∷ values) o l = go (same field name) ref
       where
         first : (i : ℕ) → i < suc (length fields) → getD (field ∷ fields) i [] ≡ name → i ≡ 0
         first zero h e = refl
-        first (suc i) h e = absurd (nowhere name fields i (omega (arith, ap weight q, o)) (omega arith) e)
+        first (suc i) h e = absurd (nowhere name fields (omega (arith, ap weight q, o)) i (omega arith) e)
     go false q below =
         let w = below (omega (arith, ap weight q, o)) (omega (arith, l)) in
         record {

@@ -61,6 +61,18 @@ module _ (test : List ℕ → Bool) where
         let p = both (known required optional name) (every (known required optional) names) k in
         ap₂ _&&_ (of-known name (p .0)) (of-names names (p .1))
 
+-- a name of no table is no field
+pub none-of : (required optional : List (List ℕ)) (name : List ℕ) → known required optional name ≡ false → (fields : List (List ℕ))
+    → every (known required optional) fields ≡ true → occurs name fields ≡ 0
+none-of required optional name u [] k = refl
+none-of required optional name u (field ∷ fields) k =
+    go (same field name) refl (both (known required optional field) _ k) (none-of required optional name u fields)
+  where
+    go : (t : Bool) → same field name ≡ t → (known required optional field ≡ true) × (every (known required optional) fields ≡ true)
+        → (every (known required optional) fields ≡ true → occurs name fields ≡ 0) → occurs name (field ∷ fields) ≡ 0
+    go true e p below = absurd (false≢true (sym u ∙ ap (known required optional) (sym (same-eq field name e)) ∙ p .0))
+    go false e p below = omega (arith, ap weight e, below (p .1))
+
 -- ---- a table of one name
 
 pub all-this : (name : List ℕ) (fields : List (List ℕ)) → every (known (name ∷ []) []) fields ≡ true → occurs name fields ≡ length fields

@@ -6,13 +6,16 @@ use lib.IntN.{ℤ, pos}
 use lib.ListN.{length, getD}
 use Rattle.commitment.specs.declared.Limit.{Limit}
 use Rattle.commitment.specs.declared.Limit.the-variants.{None, At}
+use Rattle.commitment.specs.declared.Permit.{Permit}
+use Rattle.commitment.specs.declared.Permit.the-variants.{AnyHour, Within}
+use Rattle.commitment.specs.declared.Window.{Window}
 use Rattle.commitment.specs.declared.UnitRecord.{UnitRecord}
 use Rattle.tabletext.specs.declared.Value.{Value}
 use Rattle.tabletext.specs.declared.Value.the-variants.{WordNone, Number}
 use Rattle.tabletext.specs.Pieces.{linesOf, fieldsOf}
 use Rattle.tabletext.specs.Values.{valueOf}
 use Rattle.casetext.specs.Names.{blockName, pminName, pmaxName, motName, mdtName, wasName, heldName, vecName, mlcName, sucName}
-use Rattle.casetext.specs.Names.{startsName, hoursName, mwhName, priceName}
+use Rattle.casetext.specs.Names.{startsName, hoursName, mwhName, yearName, monthName, dayName, windowName, priceName}
 use Rattle.casetext.specs.Form.{unitHead, unitRow, priceHead, priceRows}
 
 -- the value under its name: the name stands at one place of the line of names, and the value at that place of the line of values
@@ -27,6 +30,27 @@ pub record StandsUnder (names values : List (List ℕ)) (name : List ℕ) (value
 abbrev pub limitValue : Limit → Value
 limitValue None = WordNone
 limitValue (At n) = Number (pos n)
+
+-- the name stands at no place of the line of names
+abbrev pub StandsNowhere : List (List ℕ) → List ℕ → Type 0
+StandsNowhere names name = (i : ℕ) → i < length names → getD names i [] ≡ name → ⊥
+
+pub record WindowWritten (names values : List (List ℕ)) (w : Window) : Type 0 where
+  pub year : StandsUnder names values yearName (Number (pos (w .date .year)))
+  pub month : StandsUnder names values monthName (Number (pos (w .date .month)))
+  pub day : StandsUnder names values dayName (Number (pos (w .date .day)))
+  pub window : StandsUnder names values windowName (Number (pos (w .word)))
+
+pub record NoWindow (names : List (List ℕ)) : Type 0 where
+  pub no-year : StandsNowhere names yearName
+  pub no-month : StandsNowhere names monthName
+  pub no-day : StandsNowhere names dayName
+  pub no-window : StandsNowhere names windowName
+
+-- a date and its word stand under their four names; where every hour is permitted, none of the four names is there
+abbrev pub PermitWritten : List (List ℕ) → List (List ℕ) → Permit → Type 0
+PermitWritten names values AnyHour = NoWindow names
+PermitWritten names values (Within w) = WindowWritten names values w
 
 pub record AsWritten (text : List ℕ) (u : UnitRecord) (prices : List ℤ) : Type 0 where
   pub lines : linesOf text ≡ unitHead text ∷ unitRow text ∷ [] ∷ priceHead text ∷ priceRows text
@@ -43,6 +67,7 @@ pub record AsWritten (text : List ℕ) (u : UnitRecord) (prices : List ℤ) : Ty
   pub starts : StandsUnder (fieldsOf (unitHead text)) (fieldsOf (unitRow text)) startsName (limitValue (u .limits .starts))
   pub hours : StandsUnder (fieldsOf (unitHead text)) (fieldsOf (unitRow text)) hoursName (limitValue (u .limits .hours))
   pub mwh : StandsUnder (fieldsOf (unitHead text)) (fieldsOf (unitRow text)) mwhName (limitValue (u .limits .mwh))
+  pub permit : PermitWritten (fieldsOf (unitHead text)) (fieldsOf (unitRow text)) (u .permit)
   pub price-name : priceHead text ≡ priceName
   pub one-a-line : length prices ≡ length (priceRows text)
   pub price : (i : ℕ) → i < length prices → valueOf (getD (priceRows text) i []) ≡ Number (getD prices i (pos 0))

@@ -6,11 +6,13 @@ use lib.Dec.{ltb}
 use lib.IntN.{ℤ, pos, negsuc}
 use Rattle.commitment.specs.declared.Limit.{Limit}
 use Rattle.commitment.specs.declared.Limit.the-variants.{None, At}
+use Rattle.commitment.specs.declared.Permit.{Permit}
+use Rattle.commitment.specs.declared.Permit.the-variants.{AnyHour, Within}
 use Rattle.commitment.specs.declared.UnitRecord.{UnitRecord}
 use Rattle.tabletext.specs.Bytes.{same}
 use Rattle.tabletext.specs.Values.{noneWord}
 use Rattle.casetext.specs.Names.{blockName, pminName, pmaxName, motName, mdtName, wasName, heldName, vecName, mlcName, sucName}
-use Rattle.casetext.specs.Names.{startsName, hoursName, mwhName, priceName}
+use Rattle.casetext.specs.Names.{startsName, hoursName, mwhName, yearName, monthName, dayName, windowName, priceName, unitNames, datedNames}
 
 -- fields joined by commas
 abbrev pub joined : List (List ℕ) → List ℕ
@@ -40,6 +42,16 @@ abbrev pub shownLimit : Limit → List ℕ
 shownLimit None = noneWord
 shownLimit (At n) = shownWhole n
 
+-- of a date and its word, by the name
+abbrev pub shownDated : Permit → List ℕ → List ℕ
+shownDated AnyHour name = []
+shownDated (Within w) name =
+    cond (same name yearName) (shownWhole (w .date .year))
+    (cond (same name monthName) (shownWhole (w .date .month))
+    (cond (same name dayName) (shownWhole (w .date .day))
+    (cond (same name windowName) (shownWhole (w .word))
+    [])))
+
 -- a field of the record, by its name
 abbrev pub shownField : UnitRecord → List ℕ → List ℕ
 shownField u name =
@@ -56,7 +68,15 @@ shownField u name =
     (cond (same name startsName) (shownLimit (u .limits .starts))
     (cond (same name hoursName) (shownLimit (u .limits .hours))
     (cond (same name mwhName) (shownLimit (u .limits .mwh))
-    []))))))))))))
+    (shownDated (u .permit) name)))))))))))))
+
+-- the names that a record is written under: the thirteen, and with a date the four
+abbrev pub datedFor : Permit → List (List ℕ)
+datedFor AnyHour = []
+datedFor (Within w) = datedNames
+
+abbrev pub namesFor : Permit → List (List ℕ)
+namesFor permit = unitNames ++ datedFor permit
 
 -- the text of a case, its names in a sequence of the writer's own
 unfoldable pub written : List (List ℕ) → UnitRecord → List ℤ → List ℕ

@@ -1,9 +1,9 @@
 //! Months on the library and on the same algorithm in plain Rust, alternating in one run over the same scratch. Prints ns per cell, the ratio of
-//! the two, and the floor: each cell written, read and cleared once.
+//! the two, and the floor: each cell written, read and cleared once. Some cases come once more with permitted hours, all of them and half.
 
 mod plain;
 
-use ralwinga::{cells_needed, plan_into, report_into, Unit};
+use ralwinga::{cells_needed, plan_into, report_into, Unit, Window};
 use std::hint::black_box;
 use std::time::Instant;
 
@@ -44,7 +44,23 @@ fn unit() -> Unit {
         starts: None,
         hours: None,
         mwh: None,
+        window: None,
     }
+}
+
+const EVERY_HOUR: u64 = (1 << 24) - 1;
+/// From 7 to 19.
+const TWELVE_HOURS: u64 = (1 << 19) - (1 << 7);
+
+/// The unit with permitted hours, over a month in which clocks are changed.
+fn permitted(unit: Unit, word: u64) -> Unit {
+    let window = Some(Window {
+        year: 2024,
+        month: 3,
+        day: 1,
+        word,
+    });
+    Unit { window, ..unit }
 }
 
 fn cases() -> Vec<(&'static str, Unit)> {
@@ -55,6 +71,14 @@ fn cases() -> Vec<(&'static str, Unit)> {
         mwh: Some(1000),
         ..u
     };
+    let hours = Unit {
+        hours: Some(200),
+        ..u
+    };
+    let mwh = Unit {
+        mwh: Some(5000),
+        ..u
+    };
     vec![
         (
             "starts 30",
@@ -63,13 +87,9 @@ fn cases() -> Vec<(&'static str, Unit)> {
                 ..u
             },
         ),
-        (
-            "hours 200",
-            Unit {
-                hours: Some(200),
-                ..u
-            },
-        ),
+        ("hours 200", hours),
+        ("hours 200, every hour", permitted(hours, EVERY_HOUR)),
+        ("hours 200, 12 hours", permitted(hours, TWELVE_HOURS)),
         (
             "starts 30, hours 200",
             Unit {
@@ -78,13 +98,9 @@ fn cases() -> Vec<(&'static str, Unit)> {
                 ..u
             },
         ),
-        (
-            "mwh 5000, 7 outputs",
-            Unit {
-                mwh: Some(5000),
-                ..u
-            },
-        ),
+        ("mwh 5000, 7 outputs", mwh),
+        ("mwh 5000, every hour", permitted(mwh, EVERY_HOUR)),
+        ("mwh 5000, 12 hours", permitted(mwh, TWELVE_HOURS)),
         ("mwh 1000, 31 outputs", Unit { pmax: 34, ..narrow }),
         (
             "mwh 1000, 101 outputs",

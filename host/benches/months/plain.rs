@@ -1,7 +1,7 @@
 //! The library's algorithm in plain Rust, the baseline: one table of what is left, layers from the last to the first, the plan read off from
 //! the front, outcomes from the first layer, the cells cleared. It checks nothing.
 
-use ralwinga::{Outcome, Outcomes, Report, Unit};
+use ralwinga::{clock_hour, Outcome, Outcomes, Report, Unit};
 
 /// Where there is no schedule, and what no profit reaches.
 const INFEASIBLE: i64 = -(1 << 62);
@@ -170,7 +170,14 @@ fn raise_span(f: &Figures, to: &mut [i64], from: &[i64], price: i64, s: usize) {
     }
 }
 
-fn fill_layer(f: &Figures, layer: &mut [i64], behind: &[i64], price: i64) {
+/// Whether the unit may run in the interval at a place.
+fn opens(unit: &Unit, place: usize) -> bool {
+    unit.window.is_none_or(|w| {
+        clock_hour(w.year, w.month, w.day, place as u64 + 1).is_ok_and(|hour| w.allows(hour))
+    })
+}
+
+fn fill_layer(f: &Figures, layer: &mut [i64], behind: &[i64], price: i64, opens: bool) {
     for (s, to) in layer.chunks_exact_mut(f.part).enumerate() {
         let off = f.after_off(s);
         if off < f.states {
@@ -179,7 +186,7 @@ fn fill_layer(f: &Figures, layer: &mut [i64], behind: &[i64], price: i64) {
             to.fill(INFEASIBLE);
         }
         let on = f.after_on(s);
-        if on < f.states {
+        if opens && on < f.states {
             let from = &behind[on * f.part..(on + 1) * f.part];
             let skipped = f.start_takes(s) * f.span;
             for (to, from) in to[skipped..]
@@ -197,7 +204,8 @@ fn fill(f: &Figures, scratch: &mut [i64], prices: &[i64]) {
     scratch[n * f.width..(n + 1) * f.width].fill(0);
     for t in (0..n).rev() {
         let (layer, behind) = scratch[t * f.width..].split_at_mut(f.width);
-        fill_layer(f, layer, &behind[..f.width], prices[t]);
+        let behind = &behind[..f.width];
+        fill_layer(f, layer, behind, prices[t], opens(&f.unit, t));
     }
 }
 

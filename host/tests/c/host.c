@@ -25,7 +25,8 @@ int main(void) {
         ralwinga_report(read.unit, prices, read.count, scratch, need.cells, schedule, 6144);
     struct ralwinga_written written =
         report.number != 0 ? ralwinga_refusal(report.number, out, sizeof out)
-                           : ralwinga_listing(schedule, report.count, report.profit, report.outcomes, out, sizeof out);
+                           : ralwinga_listing(schedule, report.count, report.profit, report.outcomes, read.unit.window, out,
+                                              sizeof out);
     free(scratch);
     return print(written);
 }

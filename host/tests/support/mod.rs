@@ -2,6 +2,7 @@
 #![allow(dead_code, unused_imports)]
 
 pub mod browser;
+pub mod calendar;
 mod cases;
 pub mod fractions;
 pub mod inputs;
@@ -13,11 +14,17 @@ pub mod recursion;
 mod running;
 mod texts;
 
-pub use cases::{any_case, any_schedule, damage, long_case, month, small_case, C1};
+pub use cases::{
+    any_case, any_schedule, any_window, c1, damage, dated, long_case, month, small_case,
+};
+pub use cases::{C1, FULL};
 pub use lent::Lent;
 pub use random::Random;
 pub use running::{answer_on, proved_program, ralwinga, run_on, run_unread, Folder};
-pub use texts::{damage_text, shuffled_table, text_of};
+pub use texts::{columns_of, damage_text, shuffled_table, text_of, text_with};
+
+/// How often each number came up, 0 for no refusal.
+pub type Seen = [usize; 13];
 
 /// Each of these numbers came up more often than now and then.
 pub fn each_came_up(seen: &[usize], numbers: &[usize]) {

@@ -1,7 +1,8 @@
 //! The specification once more in plain Rust, by enumeration: every list of outputs is tried. It shares no code with the library or the wrapper
 //! but the types.
 
-use ralwinga::{CostFigures, CostInputs, Outcome, Outcomes, Report, Unit};
+use super::calendar;
+use ralwinga::{CostFigures, CostInputs, Outcome, Outcomes, Report, Unit, Window};
 
 type Refused = u64;
 
@@ -9,7 +10,18 @@ fn in_range(limit: Option<u64>, most: u64) -> bool {
     limit.is_none_or(|figure| figure <= most)
 }
 
-/// 3, 4 or 5 of a record and its prices.
+fn date_of(w: &Window) -> calendar::Date {
+    (w.year, w.month, w.day)
+}
+
+fn window_in_range(w: &Window) -> bool {
+    (2007..=2099).contains(&w.year)
+        && (1..=12).contains(&w.month)
+        && (1..=31).contains(&w.day)
+        && w.word < 1 << 24
+}
+
+/// 3, 4, 12 or 5 of a record and its prices.
 pub fn judge_case(u: &Unit, prices: &[i64]) -> Result<(), Refused> {
     let ranges = (1..=500).contains(&u.block)
         && (1..=500).contains(&u.pmin)
@@ -23,12 +35,16 @@ pub fn judge_case(u: &Unit, prices: &[i64]) -> Result<(), Refused> {
         && u.suc <= 4_000_000_000
         && in_range(u.starts, 2976)
         && in_range(u.hours, 744)
-        && in_range(u.mwh, 372_000);
+        && in_range(u.mwh, 372_000)
+        && u.window.is_none_or(|w| window_in_range(&w));
     if !ranges || prices.iter().any(|p| !(-200_000..=200_000).contains(p)) {
         return Err(3);
     }
     if u.pmin > u.pmax || u.pmax * u.block > 500 {
         return Err(4);
+    }
+    if u.window.is_some_and(|w| !calendar::exists(date_of(&w))) {
+        return Err(12);
     }
     if prices.is_empty() || prices.len() > 2976 {
         return Err(5);
@@ -38,6 +54,15 @@ pub fn judge_case(u: &Unit, prices: &[i64]) -> Result<(), Refused> {
 
 fn is_output(u: &Unit, mw: u64) -> bool {
     mw == 0 || mw.is_multiple_of(u.block) && (u.pmin * u.block..=u.pmax * u.block).contains(&mw)
+}
+
+/// Whether the unit may run in each of so many intervals.
+pub fn permitted(u: &Unit, intervals: usize) -> Vec<bool> {
+    let Some(w) = u.window else {
+        return vec![true; intervals];
+    };
+    let hours = calendar::shown(date_of(&w), intervals).into_iter();
+    hours.map(|shown| w.word & 1 << shown.hour != 0).collect()
 }
 
 /// The spells of a schedule, the one before interval 1 first: on or off, and its length.
@@ -54,11 +79,19 @@ fn spells(u: &Unit, schedule: &[u64]) -> Vec<(bool, u64)> {
 }
 
 pub fn keeps(u: &Unit, schedule: &[u64]) -> bool {
+    keeps_where(u, &permitted(u, schedule.len()), schedule)
+}
+
+fn keeps_where(u: &Unit, permitted: &[bool], schedule: &[u64]) -> bool {
     let spells = spells(u, schedule);
     let starts = spells[1..].iter().filter(|(on, _)| *on).count() as u64;
     let ended = &spells[..spells.len() - 1];
     let on_intervals = schedule.iter().filter(|mw| **mw > 0).count() as u64;
     schedule.iter().all(|mw| is_output(u, *mw))
+        && schedule
+            .iter()
+            .zip(permitted)
+            .all(|(mw, permitted)| *permitted || *mw == 0)
         && ended
             .iter()
             .all(|(on, length)| *length >= if *on { u.mot } else { u.mdt })
@@ -89,25 +122,29 @@ pub fn profit(u: &Unit, prices: &[i64], schedule: &[u64]) -> i128 {
 
 /// Tries every list in the paper's order; the first of the best stays.
 pub fn best(u: &Unit, prices: &[i64]) -> Option<(i128, Vec<u64>)> {
-    fn extend(u: &Unit, prices: &[i64], list: &mut Vec<u64>, found: &mut Option<(i128, Vec<u64>)>) {
-        if list.len() == prices.len() {
-            if keeps(u, list) {
-                let earned = profit(u, prices, list);
-                if found.as_ref().is_none_or(|(most, _)| earned > *most) {
-                    *found = Some((earned, list.clone()));
-                }
-            }
-            return;
-        }
-        for output in std::iter::once(0).chain((u.pmin..=u.pmax).map(|k| k * u.block)) {
-            list.push(output);
-            extend(u, prices, list, found);
-            list.pop();
-        }
-    }
     let mut found = None;
-    extend(u, prices, &mut Vec::new(), &mut found);
+    let permitted = permitted(u, prices.len());
+    each_list(u, prices.len(), &mut Vec::new(), &mut |list| {
+        if keeps_where(u, &permitted, list) {
+            let earned = profit(u, prices, list);
+            if found.as_ref().is_none_or(|(most, _)| earned > *most) {
+                found = Some((earned, list.to_vec()));
+            }
+        }
+    });
     found
+}
+
+/// Every list of so many outputs that goes on from this one.
+fn each_list(u: &Unit, length: usize, list: &mut Vec<u64>, tried: &mut impl FnMut(&[u64])) {
+    if list.len() == length {
+        return tried(list);
+    }
+    for output in std::iter::once(0).chain((u.pmin..=u.pmax).map(|k| k * u.block)) {
+        list.push(output);
+        each_list(u, length, list, tried);
+        list.pop();
+    }
 }
 
 fn outcome(limit: Option<u64>, best_at: impl Fn(u64) -> Option<i128>) -> Outcome {
@@ -167,7 +204,8 @@ pub fn writable(u: &Unit, prices: &[i64]) -> bool {
     let others = [
         u.block, u.pmin, u.pmax, u.mot, u.mdt, u.was, u.held, u.vec, u.mlc, u.suc,
     ];
-    let all = limits.chain(others);
+    let window = u.window.map(|w| [w.year, w.month, w.day, w.word]);
+    let all = limits.chain(others).chain(window.into_iter().flatten());
     all.chain(prices.iter().map(|price| price.unsigned_abs()))
         .all(|figure| figure <= 9_999_999_999)
 }
@@ -227,15 +265,18 @@ pub fn table(schedule: &[u64]) -> String {
     format!("interval,mw\n{}", lines.collect::<String>())
 }
 
-/// What is printed for a case.
-pub fn printed(answer: &Result<(Report, Vec<u64>), Refused>) -> String {
+/// What is printed for a case of a unit.
+pub fn printed(u: &Unit, answer: &Result<(Report, Vec<u64>), Refused>) -> String {
     match answer {
         Err(number) => format!("refused,{number}\n"),
         Ok((report, plan)) => {
             let [profit, starts, hours, mwh] = figures_printed(report);
             let table = table(plan);
+            let allowed = |w: Window| (0..24).filter(|hour| w.word & 1 << hour != 0).count();
+            let window = u.window.map(|w| format!("window,{}\n", allowed(w)));
             format!(
-                "{table}\nwhat,value\nprofit,{profit}\nstarts,{starts}\nhours,{hours}\nmwh,{mwh}\n"
+                "{table}\nwhat,value\nprofit,{profit}\nstarts,{starts}\nhours,{hours}\nmwh,{mwh}\n{}",
+                window.unwrap_or_default()
             )
         }
     }

@@ -1,5 +1,6 @@
 //! The best plan by a plain recursion with a memory, from the front and by what was used so far: for cases too long to try every list.
 
+use super::paper;
 use ralwinga::Unit;
 use std::collections::HashMap;
 
@@ -18,6 +19,8 @@ struct Place {
 struct Search<'a> {
     unit: &'a Unit,
     prices: &'a [i64],
+    /// Whether the unit may run, interval by interval.
+    permitted: Vec<bool>,
     known: HashMap<Place, Option<i64>>,
 }
 
@@ -26,6 +29,9 @@ impl Search<'_> {
     fn step(&self, place: Place, output: u64) -> Option<(Place, i64)> {
         let u = self.unit;
         let on = output > 0;
+        if on && !self.permitted[place.interval] {
+            return None;
+        }
         let turned = on != place.on;
         if turned && place.spell < if place.on { u.mot } else { u.mdt } {
             return None;
@@ -88,6 +94,7 @@ pub fn best(unit: &Unit, prices: &[i64]) -> Option<(i64, Vec<u64>)> {
     let mut search = Search {
         unit,
         prices,
+        permitted: paper::permitted(unit, prices.len()),
         known: HashMap::new(),
     };
     let mut place = Place {

@@ -8,20 +8,31 @@ const UNIT_NAMES: [&str; 13] = [
     "mwh",
 ];
 
-/// The text of a case, its names in a random sequence.
-pub fn text_of(random: &mut Random, u: &Unit, prices: &[i64]) -> String {
+const WINDOW_NAMES: [&str; 4] = ["year", "month", "day", "window"];
+
+/// The names of a case and what stands under them.
+pub fn columns_of(u: &Unit) -> Vec<(&'static str, String)> {
     let limit = |figure: Option<u64>| figure.map_or("none".to_string(), |f| f.to_string());
     let values = [
         u.block, u.pmin, u.pmax, u.mot, u.mdt, u.was, u.held, u.vec, u.mlc, u.suc,
     ];
-    let columns: Vec<(&str, String)> = UNIT_NAMES
-        .into_iter()
-        .zip(values.iter().map(u64::to_string).chain([
-            limit(u.starts),
-            limit(u.hours),
-            limit(u.mwh),
-        ]))
-        .collect();
+    let limits = [limit(u.starts), limit(u.hours), limit(u.mwh)];
+    let values = values.iter().map(u64::to_string).chain(limits);
+    let columns = UNIT_NAMES.into_iter().zip(values);
+    let window = u.window.map(|w| {
+        let values = [w.year, w.month, w.day, w.word].map(|figure| figure.to_string());
+        WINDOW_NAMES.into_iter().zip(values)
+    });
+    columns.chain(window.into_iter().flatten()).collect()
+}
+
+/// The text of a case, its names in a random sequence.
+pub fn text_of(random: &mut Random, u: &Unit, prices: &[i64]) -> String {
+    text_with(random, columns_of(u), prices)
+}
+
+/// The text of these columns in a random sequence, and of prices.
+pub fn text_with(random: &mut Random, columns: Vec<(&str, String)>, prices: &[i64]) -> String {
     let mut text = shuffled_table(random, columns) + "\nprice\n";
     for price in prices {
         text.push_str(&format!("{price}\n"));
@@ -40,7 +51,7 @@ pub fn shuffled_table(random: &mut Random, mut columns: Vec<(&str, String)>) -> 
 }
 
 /// What a damaged text gains.
-const PIECES: [&str; 16] = [
+const PIECES: [&str; 19] = [
     "none",
     "-",
     "0",
@@ -51,6 +62,9 @@ const PIECES: [&str; 16] = [
     "\n\n",
     "price",
     "starts",
+    "year",
+    "day",
+    "window",
     "9999999999",
     "10000000000",
     "-1",
@@ -67,8 +81,8 @@ pub fn damage_text(random: &mut Random, text: &mut Vec<u8>) {
         0 => {
             text.remove(at);
         }
-        1 => text[at] = random.from(b"0123456789-,\nanoeprics +\r\t"),
-        2 => text.insert(at, random.from(b"0123456789-,\nanoeprics")),
+        1 => text[at] = random.from(b"0123456789-,\nanoepricsdwy +\r\t"),
+        2 => text.insert(at, random.from(b"0123456789-,\nanoepricsdwy")),
         3 => text.truncate(at),
         4 => {
             text.splice(at..at, piece);

@@ -27,7 +27,7 @@ lent s = lengths (s .args .prices .now) (s .args .scratch .now) (s .args .schedu
 abbrev lines : tie.Start → Checked → List ℕ
 lines s found =
     let text = s .args .text .now in
-    linesFor found (serves (length (pricesIn text)) (length (s .args .out .now))) (unitIn text) (pricesIn text)
+    linesFor found (serves (unitIn text .permit) (length (pricesIn text)) (length (s .args .out .now))) (unitIn text) (pricesIn text)
 
 abbrev said : tie.Start → Checked → Answered
 said s found =

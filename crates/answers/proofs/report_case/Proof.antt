@@ -15,7 +15,9 @@ use Rattle.planner.specs.declared.Reported.the-variants as reported
 use Rattle.planner.specs.Planning.{planChecked}
 use Rattle.planner.proofs.Answering.{report-fits}
 use borrow.Author.Needs.{needs}
-use Rattle.answers.proofs.Printing.{answered-as, wrote, part-counted}
+use Rattle.listing.proofs.Fitting.{listing-written, listing-after}
+use Rattle.answers.specs.Answering.{wordOf}
+use Rattle.answers.proofs.Printing.{answered-as, wrote, part-counted, word-kept}
 use Rattle.answers.proofs.report_case.Statement.{statement}
 use Rattle.answers.proofs.report_case.Tie as tie
 
@@ -38,10 +40,10 @@ fits c =
     omega (arith, counted, ap length (r .report-into .ensures .1 .0))
 
 slice-reshare-prefix-write-listing : tie.Need-slice-reshare-prefix-write-listing
-slice-reshare-prefix-write-listing c = omega (arith, fits c)
+slice-reshare-prefix-write-listing c = omega (arith, fits (c .before))
 
 slice-aggregate-write-listing : tie.Need-slice-aggregate-write-listing
-slice-aggregate-write-listing c = sym (length-take-le _ _ (omega (arith, fits (c .before))))
+slice-aggregate-write-listing c = sym (length-take-le _ _ (omega (arith, fits (c .before .before))))
 
 returns : tie.Need-returns
 returns c =
@@ -57,24 +59,34 @@ returns c =
 returns-2 : tie.Need-returns-2
 returns-2 c =
     let w = c .before .before .before in
-    let r = w .before .before .before .before .before .before .before .before .before .before .before in
+    let word = w .before .before .before in
+    let outcomes = word .before in
+    let told-at = outcomes .before .before .before in
+    let r = told-at .before .before .before .before .before in
     let s = r .before .before .before .before .before in
     let a = s .args in
-    let told = w .before .before .before .before .before .before .report .given in
+    let told = told-at .report .given in
     let report = told .0 .0 in
     let is = sym (r .report-into .ensures .0) ∙ told .1 in
-    let profit = plain-fits {x = report .profit} (record { sfits = w .before .before .before .before .struct-told .given .1 .0 .1 }) in
+    let profit = plain-fits {x = report .profit} (record { sfits = outcomes .before .struct-told .given .1 .0 .1 }) in
     let part = ap (take (report .count)) (r .report-into .ensures .1 .0) ∙ part-counted (found s) (a .unit) (a .prices .now) (a .schedule .now) report is in
-    let same = ap₂ (λ (outputs : List ℕ) (p : ℤ). listing outputs p (report .outcomes)) part profit in
-    let bytes = answered-as {number = 0} refl (c .bytes-in .ensures ∙ ap bytesIn (w .write-listing .ensures .0)) in
-    let made = wrote (found s) (a .unit) (a .prices .now) (a .out .now) (reported.Report report) is same (bytes, w .write-listing .ensures .1) in
+    let hours = wordOf (a .unit .permit) in
+    let kept = word-kept (a .unit) (a .prices .now) (length (a .scratch .now)) (length (a .schedule .now)) report is in
+    let listed = rw (word .word-of .ensures) at (w .write-listing .ensures) in
+    let same = ap₂ (λ (outputs : List ℕ) (p : ℤ). listing outputs p (report .outcomes) hours) part profit in
+    let bytes =
+    answered-as {number = 0} refl
+    (c .bytes-in .ensures ∙ ap bytesIn (listed .0 ∙ listing-written _ _ _ hours kept (length (a .out .now)))) in
+    let made =
+    wrote (found s) (a .unit) (a .prices .now) (a .out .now) (reported.Report report) is same
+    (bytes, listed .1 ∙ listing-after _ _ _ hours kept (a .out .now)) in
     (made .0, (made .1, r .report-into .ensures .1))
 
 pub report-case-spec : {M : Type 1} → statement M
 report-case-spec =
     tie.close
     (tie.spec
-    (λ c κs. search needs) (λ c. search needs) (λ c κs. search needs) (λ c. search needs)
+    (λ c κs. search needs) (λ c. search needs) (λ c κs. search needs) (λ c. search needs) (λ c κs. search needs)
     slice-reshare-prefix-write-listing
     slice-aggregate-write-listing
     (λ c κs. search needs) (λ c κs. search needs) (λ c. search needs) (λ c. search needs) (λ c. search needs)

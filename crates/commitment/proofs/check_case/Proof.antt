@@ -33,21 +33,36 @@ returns-3 c =
     simp (
       ranges-and-prices (first .before) ∙ not-false _ (first .if1 .left),
       sym (second .before .shape-kept .ensures) ∙ not-false _ (second .if2 .left),
-      sym (c .before .horizon-kept .ensures) ∙ not-true _ (c .if3 .taken),
+      sym (c .before .date-kept .ensures) ∙ not-true _ (c .if3 .taken),
     )
 
 returns-4 : tie.Need-returns-4
 unfolding caseChecked
 returns-4 c =
-    let second = c .before .before in
+    let third = c .before .before in
+    let second = third .before .before in
     let first = second .before .before in
     simp (
       ranges-and-prices (first .before) ∙ not-false _ (first .if1 .left),
       sym (second .before .shape-kept .ensures) ∙ not-false _ (second .if2 .left),
-      sym (c .before .horizon-kept .ensures) ∙ not-false _ (c .if3 .left),
+      sym (third .before .date-kept .ensures) ∙ not-false _ (third .if3 .left),
+      sym (c .before .horizon-kept .ensures) ∙ not-true _ (c .if4 .taken),
+    )
+
+returns-5 : tie.Need-returns-5
+unfolding caseChecked
+returns-5 c =
+    let third = c .before .before in
+    let second = third .before .before in
+    let first = second .before .before in
+    simp (
+      ranges-and-prices (first .before) ∙ not-false _ (first .if1 .left),
+      sym (second .before .shape-kept .ensures) ∙ not-false _ (second .if2 .left),
+      sym (third .before .date-kept .ensures) ∙ not-false _ (third .if3 .left),
+      sym (c .before .horizon-kept .ensures) ∙ not-false _ (c .if4 .left),
     )
 
 pub check-case-spec : {M : Type 1} → statement M
 check-case-spec =
     tie.close
-    (tie.spec (λ c κs. search needs) returns shape-kept-requires returns-2 (λ c κs. search needs) returns-3 returns-4)
+    (tie.spec (λ c κs. search needs) returns shape-kept-requires returns-2 (λ c κs. search needs) returns-3 (λ c κs. search needs) returns-4 returns-5)

@@ -1,4 +1,4 @@
--- The four groups of fields.
+-- The five groups of fields.
 use Rattle.commitment.specs.Ranges.{rangesKept}
 use borrow.Author.Needs.{needs}
 use Rattle.commitment.proofs.ranges_kept.Statement.{statement}
@@ -12,6 +12,7 @@ pub ranges-kept-spec : {M : Type 1} → statement M
 ranges-kept-spec =
     tie.close
     (tie.spec
+    (λ c κs. search needs)
     (λ c κs. search needs)
     (λ c κs. search needs)
     (λ c κs. search needs)

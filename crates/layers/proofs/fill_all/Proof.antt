@@ -9,6 +9,8 @@ use lib.IntN.{ℤ, pos}
 use lib.ListN.{length, getD, drop}
 use lib.Seq.{drop-drop}
 use Rattle.optimality.specs.Machine.{anywhere}
+use Rattle.optimality.proofs.Quarters.{quarters-length}
+use Rattle.commitment.specs.Windows.{opens}
 use Rattle.geometry.specs.Geometry.{width}
 use Rattle.layers.proofs.Stretches.{putIn, put-apart, same-from}
 use Rattle.layers.proofs.Filling.{ends-anywhere}
@@ -30,7 +32,7 @@ fill-requires c κs =
     let put = c .before .before in
     let o = put .before .before in
     let a = o .args in (
-      (rw (put .put .kept .0) (o .pre .0), o .pre .1, o .pre .2),
+      (rw (put .put .kept .0) (o .pre .0), o .pre .1, o .pre .2, o .pre .3),
       record {
         ends = anywhere;
         last = rw (put-is put) (ends-anywhere (a .f) (a .scratch .now) (length (a .prices .now) * width (a .f)) (fits o));
@@ -53,7 +55,7 @@ returns c =
     let a = o .args in
     let n = length (a .prices .now) in
     let w = width (a .f) in (
-      c .before .fill .ensures .0 anywhere (rw (put-is put) (ends-anywhere (a .f) (a .scratch .now) (n * w) (fits o))),
+      c .before .fill .ensures .0 anywhere (rw (put-is put, quarters-length (opens (a .hours)) 0 (a .prices .now)) (ends-anywhere (a .f) (a .scratch .now) (n * w) (fits o))),
       rw (o .pre .1) (behind n w (a .scratch .now) (put .put .last .0) (c .before .fill .last .0) (fits o) (put-is put) (put .put .kept .0)
           (rw (o .pre .1) at (c .before .fill .ensures .1))),
     )

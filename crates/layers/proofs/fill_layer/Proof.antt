@@ -5,6 +5,7 @@ use lib.ListN.{length}
 use Rattle.lists.proofs.Fills.{tail-part, tail-back}
 use Rattle.integers.proofs.Ranges.{plain-fits}
 use borrow.Author.Needs.{needs}
+use Rattle.optimality.specs.Machine.{quarter}
 use Rattle.layers.proofs.Lending.{behind-part, lent-made}
 use Rattle.layers.proofs.fill_layer.Statement.{statement}
 use Rattle.layers.proofs.fill_layer.Tie as tie
@@ -27,7 +28,7 @@ returns c =
     let part = c .before .fill-layer .last .0 in
     let fits : a .at ≤ length scratch = omega (arith, o .pre .2 .fits) in
     let made = rw (tail-part (a .at) scratch, plain-fits (o .fits .price)) at (c .before .fill-layer .ensures) in
-    rw (tail-back (a .at) scratch part fits) (lent-made scratch part (a .at) fits (a .f) (a .price) made)
+    rw (tail-back (a .at) scratch part fits) (lent-made scratch part (a .at) fits (a .f) (quarter (a .price) (a .opens)) made)
 
 pub fill-layer-spec : {M : Type 1} → statement M
 fill-layer-spec =

@@ -1,4 +1,4 @@
--- The totals first, then the intervals in the room that they leave.
+-- The totals and the window first, then the intervals in the room that they leave.
 use mathlib.Core.Path.{_≡_, sym, ap, _∙_}
 use Prim.Native.Nat.{ℕ, _+_, _-_}
 use native.Mathlib.Omega.{arith}
@@ -10,12 +10,12 @@ use Rattle.listing.specs.declared.Fit.the-variants.{Bytes, TooLong}
 use Rattle.listing.specs.Listing.{intervalLines, profitLine, outcomeLines, listing, fitted}
 use borrow.Author.Needs.{needs}
 use Rattle.listing.proofs.Fitting.{lengthened, fit-more, fit-room}
-use Rattle.listing.proofs.Lengths.{listing-length}
+use Rattle.listing.proofs.Lengths.{totals-short, window-short, listing-length}
 use Rattle.listing.proofs.listing_fit.Statement.{statement}
 use Rattle.listing.proofs.listing_fit.Tie as tie
 
 abbrev whole-length : tie.Start → ℕ
-whole-length c = length (listing (c .args .schedule .now) (c .args .profit) (c .args .outcomes))
+whole-length c = length (listing (c .args .schedule .now) (c .args .profit) (c .args .outcomes) (c .args .word))
 
 abbrev lines-length : tie.Start → ℕ
 lines-length c = length (intervalLines 1 (c .args .schedule .now))
@@ -25,35 +25,43 @@ totals-are : (c : tie.After-totals-length) →
     c .totals-length .result ≡ 24 + (length (profitLine (a .profit)) + length (outcomeLines (a .outcomes)))
 totals-are c = rw (plain-fits (c .before .before .fits .profit)) at (c .totals-length .ensures)
 
--- the listing's length by what the totals take
-parts : (c : tie.After-totals-length) → whole-length (c .before .before) ≡ lines-length (c .before .before) + c .totals-length .result
+-- what the totals and the window take
+abbrev rest : tie.After-window-length → ℕ
+rest c = c .before .totals-length .result + c .window-length .result
+
+parts : (c : tie.After-window-length) → let s = c .before .before .before in whole-length s ≡ lines-length s + rest c
 parts c =
-    let a = c .before .before .args in
-    listing-length (a .schedule .now) (a .profit) (a .outcomes) ∙ ap (λ (n : ℕ). lines-length (c .before .before) + n) (sym (totals-are c))
+    let a = c .before .before .before .args in
+    omega (arith, listing-length (a .schedule .now) (a .profit) (a .outcomes) (a .word), totals-are (c .before), c .window-length .ensures)
 
 -- what the intervals' fit makes of the whole
 whole : (c : tie.After-intervals-fit) (r : Fit) → c .intervals-fit .result ≡ r →
-    let s = c .before .before .before .before in
-    lengthened (c .before .before .totals-length .result) r ≡ fitted (whole-length s) (s .args .room)
+    let s = c .before .before .before .before .before in
+    lengthened (rest (c .before .before)) r ≡ fitted (whole-length s) (s .args .room)
 whole c r e =
-    let s = c .before .before .before .before in
-    let t = c .before .before .totals-length .result in
+    let s = c .before .before .before .before .before in
+    let t = rest (c .before .before) in
     sym
     (ap (λ (k : ℕ). fitted k (s .args .room)) (parts (c .before .before))
     ∙ fit-more (lines-length s) t (s .args .room) (c .before .if1 .left)
     ∙ ap (lengthened t) (sym (c .intervals-fit .ensures) ∙ e))
 
+add-totals : tie.Need-add-totals
+add-totals c =
+    let a = c .before .before .before .args in
+    omega (arith, totals-are (c .before), totals-short (a .profit) (a .outcomes), c .window-length .ensures, window-short (a .word))
+
 returns : tie.Need-returns
 returns c =
-    let s = c .before .before .before in
+    let s = c .before .before .before .before in
     simp (lt-leb (whole-length s) (s .args .room) (omega (arith, parts (c .before), c .if1 .taken)))
 
-add-t11 : tie.Need-add-t11
-add-t11 c =
+add-t13 : tie.Need-add-t13
+add-t13 c =
     let told = c .before .bytes .given in
     let fit = c .before .before .before in
-    let s = fit .before .before .before .before in
-    let left = s .args .room - fit .before .before .totals-length .result in
+    let s = fit .before .before .before .before .before in
+    let left = s .args .room - rest (fit .before .before) in
     let h = fit-room (lines-length s) left (told .0 .0) (sym (fit .intervals-fit .ensures) ∙ told .1) in
     omega (arith, h .1, fit .before .if1 .left, s .fits .room .fits)
 
@@ -68,10 +76,12 @@ listing-fit-spec =
     tie.close
     (tie.spec
     (λ c κs. search needs)
+    (λ c κs. c .before .before .pre)
+    add-totals
     returns
     (λ c κs. search needs)
     (λ c. search needs)
     (λ c. search needs)
-    add-t11
+    add-t13
     returns-2
     returns-3)

@@ -1,4 +1,4 @@
--- The invariant: t outputs are written, the rest of the plan is that of the cell reached, and layer t stands at `at`. The intervals left fall.
+-- The invariant: whichever quarters are open, t outputs are written, the rest of the plan is that of the cell reached, and layer t stands at `at`. The intervals left fall.
 use mathlib.Core.Path.{_≡_, ap, _∙_}
 use mathlib.Core.List.{List}
 use Prim.Native.Nat.{ℕ, suc, _+_, _-_, _*_, _≤_, _<_}
@@ -19,30 +19,42 @@ use Rattle.layers.specs.Stretches.{Small}
 use Rattle.geometry.proofs.Places.{index-lt}
 use Rattle.layers.proofs.Filling.{layer-small}
 use Rattle.table.proofs.Choosing.{Chosen}
-use Rattle.table.proofs.Plans.{ReadTurn, read-turn, Written, written-none, written-next, written-all}
+use Rattle.optimality.specs.Machine.{Quarter}
+use Rattle.optimality.proofs.Quarters.{noQuarter}
+use Rattle.table.specs.Reading.{PlanFrom}
+use Rattle.table.proofs.Plans.{as-many, same-price, priced-over, ReadTurn, read-turn, Written, written-none, written-next, written-all}
 use Rattle.table.proofs.read_off.Statement.{statement}
 use Rattle.table.proofs.read_off.Tie as tie
 
 abbrev Inv-loop : tie.InvT-loop
 Inv-loop scratch w f prices schedule₀ n at₀ c₀ t₀ schedule at c t =
-    (t ≤ length prices) × (at ≡ t * width f) × Written f anywhere prices c₀ schedule₀ schedule t c
+    (t ≤ length prices) × (at ≡ t * width f)
+    × ((quarters : List Quarter) → PlanFrom f prices scratch c₀ quarters → Written f anywhere quarters c₀ schedule₀ schedule t c)
 
 abbrev μ-loop : tie.MeasureT-loop
 μ-loop scratch w f prices schedule₀ n at₀ c₀ t₀ schedule at c t = length prices - t
 
+-- by the quarters that the table is known to be filled for
+written : (c : tie.At-loop Inv-loop μ-loop) →
+    let o = c .before .before in
+    let l = c .loop in
+    Written (o .args .f) anywhere (o .pre .1 .0 .0) (o .args .from) (o .args .schedule .now) (l .schedule) (l .t) (l .c)
+written c = let given = c .before .before .pre .1 .0 in c .loop .inv .2 (given .0) (given .1)
+
 -- what a turn finds
-record Turn (f : Figures) (w : ℕ) (prices cells : List ℤ) (at t : ℕ) (c : Cell) : Type 0 where
+record Turn (f : Figures) (w : ℕ) (prices cells : List ℤ) (from : Cell) (at t : ℕ) (c : Cell) : Type 0 where
   number : index f c < w
   two : at + w + w ≤ length cells
   next : at + w ≡ suc t * width f
   small : Small cells (at + w) (width f)
   price : natAbs (getD prices t (pos 0)) ≤ mostPrice
-  read : ReadTurn f anywhere (getD prices t (pos 0)) (drop (suc t) prices) (storedAt f cells (at + w)) c (getD cells (at + index f c) (pos 0))
+  read : (quarters : List Quarter) → PlanFrom f prices cells from quarters
+      → ReadTurn f anywhere (getD quarters t noQuarter) (drop (suc t) quarters) (storedAt f cells (at + w)) c (getD cells (at + index f c) (pos 0))
 
 here : (c : tie.In-loop Inv-loop μ-loop) →
     let a = c .before .before .before .args in
     let l = c .before .loop in
-    Turn (a .f) (a .w) (a .prices .now) (a .scratch .now) (l .at) (l .t) (l .c)
+    Turn (a .f) (a .w) (a .prices .now) (a .scratch .now) (a .from) (l .at) (l .t) (l .c)
 here c =
     let o = c .before .before .before in
     let a = o .args in
@@ -50,19 +62,24 @@ here c =
     let lt = c .loop-test .taken in
     let room = o .pre .0 .0 in
     let e = o .pre .0 .1 in
-    let filled = o .pre .1 .0 in
+    let given = o .pre .1 .0 in
+    let many : length (given .0) ≡ length (a .prices .now) = as-many (a .f) (a .prices .now) (a .scratch .now) (a .from) (given .0) (given .1) in
     let d : (l .t + 2) * width (a .f) ≤ (length (a .prices .now) + 1) * width (a .f) = mul-le-mul-right (width (a .f)) (omega (arith, lt)) in
     let next : l .at + a .w ≡ suc (l .t) * width (a .f) = omega (arith, e, l .inv .1) in
-    let few : length (drop (suc (l .t)) (a .prices .now)) ≤ mostIntervals = omega (arith, length-drop (suc (l .t)) (a .prices .now), room .short) in
+    let few : length (drop (suc (l .t)) (given .0)) ≤ mostIntervals = omega (arith, length-drop (suc (l .t)) (given .0), many, room .short) in
     record {
-      number = omega (arith, e, index-lt (a .f) (l .c) (l .inv .2 .inside));
+      number = omega (arith, e, index-lt (a .f) (l .c) (written (c .before) .inside));
       two = omega (arith, e, l .inv .1, d, room .fits);
       next = next;
-      small = rw next (layer-small (a .f) anywhere (drop (suc (l .t)) (a .prices .now)) (a .scratch .now) (suc (l .t) * width (a .f)) few
-          (filled .layers (suc (l .t)) lt));
+      small = rw next (layer-small (a .f) anywhere (drop (suc (l .t)) (given .0)) (a .scratch .now) (suc (l .t) * width (a .f)) few
+          (given .1 .filled .layers (suc (l .t)) (omega (arith, lt, many))));
       price = o .pre .0 .2 (l .t) lt;
-      read = rw (next, l .inv .1) (read-turn (a .f) anywhere (a .prices .now) (a .scratch .now) (l .t) (l .c) (room .sound) (o .pre .0 .2)
-          (room .short) filled lt (l .inv .2 .inside) (l .inv .2 .some));
+      read = λ quarters p.
+          let n = as-many (a .f) (a .prices .now) (a .scratch .now) (a .from) quarters p in
+          let so-far = l .inv .2 quarters p in
+          rw (next, l .inv .1) (read-turn (a .f) anywhere quarters (a .scratch .now) (l .t) (l .c) (room .sound)
+          (priced-over (a .f) (a .prices .now) (a .scratch .now) (a .from) quarters p (o .pre .0 .2))
+          (omega (arith, n, room .short)) (p .filled) (omega (arith, n, lt)) (so-far .inside) (so-far .some));
     }
 
 -- the number that the cell holds, and the price, as they are handed on
@@ -87,20 +104,33 @@ plans : (c : tie.After-choose Inv-loop μ-loop) →
     let at-loop = c .before .before .before .before .before in
     let a = at-loop .before .before .args in
     let l = at-loop .loop in
-    Chosen (a .f) anywhere (getD (a .prices .now) (l .t) (pos 0)) (drop (suc (l .t)) (a .prices .now)) (l .c) (c .choose .result)
-plans c =
+    (quarters : List Quarter) → PlanFrom (a .f) (a .prices .now) (a .scratch .now) (a .from) quarters
+    → Chosen (a .f) anywhere (getD quarters (l .t) noQuarter) (drop (suc (l .t)) quarters) (l .c) (c .choose .result)
+plans c quarters p =
+    let at-loop = c .before .before .before .before .before in
+    let a = at-loop .before .before .args in
     let e = rw (price-is (c .before), best-is (c .before .before)) at (c .choose .ensures) in
-    rw e (here (c .before .before .before .before) .read .choice)
+    rw (e, ← same-price (a .f) (a .prices .now) (a .scratch .now) (a .from) quarters p (at-loop .loop .t))
+    (here (c .before .before .before .before) .read quarters p .choice)
+
+-- by the quarters that are known
+plan-is : (c : tie.After-choose Inv-loop μ-loop) →
+    let at-loop = c .before .before .before .before .before in
+    let o = at-loop .before .before in
+    let quarters = o .pre .1 .0 .0 in
+    let l = at-loop .loop in
+    Chosen (o .args .f) anywhere (getD quarters (l .t) noQuarter) (drop (suc (l .t)) quarters) (l .c) (c .choose .result)
+plan-is c = let given = c .before .before .before .before .before .before .before .pre .1 .0 in plans c (given .0) (given .1)
 
 -- the place of the output in the schedule
 written-in : (c : tie.In-loop Inv-loop μ-loop) → c .before .loop .t < length (c .before .loop .schedule)
-written-in c = omega (arith, c .loop-test .taken, c .before .loop .inv .2 .same, c .before .before .before .pre .1 .1 .1 .0)
+written-in c = omega (arith, c .loop-test .taken, written (c .before) .same, c .before .before .before .pre .1 .1 .1)
 
 loop-holds : tie.Need-loop-holds Inv-loop μ-loop
 loop-holds c =
     let o = c .before in
     let a = o .args in
-    (omega arith, omega arith, written-none (a .f) anywhere (a .prices .now) (a .from) (a .schedule .now) (o .pre .1 .1 .0) (o .pre .1 .1 .1 .1))
+    (omega arith, omega arith, λ quarters p. written-none (a .f) anywhere quarters (a .from) (a .schedule .now) (o .pre .1 .1 .0) (p .some))
 
 choose-requires : tie.Need-choose-requires Inv-loop μ-loop
 choose-requires c κs =
@@ -110,22 +140,22 @@ choose-requires c κs =
     rw (price-is c, best-is (c .before)) (
       (
         record { sound = o .pre .0 .0 .sound; priced = t .price },
-        turn .before .loop .inv .2 .inside,
+        written (turn .before) .inside,
         record { fits = omega (arith, t .two, o .pre .0 .1); small = t .small },
       ),
-      t .read .may,
+      t .read (o .pre .1 .0 .0) (o .pre .1 .0 .1) .may,
     )
 
 mul-schedule : tie.Need-mul-schedule Inv-loop μ-loop
 mul-schedule c =
     let turn = c .before .before .before .before .before in
     let o = turn .before .before .before in
-    omega (arith, mul-le-mul-right (o .args .f .block) (plans (c .before) .most), o .pre .0 .0 .sound .top)
+    omega (arith, mul-le-mul-right (o .args .f .block) (plan-is (c .before) .most), o .pre .0 .0 .sound .top)
 
 moved-requires : tie.Need-moved-requires Inv-loop μ-loop
 moved-requires c κs =
     let at-loop = c .before .before .before .before .before .before in
-    ((at-loop .before .before .pre .0 .0 .sound, at-loop .loop .inv .2 .inside .state), plans (c .before) .allowed)
+    ((at-loop .before .before .pre .0 .0 .sound, written at-loop .inside .state), plan-is (c .before) .allowed)
 
 add-t : tie.Need-add-t Inv-loop μ-loop
 add-t c =
@@ -141,24 +171,27 @@ loop-again c =
     rw (c .moved .ensures) (
       omega (arith, lt),
       omega (arith, here turn .next),
-      written-next (a .f) anywhere (a .prices .now) (a .from) (a .schedule .now) (l .schedule) (l .t) (l .c)
-          (c .before .before .choose .result)
-          lt
+      λ quarters p.
+          written-next (a .f) anywhere quarters (a .from) (a .schedule .now) (l .schedule) (l .t) (l .c) (c .before .before .choose .result)
+          (omega (arith, lt, as-many (a .f) (a .prices .now) (a .scratch .now) (a .from) quarters p))
           (written-in turn)
-          (l .inv .2)
-          (plans (c .before .before)),
+          (l .inv .2 quarters p)
+          (plans (c .before .before) quarters p),
     )
 
 returns : tie.Need-returns Inv-loop μ-loop
 returns c =
     let a = c .before .before .before .args in
     let l = c .before .loop in
-    written-all (a .f) (a .prices .now) (a .from) (a .schedule .now) (l .schedule) (l .t) (l .c) (omega (arith, l .inv .0, c .loop-test .left)) (l .inv .2)
+    λ quarters p.
+    let n = as-many (a .f) (a .prices .now) (a .scratch .now) (a .from) quarters p in
+    written-all (a .f) quarters (a .from) (a .schedule .now) (l .schedule) (l .t) (l .c) (omega (arith, n, l .inv .0, c .loop-test .left))
+    (l .inv .2 quarters p)
 
 pub read-off-spec : {M : Type 1} → statement M
 read-off-spec =
     tie.close
-    (tie.spec Inv-loop μ-loop loop-holds (λ c κs. (c .before .before .before .pre .0 .0 .sound, c .before .loop .inv .2 .inside))
+    (tie.spec Inv-loop μ-loop loop-holds (λ c κs. (c .before .before .before .pre .0 .0 .sound, written (c .before) .inside))
     (λ c. let t = here (c .before) in omega (arith, t .number, t .two, c .index .ensures))
     (λ c. let t = here (c .before) in omega (arith, t .number, t .two, c .index .ensures))
     (λ c. let t = here (c .before) in omega (arith, t .number, t .two, c .index .ensures))
@@ -167,4 +200,4 @@ read-off-spec =
     (λ c. omega (arith, written-in (c .before .before .before .before .before)))
     (λ c. omega (arith, written-in (c .before .before .before .before .before)))
     moved-requires add-t (λ c. omega (arith, c .before .before .before .before .before .before .loop-test .taken)) loop-again
-    (λ c. c .before .loop .inv .2 .same) returns)
+    (λ c. written (c .before) .same) returns)

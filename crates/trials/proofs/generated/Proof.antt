@@ -24,6 +24,8 @@ generated-spec =
     (λ c κs. search needs)
     (λ c. omega arith)
     (λ c κs. search needs)
+    (λ c κs. search needs)
+    (λ c κs. search needs)
     (λ c. omega arith)
     (λ c. omega arith)
     (λ c. omega arith)

@@ -154,6 +154,7 @@ pub fn in_one_line(error: &clap::Error) -> String {
 #[cfg(test)]
 mod tests {
     use super::*;
+    use ralwinga::Refusal;
 
     const PAGE: &str = include_str!("../../../ralwinga.1");
 
@@ -180,5 +181,21 @@ mod tests {
             }
         }
         assert!(page.contains(env!("CARGO_PKG_VERSION")));
+    }
+
+    /// The manual page has the numbers with their meaning, in the order in which causes are given.
+    #[test]
+    fn the_manual_page_has_every_number() {
+        let causes: Vec<String> = PAGE
+            .split(".IP ")
+            .skip(1)
+            .map(|entry| {
+                let (head, said) = entry.split_once('\n').expect("a line");
+                let number = head.split(' ').next().expect("a number");
+                format!("{number}: {}", said.lines().next().expect("a meaning"))
+            })
+            .collect();
+        let given = Refusal::ALL.map(|r| format!("{}: {}", r.number(), r.meaning()));
+        assert_eq!(causes, given);
     }
 }

@@ -22,7 +22,9 @@ impl CurveWords {
 
 impl CaseOptions {
     pub fn draw(&self, prepared: &Prepared, planned: &Planned) -> Result<(), Stop> {
-        let Planned { schedule, report } = planned;
+        let Planned {
+            schedule, report, ..
+        } = planned;
         if let Some(file) = &self.svg {
             let told = Explanation::of(&prepared.case, schedule, report);
             write(file, svg::draw(&prepared.case.prices, schedule, &told))?;

@@ -4,7 +4,7 @@ use crate::memory::{too_large, Cap, Scratch};
 use crate::progress::Progress;
 use crate::stop::{is_standard_input, Stop};
 use ralwinga::reader::read_case;
-use ralwinga::{cells_needed, listing, refusal_line, report_into, Case, Report};
+use ralwinga::{cells_needed, listing, refusal_line, report_into, Case, Report, Unit};
 use std::io::Read;
 use std::path::{Path, PathBuf};
 
@@ -25,8 +25,9 @@ pub struct Prepared {
     pub cells: usize,
 }
 
-/// A plan and what it earns.
+/// The plan of a unit and what it earns.
 pub struct Planned {
+    pub unit: Unit,
     pub schedule: Vec<u64>,
     pub report: Report,
 }
@@ -57,7 +58,11 @@ impl Prepared {
                 report_into(*unit, prices, scratch, &mut schedule)
             })
             .map_err(|refusal| Stop::refused(&self.file, refusal))?;
-        Ok(Planned { schedule, report })
+        Ok(Planned {
+            unit: *unit,
+            schedule,
+            report,
+        })
     }
 
     fn too_large(&self, cap: Cap) -> Stop {
@@ -68,7 +73,12 @@ impl Prepared {
 
 impl Planned {
     pub fn listing(&self) -> Vec<u8> {
-        listing(&self.schedule, self.report.profit, self.report.outcomes)
+        listing(
+            &self.unit,
+            &self.schedule,
+            self.report.profit,
+            self.report.outcomes,
+        )
     }
 }
 

@@ -5,6 +5,7 @@ use native.Mathlib.Omega.{arith}
 use mir.Syntax.{w64}
 use mir.Val.{toZ, ofZ}
 use Rattle.integers.proofs.Ranges.{plain-fits}
+use Rattle.optimality.specs.Machine.{quarter}
 use Rattle.optimality.specs.Cells.{states}
 use Rattle.geometry.proofs.Places.{section-fits}
 use Rattle.layers.proofs.Segments.{behind-within}
@@ -13,13 +14,13 @@ use Rattle.layers.proofs.states.fill_layer.Statement.{statement}
 use Rattle.layers.proofs.states.fill_layer.Tie as tie
 
 abbrev Inv-loop : tie.InvT-loop
-Inv-loop scratch₀ w f price cells all s₀ scratch s = (s ≤ states f) × StatesDone f (toZ w64 price) scratch₀ scratch s
+Inv-loop scratch₀ w f price opened cells all s₀ scratch s = (s ≤ states f) × StatesDone f (quarter (toZ w64 price) opened) scratch₀ scratch s
 
 abbrev μ-loop : tie.MeasureT-loop
-μ-loop scratch₀ w f price cells all s₀ scratch s = states f - s
+μ-loop scratch₀ w f price opened cells all s₀ scratch s = states f - s
 
-fill-state-requires : tie.Need-fill-state-requires Inv-loop μ-loop
-fill-state-requires c κs =
+fill-quarter-requires : tie.Need-fill-quarter-requires Inv-loop μ-loop
+fill-quarter-requires c κs =
     let turn = c .before in
     let sized = turn .before .before .before in
     let o = sized .before in
@@ -37,10 +38,10 @@ loop-again c =
     let a = turn .before .before .before .before .args in
     let l = turn .before .loop in (
       omega (arith, turn .loop-test .taken),
-      states-next (a .f) (toZ w64 (ofZ w64 (a .price))) (a .scratch .now) (l .scratch) (c .before .fill-state .last .0) (l .s) (turn .loop-test .taken)
-          (c .before .fill-state .kept .0)
+      states-next (a .f) (quarter (toZ w64 (ofZ w64 (a .price))) (a .opens)) (a .scratch .now) (l .scratch) (c .before .fill-quarter .last .0) (l .s) (turn .loop-test .taken)
+          (c .before .fill-quarter .kept .0)
           (l .inv .1)
-          (c .before .fill-state .ensures),
+          (c .before .fill-quarter .ensures),
     )
 
 returns : tie.Need-returns Inv-loop μ-loop
@@ -49,15 +50,15 @@ returns c =
     let a = o .args in
     let l = c .before .loop in
     let e : l .s ≡ states (a .f) = omega (arith, l .inv .0, c .loop-test .left) in
-    rw (plain-fits (o .fits .price)) at (states-done (a .f) (toZ w64 (ofZ w64 (a .price))) (a .scratch .now) (l .scratch) (rw e at (l .inv .1)))
+    rw (plain-fits (o .fits .price)) at (states-done (a .f) (quarter (toZ w64 (ofZ w64 (a .price))) (a .opens)) (a .scratch .now) (l .scratch) (rw e at (l .inv .1)))
 
 pub fill-layer-spec : {M : Type 1} → statement M
 fill-layer-spec =
     tie.close
     (tie.spec Inv-loop μ-loop (λ c κs. c .pre .0 .sound)
     (λ c. let ok = c .before .before .pre .0 .sound in omega (arith, ok .mot-most, ok .mdt-most))
-    (λ c. let a = c .before .before .args in (omega arith, states-first (a .f) (toZ w64 (ofZ w64 (a .price))) (a .scratch .now)))
-    fill-state-requires
+    (λ c. let a = c .before .before .args in (omega arith, states-first (a .f) (quarter (toZ w64 (ofZ w64 (a .price))) (a .opens)) (a .scratch .now)))
+    fill-quarter-requires
     (λ c.
     let turn = c .before .before .before in
     let ok = turn .before .before .before .before .pre .0 .sound in

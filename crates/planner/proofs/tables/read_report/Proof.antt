@@ -12,13 +12,15 @@ use Rattle.commitment.specs.Valuing.{outcomesOf}
 use Rattle.optimality.specs.declared.Figures.{Figures}
 use Rattle.optimality.specs.declared.Cell.{Cell}
 use Rattle.optimality.specs.Machine.{anywhere}
-use Rattle.optimality.specs.Cells.{planAt}
+use Rattle.commitment.specs.Keeping.{opensIn}
+use Rattle.optimality.specs.Cells.{quartersOf, planAt}
+use Rattle.optimality.proofs.Quarters.{quarters-length}
 use Rattle.optimality.proofs.Optimal.{plan-length}
 use Rattle.table.specs.Reading.{scheduleOf}
 use Rattle.planner.specs.declared.Reported.{Reported}
 use Rattle.planner.specs.Planning.{hasSchedule, scheduleAfter}
 use Rattle.planner.specs.Reporting.{reportedBy}
-use Rattle.planner.proofs.Worked.{room, opening-inside, opening-plan, opening-some, no-plan, some-plan, same-report}
+use Rattle.planner.proofs.Worked.{room, opening-inside, opening-plan, opening-plans, no-plan, some-plan, same-report}
 use borrow.Author.Needs.{needs}
 use Rattle.planner.proofs.tables.read_report.Statement.{statement}
 use Rattle.planner.proofs.tables.read_report.Tie as tie
@@ -39,10 +41,10 @@ read-off-requires c κs =
     let a = s .args in
     let w = s .pre .0 in
     let told = profit .profit .given in
-    let some = opening-some (a .unit) (a .prices .now) (a .cells .now) w (told .0 .0) (sym (found .whole-profit .ensures) ∙ told .1) in
+    let plans = opening-plans (a .unit) (a .prices .now) (a .cells .now) w (told .0 .0) (sym (found .whole-profit .ensures) ∙ told .1) in
     rw (s .pre .1 .0, cell .opening-cell .ensures) (
       (room (a .unit) (a .prices .now) (a .cells .now) w, (rw (s .pre .1 .0) at (s .pre .1 .1)), w .priced),
-      (w .filled, (opening-inside (a .unit) (a .prices .now) (a .cells .now) w, (s .pre .1 .2, some))),
+      ((quartersOf (a .unit) (a .prices .now), plans), (opening-inside (a .unit) (a .prices .now) (a .cells .now) w, s .pre .1 .2)),
     )
 
 returns : tie.Need-returns
@@ -64,14 +66,17 @@ returns-2 c =
     let some = some-plan (best (a .unit) (a .prices .now)) (told .0 .0) (sym (found .whole-profit .ensures) ∙ told .1) in
     let long = plan-length (a .unit) (s .pre .0 .told .order .ranges) (s .pre .0 .told .order .shape) (a .prices .now) (some .0) (told .0 .0) (some .1) in
     let value = plain-fits {x = told .0 .0} (record { sfits = cell .before .known-told .given .0 .1 }) in
-    let plans : planAt (a .f) anywhere (a .prices .now) (cell .opening-cell .result) ≡ plan (some .0) (told .0 .0) =
-    ap₂ (λ (f : Figures) (x : Cell). planAt f anywhere (a .prices .now) x) (s .pre .1 .0) (cell .opening-cell .ensures)
+    let quarters = quartersOf (a .unit) (a .prices .now) in
+    let readable = opening-plans (a .unit) (a .prices .now) (a .cells .now) (s .pre .0) (told .0 .0) (sym (found .whole-profit .ensures) ∙ told .1) in
+    let many : length quarters ≡ length (some .0) = quarters-length (opensIn (a .unit .permit)) 0 (a .prices .now) ∙ sym long in
+    let plans : planAt (a .f) anywhere quarters (cell .opening-cell .result) ≡ plan (some .0) (told .0 .0) =
+    ap₂ (λ (f : Figures) (x : Cell). planAt f anywhere quarters x) (s .pre .1 .0) (cell .opening-cell .ensures)
     ∙ opening-plan (a .unit) (a .prices .now) (a .cells .now) (s .pre .0)
     ∙ some .1 in (
       same-report (sym long) value (c .outcomes-in .ensures) ∙ ap (answer s) (sym (some .1)),
-      read .read-off .ensures
-          ∙ ap (λ (b : Plan). scheduleOf b ++ drop (length (a .prices .now)) (a .schedule .now)) plans
-          ∙ ap (λ (n : ℕ). some .0 ++ drop n (a .schedule .now)) (sym long)
+      read .read-off .ensures quarters (rw (s .pre .1 .0, cell .opening-cell .ensures) readable)
+          ∙ ap (λ (b : Plan). scheduleOf b ++ drop (length quarters) (a .schedule .now)) plans
+          ∙ ap (λ (n : ℕ). some .0 ++ drop n (a .schedule .now)) many
           ∙ ap (schedule s) (sym (some .1)),
     )
 

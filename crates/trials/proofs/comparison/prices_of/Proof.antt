@@ -2,14 +2,15 @@
 use borrow.Author.Needs.{needs}
 use native.Mathlib.Omega.{arith}
 use Prim.Native.Nat.{_≤_, _-_}
+use Rattle.trials.specs.Expecting.{room}
 use Rattle.trials.proofs.comparison.prices_of.Statement.{statement}
 use Rattle.trials.proofs.comparison.prices_of.Tie as tie
 
 abbrev Inv-loop : tie.InvT-loop
-Inv-loop up down prices₀ i₀ prices i = i ≤ 6
+Inv-loop up down prices₀ i₀ prices i = i ≤ room
 
 abbrev μ-loop : tie.MeasureT-loop
-μ-loop up down prices₀ i₀ prices i = 6 - i
+μ-loop up down prices₀ i₀ prices i = room - i
 
 pub prices-of-spec : {M : Type 1} → statement M
 prices-of-spec =

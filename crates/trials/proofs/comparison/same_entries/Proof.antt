@@ -2,14 +2,15 @@
 use borrow.Author.Needs.{needs}
 use native.Mathlib.Omega.{arith}
 use Prim.Native.Nat.{_≤_, _-_}
+use Rattle.trials.specs.Expecting.{room}
 use Rattle.trials.proofs.comparison.same_entries.Statement.{statement}
 use Rattle.trials.proofs.comparison.same_entries.Tie as tie
 
 abbrev Inv-loop : tie.InvT-loop
-Inv-loop schedule wanted i₀ i = i ≤ 6
+Inv-loop schedule wanted i₀ i = i ≤ room
 
 abbrev μ-loop : tie.MeasureT-loop
-μ-loop schedule wanted i₀ i = 6 - i
+μ-loop schedule wanted i₀ i = room - i
 
 pub same-entries-spec : {M : Type 1} → statement M
 same-entries-spec =

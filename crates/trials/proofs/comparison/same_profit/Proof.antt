@@ -15,6 +15,7 @@ same-profit-spec =
     (λ c κs. search needs)
     (λ c κs. search needs)
     (λ c κs. search needs)
+    (λ c κs. search needs)
     inside
     (λ c. sym (length-take-le _ _ (inside (c .before))))
     (λ c κs. search needs)

@@ -3,11 +3,12 @@ use borrow.Author.Needs.{needs}
 use native.Mathlib.Omega.{arith}
 use Prim.Native.Nat.{_≤_}
 use native.Mathlib.Nat.{mod-lt}
+use Rattle.trials.specs.Expecting.{room}
 use Rattle.trials.proofs.enumerator.list_of.Statement.{statement}
 use Rattle.trials.proofs.enumerator.list_of.Tie as tie
 
 abbrev Inv-loop : tie.InvT-loop
-Inv-loop case number outputs list₀ rest₀ i₀ list rest i = i ≤ 6
+Inv-loop case number outputs list₀ rest₀ i₀ list rest i = i ≤ room
 
 abbrev μ-loop : tie.MeasureT-loop
 μ-loop case number outputs list₀ rest₀ i₀ list rest i = i

@@ -3,7 +3,7 @@ use borrow.Author.Needs.{needs}
 use native.Mathlib.Omega.{arith}
 use Prim.Native.Nat.{ℕ, _+_, _≤_, _-_}
 use Rattle.trials.specs.declared.enumerator.Sums.{Sums}
-use Rattle.trials.specs.Expecting.{Summed, OneMore}
+use Rattle.trials.specs.Expecting.{room, Summed, OneMore}
 use Rattle.trials.proofs.enumerator.sums_of.Statement.{statement}
 use Rattle.trials.proofs.enumerator.sums_of.Tie as tie
 
@@ -23,7 +23,7 @@ more s m =
       spent = omega (arith, s .spent, m .spent);
     }
 
-all : {i : ℕ} {sums : Sums} → i ≤ 6 → Summed i sums → Summed 6 sums
+all : {i : ℕ} {sums : Sums} → i ≤ room → Summed i sums → Summed room sums
 all h s =
     record {
       starts = omega (arith, s .starts);

@@ -6,10 +6,10 @@ use Rattle.trials.proofs.generator.draws_from.Statement.{statement}
 use Rattle.trials.proofs.generator.draws_from.Tie as tie
 
 abbrev Inv-loop : tie.InvT-loop
-Inv-loop seed draws₀ x₀ i₀ draws x i = i ≤ 24
+Inv-loop seed draws₀ x₀ i₀ draws x i = i ≤ 32
 
 abbrev μ-loop : tie.MeasureT-loop
-μ-loop seed draws₀ x₀ i₀ draws x i = 24 - i
+μ-loop seed draws₀ x₀ i₀ draws x i = 32 - i
 
 pub draws-from-spec : {M : Type 1} → statement M
 draws-from-spec =

@@ -1,15 +1,16 @@
--- The six last draws, one for each price.
+-- A draw for each price.
 use borrow.Author.Needs.{needs}
 use native.Mathlib.Omega.{arith}
 use Prim.Native.Nat.{_≤_, _-_}
+use Rattle.trials.specs.Expecting.{room}
 use Rattle.trials.proofs.generator.prices.Statement.{statement}
 use Rattle.trials.proofs.generator.prices.Tie as tie
 
 abbrev Inv-loop : tie.InvT-loop
-Inv-loop spread draws up₀ i₀ up i = i ≤ 6
+Inv-loop spread draws up₀ i₀ up i = i ≤ room
 
 abbrev μ-loop : tie.MeasureT-loop
-μ-loop spread draws up₀ i₀ up i = 6 - i
+μ-loop spread draws up₀ i₀ up i = room - i
 
 pub prices-spec : {M : Type 1} → statement M
 prices-spec =

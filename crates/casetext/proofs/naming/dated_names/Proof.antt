@@ -1,0 +1,12 @@
+-- The lines of the table are the thirteen and the four.
+use Rattle.tabletext.specs.Bytes.{isOf}
+use borrow.Author.Needs.{needs}
+use Rattle.casetext.proofs.naming.dated_names.Statement.{statement}
+use Rattle.casetext.proofs.naming.dated_names.Tie as tie
+
+returns : tie.Need-returns
+unfolding isOf
+returns c = c .names-in .ensures
+
+pub dated-names-spec : {M : Type 1} → statement M
+dated-names-spec = tie.close (tie.spec (λ c. search needs) (λ c κs. search needs) returns)

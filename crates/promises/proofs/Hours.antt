@@ -1,0 +1,99 @@
+-- Permitted hours (specification 22), clause by clause: the calendar, the clock hour of an interval, the rivals held to the hours, and the listing's line.
+use mathlib.Core.Path.{_≡_, refl, sym, ap, _∙_, subst}
+use mathlib.Core.Bool.{Bool, true, false, _&&_, false≢true}
+use mathlib.Core.List.{List, [], _∷_, _++_, append-assoc, append-nil}
+use mathlib.Core.Logic.{_↔_}
+use Prim.Native.Nat.{ℕ, zero, suc, _+_, _-_, _/_}
+use native.Mathlib.Omega.{arith}
+use lib.IntN.{ℤ}
+use lib.ListN.{length, getD}
+use Rattle.lists.proofs.Conjunctions.{both}
+use Rattle.calendar.specs.declared.Date.{Date}
+use Rattle.calendar.specs.Dates.{exists}
+use Rattle.calendar.specs.Tables.{existsByTable}
+use Rattle.calendar.specs.Clock.{springs, falls, hoursOf, clockAfter}
+use Rattle.calendar.proofs.Tables as tables
+use Rattle.calendar.proofs.Days as days
+use Rattle.commitment.specs.declared.Cause.{Cause}
+use Rattle.commitment.specs.declared.Outcomes.{Outcomes}
+use Rattle.commitment.specs.declared.Permit.the-variants.{AnyHour}
+use Rattle.commitment.specs.declared.UnitRecord.{UnitRecord}
+use Rattle.commitment.specs.declared.windows.ClockRead.the-variants as clock
+use Rattle.commitment.specs.Causes.{numberOf}
+use Rattle.commitment.specs.Keeping.{opensIn, offWhereShut, keepsStarts, keepsRuns, keepsSpells, keepsHours, keepsMwh, keepsWindow}
+use Rattle.commitment.specs.Rivals.{Rival}
+use Rattle.commitment.specs.Windows.{clockHour, clockNumber, hourIn}
+use Rattle.listing.specs.declared.HourWord.the-variants as word
+use Rattle.listing.specs.Listing.{intervalHeading, valueHeading, intervalLines, profitLine, outcomeLines, hoursLine, listing}
+use Rattle.promises.specs.Causes.{FirstOf, NoneOf, clockCauses}
+use Rattle.promises.proofs.Causes as causes
+
+-- ---- the calendar: a date exists exactly when the table of days before each month says; the hours of a March Sunday are 23, of a November Sunday 25,
+-- of any other day 24
+
+pub exists-by-table : (d : Date) → exists d ≡ existsByTable d
+exists-by-table = tables.exists-by-table
+
+pub spring-day : (d : Date) → springs d ≡ true → length (hoursOf d) ≡ 23
+spring-day = days.spring-long
+
+pub fall-day : (d : Date) → falls d ≡ true → length (hoursOf d) ≡ 25
+fall-day = days.fall-long
+
+pub other-day : (d : Date) → springs d ≡ false → falls d ≡ false → length (hoursOf d) ≡ 24
+other-day = days.plain-long
+
+-- ---- the clock hour of an interval is that of the hours passed since the date's midnight, four intervals to the hour; refused with the first of its
+-- causes that holds, and hour 0 with it
+
+pub clock-refused : (d : Date) (interval : ℕ) (cause : Cause) → (clockHour d interval ≡ clock.Refused cause) ↔ FirstOf (clockCauses d interval) cause
+clock-refused d interval cause = causes.clock-refused d interval
+
+pub clock-answered : (d : Date) (interval : ℕ) → (clockHour d interval ≡ clock.Hour (clockAfter d ((interval - 1) / 4))) ↔ NoneOf (clockCauses d interval)
+clock-answered = causes.clock-answered
+
+pub clock-refusal : (cause : Cause) → (clockNumber (clock.Refused cause) ≡ numberOf cause) × (hourIn (clock.Refused cause) ≡ 0)
+clock-refusal cause = (refl, refl)
+
+-- ---- a schedule that is on in a shut hour is no rival
+
+off-there : (opens : ℕ → Bool) (first : ℕ) (s : List ℕ) (i : ℕ) → offWhereShut opens first s ≡ true → opens (first + i) ≡ false → getD s i 0 ≡ 0
+off-there opens first [] i kept shut = refl
+off-there opens first (zero ∷ s) zero kept shut = refl
+off-there opens first (suc m ∷ s) zero kept shut =
+    let here : opens first ≡ true = both (opens first) (offWhereShut opens (suc first) s) kept .0 in
+    let none : opens first ≡ false = ap opens (omega arith) ∙ shut in
+    absurd (false≢true (sym none ∙ here))
+off-there opens first (m ∷ s) (suc i) kept shut =
+    off-there opens (suc first) s i (rest m kept) (ap opens (omega arith) ∙ shut)
+  where
+    rest : (m : ℕ) → offWhereShut opens first (m ∷ s) ≡ true → offWhereShut opens (suc first) s ≡ true
+    rest zero kept = kept
+    rest (suc m) kept = both (opens first) (offWhereShut opens (suc first) s) kept .1
+
+pub on-in-a-shut-hour : (u : UnitRecord) (prices : List ℤ) (s : List ℕ) (i : ℕ) → opensIn (u .permit) i ≡ false → (getD s i 0 ≡ 0 → ⊥) → Rival u prices s → ⊥
+on-in-a-shut-hour u prices s i shut on rival =
+    let rules = keepsStarts u s && keepsRuns u s && keepsSpells u s && keepsHours u s && keepsMwh u s in
+    let kept = both rules (keepsWindow u s) (rival .kept) .1 in
+    on (off-there (opensIn (u .permit)) 0 s i kept (ap (opensIn (u .permit)) (omega arith) ∙ shut))
+
+-- a case without a date and word is held to no hours
+
+always-open : (i : ℕ) (s : List ℕ) → offWhereShut (opensIn AnyHour) i s ≡ true
+always-open i [] = refl
+always-open i (zero ∷ s) = always-open (suc i) s
+always-open i (suc m ∷ s) = always-open (suc i) s
+
+pub any-hour : (u : UnitRecord) (s : List ℕ) → u .permit ≡ AnyHour → keepsWindow u s ≡ true
+any-hour u s e = rw e (always-open 0 s)
+
+-- ---- the listing of a case with a word is that of one without, and the line behind it
+
+behind : (a b c d e last : List ℕ) → a ++ (b ++ (c ++ (d ++ (e ++ last)))) ≡ (a ++ (b ++ (c ++ (d ++ (e ++ []))))) ++ last
+behind a b c d e last = simp (append-assoc, append-nil)
+
+pub window-last : (schedule : List ℕ) (profit : ℤ) (outcomes : Outcomes) (hours : ℕ)
+    → listing schedule profit outcomes (word.Word hours) ≡ listing schedule profit outcomes word.None ++ hoursLine hours
+unfolding listing
+window-last schedule profit outcomes hours =
+    behind intervalHeading (intervalLines 1 schedule) valueHeading (profitLine profit) (outcomeLines outcomes) (hoursLine hours)
