@@ -243,13 +243,15 @@ fn counted_marks(intervals: usize, step: usize) -> Vec<Mark> {
 const DATE_SIZE: &str = " font-size=\"11\"";
 const DATE_WIDTH: f64 = 67.0;
 
-/// The marks by the clock, on which a day can be an hour shorter or longer than 24. Nothing is said where it would run off the sheet.
+/// The marks by the clock, on which a day can be an hour shorter or longer than 24. Nothing is said where it would run off the sheet, or into the date
+/// before it, as 03:00 would two hours behind the midnight of a day without hour 2.
 fn dated_marks(across: &Across, dated: &Dated, step: usize) -> Vec<Mark> {
     let (hours, days) = (
         (step.min(PER_DAY) / PER_HOUR) as u64,
         step.div_ceil(PER_DAY),
     );
     let mut day = 0;
+    let mut date_ends = 0.0;
     let mut marks = Vec::new();
     for (place, moment) in dated.moments().iter().enumerate() {
         day += usize::from(moment.begins_day());
@@ -260,7 +262,11 @@ fn dated_marks(across: &Across, dated: &Dated, step: usize) -> Vec<Mark> {
             true => ((day - 1) % days == 0).then(|| moment.date.to_string()),
             false => Some(moment.time()),
         };
-        let said = said.filter(|_| across.x(place) + DATE_WIDTH <= WIDTH);
+        let (from, to) = (across.x(place), across.x(place) + DATE_WIDTH);
+        let said = said.filter(|_| date_ends <= from && to <= WIDTH);
+        if moment.begins_day() && said.is_some() {
+            date_ends = to;
+        }
         marks.push(Mark { place, said });
     }
     marks

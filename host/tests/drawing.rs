@@ -11,6 +11,8 @@ const WIDTH: f64 = 1290.0;
 /// Where labels of time stand, and how far they are to the right of their line.
 const LABEL_Y: &str = "508";
 const LABEL_X: f64 = 3.0;
+/// What a date takes from its line on.
+const DATE: f64 = 67.0;
 
 fn drawn(folder: &Folder, text: &str) -> String {
     let case = folder.file("case.csv", text);
@@ -141,8 +143,16 @@ fn agrees(svg: &str, unit: &Unit, intervals: usize) {
     let in_sheet = |place: &&usize| (**place as f64) < 0.96 * intervals as f64;
     let by_hours = intervals <= 16 * 48;
     let labelled: Vec<usize> = labels.iter().map(|(place, _)| *place).collect();
+    // nor is anything said into a date
+    let into_date = |line: usize| {
+        let behind = |day: usize| (line - day) as f64 * WIDTH / (intervals as f64);
+        let near = |day: usize| day < line && behind(day) < DATE;
+        let mut dates = labels.iter().filter(|(place, _)| begins_day(place));
+        dates.any(|(day, _)| near(*day))
+    };
+    assert!(!labelled.iter().any(|place| into_date(*place)), "{w:?}");
     for line in lines.iter().filter(in_sheet).filter(|_| by_hours) {
-        assert!(labelled.contains(line), "{w:?}: {line}");
+        assert!(labelled.contains(line) || into_date(*line), "{w:?}: {line}");
     }
     let head = format!(
         ">Plan of {intervals} quarter-hours from {}: ",
