@@ -49,7 +49,8 @@ module _ (text : List ℕ) (lent : Lent) where
       ∙ ap (λ (k : Checked). checkedThen k slices) (sym (in-turn written room))
     where
       by : (k : Checked) (t : Bool)
-          → checkedThen k (firstOf (slicesChecks unit count (t && (leb count (lent .entries) && leb (mostPrinted (unit .permit) count) (lent .bytes))) (lent .cells)))
+          → checkedThen k (firstOf (slicesChecks unit count
+          (t && (leb count (lent .entries) && leb (mostPrinted (unit .permit) count) (lent .bytes))) (lent .cells)))
           ≡ checkedThen (checkedThen k (unless t Length Passed)) slices
       by Passed true = refl
       by Passed false = refl

@@ -22,7 +22,8 @@ pub shut-next : (opens : ℕ → Bool) (s : List ℕ) (i : ℕ) → i < length s
     → offWhereShut opens i (drop i s) ≡ ((eqb (getD s i 0) 0 || opens i) && offWhereShut opens (i + 1) (drop (i + 1) s))
 shut-next opens s i h =
     let e : suc i ≡ i + 1 = omega arith in
-    rw (drop-next s i 0 h) (shut-first opens i (getD s i 0) (drop (i + 1) s) ∙ ap (λ (j : ℕ). (eqb (getD s i 0) 0 || opens i) && offWhereShut opens j (drop (i + 1) s)) e)
+    rw (drop-next s i 0 h) (shut-first opens i (getD s i 0) (drop (i + 1) s)
+    ∙ ap (λ (j : ℕ). (eqb (getD s i 0) 0 || opens i) && offWhereShut opens j (drop (i + 1) s)) e)
 
 pub shut-end : (opens : ℕ → Bool) (s : List ℕ) (i : ℕ) → length s ≤ i → offWhereShut opens i (drop i s) ≡ true
 shut-end opens s i h = rw (drop-of-length-le s {i = i} h)

@@ -1,4 +1,5 @@
--- Ranges and Passing: what the checks say as orders of numbers. Causes: the laws of a list of checks. Margins: how much an interval can add. Clocks: the dates that a clock starts from.
+-- Ranges and Passing: what the checks say as orders of numbers. Causes: the laws of a list of checks. Margins: how much an interval can add.
+-- Clocks: the dates that a clock starts from.
 pub mod Causes
 pub mod Ranges
 pub mod Passing

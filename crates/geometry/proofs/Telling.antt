@@ -34,7 +34,8 @@ told-is n (Profit p) a short h =
     rw (le-ltZ a halfway (omega (zarith, within-abs p, h .0, h .1, up-halfway, dn-halfway))) (ap Profit (h .0))
 
 -- a cell of the first layer of a filled table tells its best profit
-pub first-told : (f : Figures) (ends : Cell → BestProfit) (quarters : List Quarter) (cells : List ℤ) (c : Cell) → Filled f ends quarters cells → length quarters ≤ mostIntervals
+pub first-told : (f : Figures) (ends : Cell → BestProfit) (quarters : List Quarter) (cells : List ℤ) (c : Cell)
+    → Filled f ends quarters cells → length quarters ≤ mostIntervals
     → InTable f c
     → told (inFront f cells c) ≡ valueAt f ends quarters c
 first-told f ends quarters cells c filled short inside =

@@ -46,7 +46,8 @@ pub record FilledFrom (f : Figures) (ends : Cell → BestProfit) (quarters : Lis
   pub same : length s ≡ length was
 
 -- the last layer, which was there
-pub filled-last : (f : Figures) (ends : Cell → BestProfit) (quarters : List Quarter) (was : List ℤ) → Layer f ends [] (storedAt f was (length quarters * width f))
+pub filled-last : (f : Figures) (ends : Cell → BestProfit) (quarters : List Quarter) (was : List ℤ)
+    → Layer f ends [] (storedAt f was (length quarters * width f))
     → FilledFrom f ends quarters was was (length quarters)
 filled-last f ends quarters was last =
     record {
@@ -106,7 +107,8 @@ module _ (f : Figures) (ends : Cell → BestProfit) (quarters : List Quarter) (w
       by j lo hi false e = let l = ltb-false t j e in let i : j ≡ t = omega arith in rw i this
 
 -- the whole table
-pub filled-done : (f : Figures) (ends : Cell → BestProfit) (quarters : List Quarter) (was s : List ℤ) → FilledFrom f ends quarters was s 0 → Filled f ends quarters s
+pub filled-done : (f : Figures) (ends : Cell → BestProfit) (quarters : List Quarter) (was s : List ℤ)
+    → FilledFrom f ends quarters was s 0 → Filled f ends quarters s
 filled-done f ends quarters was s d = record { layers = λ t h. d .layers t (omega arith) h }
 
 -- the last layer and what lies behind it are as they were

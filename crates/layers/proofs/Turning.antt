@@ -120,14 +120,16 @@ module _ (f : Figures) (ok : Sound f) (price : ℤ) (small : natAbs price ≤ mo
 
   -- ---- one interval from a cell
 
-  module _ (ends : Cell → BestProfit) (quarters : List Quarter) (short : length quarters < mostIntervals) (stored : Cell → ℤ) (layer : Layer f ends quarters stored)
+  module _ (ends : Cell → BestProfit) (quarters : List Quarter) (short : length quarters < mostIntervals) (stored : Cell → ℤ)
+      (layer : Layer f ends quarters stored)
       (c : Cell) (here : InTable f c) where
     pub off-holds : Holds (suc (length quarters)) (offValue f (valueAt f ends quarters) c) (offStored f stored c)
     unfolding offStored
     off-holds = by (ltb (afterOff f (c .state)) (states f)) refl
       where
         by : (t : Bool) → ltb (afterOff f (c .state)) (states f) ≡ t
-            → Holds (suc (length quarters)) (valueAlong (allow t (go (pos 0) (offCell f c))) (valueAt f ends quarters)) (cond t (stored (offCell f c)) infeasible)
+            → Holds (suc (length quarters)) (valueAlong (allow t (go (pos 0) (offCell f c))) (valueAt f ends quarters))
+            (cond t (stored (offCell f c)) infeasible)
         by true e =
             holds-stay (length quarters) (valueAt f ends quarters (offCell f c)) (stored (offCell f c)) short
             (layer .holds (offCell f c) (off-in-table f c here (ltb-true (afterOff f (c .state)) (states f) e)))

@@ -1,4 +1,5 @@
--- Optimal: what the best of a case is. Better, Machine, Quarters, Values, Turns: any machine, step by step. Rival, Commit, Outputs, Best: the case as a machine.
+-- Optimal: what the best of a case is. Better, Machine, Quarters, Values, Turns: any machine, step by step.
+-- Rival, Commit, Outputs, Best: the case as a machine.
 -- Simulate, Left, Cells, Opening: the machine whose state is a cell. Runs, Valuing: smaller limitations and the outcomes. Ranges: what the checks say.
 pub mod Better
 pub mod Machine

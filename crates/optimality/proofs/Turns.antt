@@ -145,7 +145,8 @@ module _ (f : Figures) (ok : Sound f) (ends : Cell → BestProfit) where
         → planAt f ends (q ∷ quarters) c ≡ along (k * f .block) (onStep f c (q .price) k) (planAt f ends quarters)
     unfolding planAt valueAt
     plan-on opened off k lo hi short h =
-        first-reaching Cell Quarter (inQuarter (cellStep f)) ends (choices f) q quarters c (0 ∷ ladder (f .block) (f .pmin * f .block) (k - f .pmin)) (k * f .block)
+        first-reaching Cell Quarter (inQuarter (cellStep f)) ends (choices f) q quarters c
+        (0 ∷ ladder (f .block) (f .pmin * f .block) (k - f .pmin)) (k * f .block)
         (ladder (f .block) (k * f .block + f .block) (f .pmax - k))
         split
         passed

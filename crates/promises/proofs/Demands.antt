@@ -213,7 +213,8 @@ pub answer-number : (text : List ℕ) (lent : Lent) → answered text lent .numb
 answer-number = printing.answer-number
 
 pub answer-refusal : (text : List ℕ) (lent : Lent) {cause : Cause} → reportOn text lent ≡ reporting.Refused cause
-    → printed text lent ≡ cond (eqb (numberOf cause) 7 && not (serves (unitIn text .permit) (length (pricesIn text)) (lent .bytes))) [] (refusal (numberOf cause))
+    → printed text lent ≡ cond (eqb (numberOf cause) 7 && not (serves (unitIn text .permit) (length (pricesIn text)) (lent .bytes)))
+    [] (refusal (numberOf cause))
 answer-refusal = printing.answer-refusal
 
 pub seven-untouched : (text : List ℕ) (lent : Lent) (out : List ℕ) → reportOn text lent ≡ reporting.Refused Length

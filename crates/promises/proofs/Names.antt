@@ -131,8 +131,10 @@ names-exactly text =
     let dated = named-exactly (unitNames ++ datedNames) head refl in
     let price = named-exactly priceNames (fieldsOf (priceHead text)) refl in (
       λ e.
-          let p = both (unitNamed head) (named priceNames priceOptional (fieldsOf (priceHead text))) e in
-          (⊎-map (plain .0) (dated .0) (one-of (named unitNames unitOptional head) (named (unitNames ++ datedNames) unitOptional head) (p .0)), price .0 (p .1)),
+          let p = both (unitNamed head) (named priceNames priceOptional (fieldsOf (priceHead text))) e in (
+            ⊎-map (plain .0) (dated .0) (one-of (named unitNames unitOptional head) (named (unitNames ++ datedNames) unitOptional head) (p .0)),
+            price .0 (p .1),
+          ),
       λ s.
           ap₂ _&&_
           (⊎-elim (λ (one : InSomeSequence unitNames head). ap (λ (t : Bool). t || named (unitNames ++ datedNames) unitOptional head) (plain .1 one))

@@ -155,7 +155,8 @@ answer-number text lent = refl
 
 -- the line of its number; nothing on 7 where the buffer does not serve
 pub answer-refusal : (text : List ℕ) (lent : Lent) {cause : Cause} → reportOn text lent ≡ reports.Refused cause
-    → printed text lent ≡ cond (eqb (numberOf cause) 7 && not (serves (unitIn text .permit) (length (pricesIn text)) (lent .bytes))) [] (refusal (numberOf cause))
+    → printed text lent ≡ cond (eqb (numberOf cause) 7 && not (serves (unitIn text .permit) (length (pricesIn text)) (lent .bytes)))
+    [] (refusal (numberOf cause))
 unfolding printed
 answer-refusal text lent {cause} e = by (allFound text lent) (best (unitIn text) (pricesIn text)) e
   where
@@ -166,7 +167,8 @@ answer-refusal text lent {cause} e = by (allFound text lent) (best (unitIn text)
     line c = cond (eqb (numberOf c) 7 && not served) [] (refusal (numberOf c))
 
     by : (k : Checked) (b : Plan) → reportedBy k b (outcomesOf (unitIn text) (pricesIn text)) ≡ reports.Refused cause
-        → cond (unwritten k served) [] (reportPrinted (wordOf (unitIn text .permit)) (reportedBy k b (outcomesOf (unitIn text) (pricesIn text))) (plannedPart k b))
+        → cond (unwritten k served) [] (reportPrinted (wordOf (unitIn text .permit)) (reportedBy k b (outcomesOf (unitIn text) (pricesIn text)))
+        (plannedPart k b))
         ≡ line cause
     by Passed nothing e = let same : NoSchedule ≡ cause = cc in ap line same
     by Passed (plan s p) e = let z : _≡_ {A = ℕ} 0 1 = cc in absurd (omega arith)

@@ -173,7 +173,8 @@ module _ (f : Figures) (ok : Sound f) (q : Quarter) (small : natAbs (q .price) �
         absurd (some-turn f ok ends q quarters c best worth opened off-short (λ j l h. unmet j h (passed j l (omega arith))))
     found (suc n) k e lo passed = by (λ more. found n (suc k) (omega arith) (omega arith) more) (meets f stored c (q .price) best k) refl
       where
-        by : (((j : ℕ) → f .pmin ≤ j → j < suc k → meets f stored c (q .price) best j ≡ false) → Found) → (t : Bool) → meets f stored c (q .price) best k ≡ t → Found
+        by : (((j : ℕ) → f .pmin ≤ j → j < suc k → meets f stored c (q .price) best j ≡ false) → Found)
+            → (t : Bool) → meets f stored c (q .price) best k ≡ t → Found
         by later true m = record { at = k; low = lo; high = omega arith; passed = passed; meeting = m }
         by later false m = later (λ j l h. ⊎-elim (λ (i : j ≡ k). rw i m) (λ (i : j < k). passed j l i) (last-or-before j k (omega arith)))
 

@@ -48,7 +48,8 @@ pub record ReadTurn (f : Figures) (ends : Cell → BestProfit) (q : Quarter) (qu
   pub may : ltZ (offStored f stored c) best ≡ true → mayRun f c ≡ true
   pub choice : Chosen f ends q quarters c (chosen f stored c (q .price) best)
 
-pub read-turn : (f : Figures) (ends : Cell → BestProfit) (quarters : List Quarter) (cells : List ℤ) (t : ℕ) (c : Cell) → Sound f → PricedOver quarters → length quarters ≤ mostIntervals
+pub read-turn : (f : Figures) (ends : Cell → BestProfit) (quarters : List Quarter) (cells : List ℤ) (t : ℕ) (c : Cell)
+    → Sound f → PricedOver quarters → length quarters ≤ mostIntervals
     → Filled f ends quarters cells → t < length quarters
     → InTable f c → (valueAt f ends (drop t quarters) c ≡ Nothing → ⊥)
     → ReadTurn f ends (getD quarters t noQuarter) (drop (suc t) quarters) (storedAt f cells (suc t * width f)) c (storedAt f cells (t * width f) c)
@@ -116,7 +117,8 @@ one-more f ends q rest c next m g is some = by (planAt f ends rest next) refl
           (sym none ∙ sym (plan-value f ends rest next) ∙ ap profitOf e),
     )
 
-pub written-next : (f : Figures) (ends : Cell → BestProfit) (quarters : List Quarter) (from : Cell) (old now : List ℕ) (t : ℕ) (c : Cell) (k : ℕ) → t < length quarters
+pub written-next : (f : Figures) (ends : Cell → BestProfit) (quarters : List Quarter) (from : Cell) (old now : List ℕ) (t : ℕ) (c : Cell) (k : ℕ)
+    → t < length quarters
     → t < length now
     → Written f ends quarters from old now t c → Chosen f ends (getD quarters t noQuarter) (drop (suc t) quarters) c k
     → Written f ends quarters from old (set now t (k * f .block)) (t + 1) (nextCell f c k)

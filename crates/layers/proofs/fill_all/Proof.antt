@@ -55,7 +55,8 @@ returns c =
     let a = o .args in
     let n = length (a .prices .now) in
     let w = width (a .f) in (
-      c .before .fill .ensures .0 anywhere (rw (put-is put, quarters-length (opens (a .hours)) 0 (a .prices .now)) (ends-anywhere (a .f) (a .scratch .now) (n * w) (fits o))),
+      c .before .fill .ensures .0 anywhere (rw (put-is put, quarters-length (opens (a .hours)) 0 (a .prices .now))
+          (ends-anywhere (a .f) (a .scratch .now) (n * w) (fits o))),
       rw (o .pre .1) (behind n w (a .scratch .now) (put .put .last .0) (c .before .fill .last .0) (fits o) (put-is put) (put .put .kept .0)
           (rw (o .pre .1) at (c .before .fill .ensures .1))),
     )

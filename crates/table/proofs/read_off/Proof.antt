@@ -1,4 +1,5 @@
--- The invariant: whichever quarters are open, t outputs are written, the rest of the plan is that of the cell reached, and layer t stands at `at`. The intervals left fall.
+-- The invariant: whichever quarters are open, t outputs are written, the rest of the plan is that of the cell reached, and layer t stands at `at`.
+-- The intervals left fall.
 use mathlib.Core.Path.{_≡_, ap, _∙_}
 use mathlib.Core.List.{List}
 use Prim.Native.Nat.{ℕ, suc, _+_, _-_, _*_, _≤_, _<_}

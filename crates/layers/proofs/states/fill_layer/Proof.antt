@@ -38,7 +38,8 @@ loop-again c =
     let a = turn .before .before .before .before .args in
     let l = turn .before .loop in (
       omega (arith, turn .loop-test .taken),
-      states-next (a .f) (quarter (toZ w64 (ofZ w64 (a .price))) (a .opens)) (a .scratch .now) (l .scratch) (c .before .fill-quarter .last .0) (l .s) (turn .loop-test .taken)
+      states-next (a .f) (quarter (toZ w64 (ofZ w64 (a .price))) (a .opens)) (a .scratch .now) (l .scratch) (c .before .fill-quarter .last .0) (l .s)
+          (turn .loop-test .taken)
           (c .before .fill-quarter .kept .0)
           (l .inv .1)
           (c .before .fill-quarter .ensures),
@@ -50,7 +51,8 @@ returns c =
     let a = o .args in
     let l = c .before .loop in
     let e : l .s ≡ states (a .f) = omega (arith, l .inv .0, c .loop-test .left) in
-    rw (plain-fits (o .fits .price)) at (states-done (a .f) (quarter (toZ w64 (ofZ w64 (a .price))) (a .opens)) (a .scratch .now) (l .scratch) (rw e at (l .inv .1)))
+    rw (plain-fits (o .fits .price)) at
+    (states-done (a .f) (quarter (toZ w64 (ofZ w64 (a .price))) (a .opens)) (a .scratch .now) (l .scratch) (rw e at (l .inv .1)))
 
 pub fill-layer-spec : {M : Type 1} → statement M
 fill-layer-spec =

@@ -47,8 +47,10 @@ read-report-requires c κs =
     let hours = filled .before .before in
     let layer = hours .before in
     let fill = filled .fill-all in
-    let s = layer .before .before .before in
-    (fit layer .works (hours .hours-of .result) (hours .hours-of .ensures) (fill .last .0) (fill .kept .0) (fill .ensures .0), (layer .before .figures-of .ensures, layer .layer-cells .ensures, s .pre .1))
+    let s = layer .before .before .before in (
+      fit layer .works (hours .hours-of .result) (hours .hours-of .ensures) (fill .last .0) (fill .kept .0) (fill .ensures .0),
+      (layer .before .figures-of .ensures, layer .layer-cells .ensures, s .pre .1),
+    )
 
 mul-clear : tie.Need-mul-clear
 mul-clear c =

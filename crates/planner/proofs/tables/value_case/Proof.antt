@@ -47,8 +47,10 @@ read-outcomes-requires c κs =
     let filled = c .before .before in
     let hours = filled .before .before in
     let layer = hours .before in
-    let fill = filled .fill-all in
-    (fit layer .works (hours .hours-of .result) (hours .hours-of .ensures) (fill .last .0) (fill .kept .0) (fill .ensures .0) .told, layer .before .figures-of .ensures)
+    let fill = filled .fill-all in (
+      fit layer .works (hours .hours-of .result) (hours .hours-of .ensures) (fill .last .0) (fill .kept .0) (fill .ensures .0) .told,
+      layer .before .figures-of .ensures,
+    )
 
 mul-clear : tie.Need-mul-clear
 mul-clear c =
