@@ -1,7 +1,8 @@
 -- Ranges and Passing: what the checks say as orders of numbers. Causes: the laws of a list of checks. Margins: how much an interval can add.
--- Clocks: the dates that a clock starts from.
+-- Clocks: the dates that a clock starts from. Tries: how many outputs are tried.
 pub mod Causes
 pub mod Ranges
 pub mod Passing
 pub mod Margins
 pub mod Clocks
+pub mod Tries

@@ -22,6 +22,11 @@ abbrev pub profitOf : Plan → BestProfit
 profitOf nothing = Nothing
 profitOf (plan s p) = Profit p
 
+-- its schedule alone
+abbrev pub scheduleOf : Plan → List ℕ
+scheduleOf nothing = []
+scheduleOf (plan s p) = s
+
 -- so many outputs from the first on, a block apart
 abbrev pub ladder : ℕ → ℕ → ℕ → List ℕ
 ladder block first zero = []

@@ -13,5 +13,7 @@ pub mod Rivals
 pub mod Valuing
 pub mod Cells
 pub mod Figures
+pub mod Tries
 pub mod Twelve
 pub mod HourCases
+pub mod TryCases

@@ -17,4 +17,5 @@ pub mod Values
 pub mod Turns
 pub mod Valuing
 pub mod Runs
+pub mod Tries
 pub mod Optimal

@@ -1,5 +1,5 @@
 -- The principle of optimality, for any machine of steps: the best of all lists of outputs is the best first output with the best of the rest.
-use mathlib.Core.Path.{_≡_, refl, sym, ap, ap₂, _∙_}
+use mathlib.Core.Path.{_≡_, refl, sym, ap, ap₂, _∙_, fun-ext}
 use mathlib.Core.List.{List, [], _∷_, _++_, map}
 use Prim.Native.Nat.{ℕ}
 use lib.ListN.{length}
@@ -18,10 +18,6 @@ pub map-append : {A B : Type 0} (f : A → B) (xs ys : List A) → map f (xs ++ 
 map-append f [] ys = refl
 map-append f (x ∷ xs) ys = ap (_∷_ (f x)) (map-append f xs ys)
 
-map-ext : {A B : Type 0} (f g : A → B) → ((x : A) → f x ≡ g x) → (xs : List A) → map f xs ≡ map g xs
-map-ext f g h [] = refl
-map-ext f g h (x ∷ xs) = ap₂ _∷_ (h x) (map-ext f g h xs)
-
 none-best : (ss : List (List ℕ)) → firstBest (map (λ (s : List ℕ). nothing) ss) ≡ nothing
 none-best [] = refl
 none-best (s ∷ ss) = none-best ss
@@ -37,19 +33,16 @@ best-along : {State : Type 0} (m : ℕ) (t : Step State) (f : State → List ℕ
 best-along m stop f ss = none-best ss
 best-along m (go g x) f ss = ap firstBest (sym (map-map (after m g) (f x) ss)) ∙ best-after m g (map (f x) ss)
 
-module _ (State Input : Type 0) (step : State → Input → ℕ → Step State) (ends : State → BestProfit) where
-  best-prefixed : (i : Input) (is : List Input) (x : State) (ss : List (List ℕ)) (ms : List ℕ)
-      → firstBest (map (run State Input step ends (i ∷ is) x) (prefixed ms ss))
-      ≡ firstBest (map (λ m. along m (step x i m) (λ y. firstBest (map (run State Input step ends is y) ss))) ms)
-  best-prefixed i is x ss [] = refl
-  best-prefixed i is x ss (m ∷ ms) =
-      let f = run State Input step ends (i ∷ is) x in
-      ap firstBest (map-append f (map (λ s. m ∷ s) ss) (prefixed ms ss))
-      ∙ best-append (map f (map (λ s. m ∷ s) ss)) (map f (prefixed ms ss))
-      ∙ ap₂ better
-      (ap firstBest (map-map f (λ s. m ∷ s) ss) ∙ best-along m (step x i m) (run State Input step ends is) ss)
-      (best-prefixed i is x ss ms)
+-- the best of all lists that begin with one of these outputs, by the best of those that begin with each
+pub best-prefixed : (f : List ℕ → Plan) (ms : List ℕ) (ss : List (List ℕ))
+    → firstBest (map f (prefixed ms ss)) ≡ firstBest (map (λ m. firstBest (map (λ s. f (m ∷ s)) ss)) ms)
+best-prefixed f [] ss = refl
+best-prefixed f (m ∷ ms) ss =
+    ap firstBest (map-append f (map (λ s. m ∷ s) ss) (prefixed ms ss))
+    ∙ best-append (map f (map (λ s. m ∷ s) ss)) (map f (prefixed ms ss))
+    ∙ ap₂ better (ap firstBest (map-map f (λ s. m ∷ s) ss)) (best-prefixed f ms ss)
 
+module _ (State Input : Type 0) (step : State → Input → ℕ → Step State) (ends : State → BestProfit) where
   -- the best of all lists of outputs is found step by step
   pub optimal : (outputs : List ℕ) (is : List Input) (x : State)
       → firstBest (map (run State Input step ends is x) (lists outputs (length is))) ≡ bestFrom State Input step ends outputs is x
@@ -57,8 +50,9 @@ module _ (State Input : Type 0) (step : State → Input → ℕ → Step State) 
   optimal outputs (i ∷ is) x =
       let ss = lists outputs (length is) in
       let rest : State → Plan = λ y. firstBest (map (run State Input step ends is y) ss) in
-      best-prefixed i is x ss outputs
-      ∙ ap firstBest
-      (map-ext (λ m. along m (step x i m) rest) (λ m. along m (step x i m) (bestFrom State Input step ends outputs is))
-      (λ m. along-ext m (step x i m) rest (bestFrom State Input step ends outputs is) (λ y. optimal outputs is y))
-      outputs)
+      let best = bestFrom State Input step ends outputs is in
+      best-prefixed (run State Input step ends (i ∷ is) x) outputs ss
+      ∙ ap (λ (f : ℕ → Plan). firstBest (map f outputs))
+      (fun-ext (λ m.
+      best-along m (step x i m) (run State Input step ends is) ss
+      ∙ along-ext m (step x i m) rest best (λ y. optimal outputs is y)))

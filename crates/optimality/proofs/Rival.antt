@@ -77,7 +77,7 @@ AllIn outputs (m ∷ ms) = List·Memᴰ m outputs × AllIn outputs ms
 
 -- ---- the best is one of the plans tried
 
-pick : (bs : List Plan) (s : List ℕ) (p : ℤ) → firstBest bs ≡ plan s p → List·Memᴰ (plan s p) bs
+pub pick : (bs : List Plan) (s : List ℕ) (p : ℤ) → firstBest bs ≡ plan s p → List·Memᴰ (plan s p) bs
 pick [] s p e = absurd (not-plan e)
 pick (a ∷ bs) s p e =
     ⊎-elim (λ (h : plan s p ≡ a). List·Memᴰ·head h) (λ (h : firstBest bs ≡ plan s p). List·Memᴰ·tail (pick bs s p h)) (either a (firstBest bs) e)
@@ -89,7 +89,7 @@ pick (a ∷ bs) s p e =
         ⊎-elim (λ (w : (ltZ q q′ ≡ true) × (q <ℤ q′)). inr (rw (w .0) at e)) (λ (w : (ltZ q q′ ≡ false) × (q′ ≤ℤ q)). inl (sym (rw (w .0) at e)))
         (ltZ-dec q q′)
 
-found : (f : ℕ → Plan) (ms : List ℕ) (a : Plan) → List·Memᴰ a (map f ms) → (m : ℕ) × List·Memᴰ m ms × (f m ≡ a)
+pub found : {A : Type 0} (f : A → Plan) (ms : List A) (a : Plan) → List·Memᴰ a (map f ms) → (m : A) × List·Memᴰ m ms × (f m ≡ a)
 found f [] a h = absurd (List·Memᴰ·not-nil h)
 found f (m ∷ ms) a h =
     ⊎-elim (λ (e : a ≡ f m). (m, List·Memᴰ·head refl, sym e))

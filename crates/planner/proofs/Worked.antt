@@ -107,15 +107,12 @@ module _ (u : UnitRecord) (prices cells : List ℤ) (w : Worked u prices cells) 
   pub opening-plan : planAt (figuresOf u (length prices)) anywhere (quartersOf u prices) (openingCell u (length prices)) ≡ best u prices
   opening-plan = sym (best-cell u (unit-ranged u prices cells (w .told)) prices)
 
-  -- where there is a schedule, the opening cell has a best profit
-  opening-some : (p : ℤ) → profitOf (best u prices) ≡ Profit p
-      → valueAt (figuresOf u (length prices)) anywhere (quartersOf u prices) (openingCell u (length prices)) ≡ Nothing → ⊥
-  opening-some p e n =
-      let none : profitOf (best u prices) ≡ Nothing = profit-under u (unit-ranged u prices cells (w .told)) prices (u .limits) (under-itself (u .limits)) ∙ n in
-      let z : _≡_ {A = ℕ} 0 1 = cc in
-      omega arith
-
-  -- so the plan can be read off from it
-  pub opening-plans : (p : ℤ) → profitOf (best u prices) ≡ Profit p
+  -- where there is a schedule, the plan can be read off from the opening cell
+  pub opening-plans : (profitOf (best u prices) ≡ Nothing → ⊥)
       → PlanFrom (figuresOf u (length prices)) prices cells (openingCell u (length prices)) (quartersOf u prices)
-  opening-plans p e = record { priced = quarters-priced (opensIn (u .permit)) 0 prices; filled = w .filled; some = opening-some p e }
+  opening-plans some =
+      record {
+        priced = quarters-priced (opensIn (u .permit)) 0 prices;
+        filled = w .filled;
+        some = λ none. some (profit-under u (unit-ranged u prices cells (w .told)) prices (u .limits) (under-itself (u .limits)) ∙ none);
+      }

@@ -14,7 +14,9 @@ ghost use mathlib.Core.Bool.{true};
 ghost use Prim.Native.Nat.{_≤_};
 ghost use lib.ListN.{length};
 ghost use Rattle.commitment.specs.declared.Checked.the-variants.{Passed};
-ghost use Rattle.commitment.specs.Best.{best};
+ghost use Rattle.commitment.specs.declared.BestProfit.the-variants.{Nothing};
+ghost use Rattle.commitment.specs.Best.{best, profitOf};
+ghost use Rattle.commitment.specs.Tries.{planTries};
 ghost use Rattle.commitment.specs.Cells.{cellsNeeded};
 ghost use Rattle.commitment.specs.Valuing.{outcomesOf};
 ghost use Rattle.optimality.specs.Cells.{figuresOf};
@@ -81,8 +83,7 @@ fn read_report(
         BestProfit::Nothing => Reported::Refused(Cause::NoSchedule),
         BestProfit::Profit(profit) => {
             let count = prices.len();
-            let from = budgets::opening_cell(unit, count);
-            table::read_off(cells, w, f, prices, from, schedule);
+            read_plan(unit, f, w, prices, cells, schedule);
             let outcomes = runs::outcomes_in(unit, f, prices, cells);
             Reported::Report(Report {
                 count,
@@ -91,6 +92,25 @@ fn read_report(
             })
         }
     }
+}
+
+// The plan of a case that has one, read off into the schedule's front, and how many outputs were tried for it.
+fn read_plan(
+    unit: UnitRecord,
+    f: Figures,
+    w: usize,
+    prices: &[i64],
+    cells: &[i64],
+    schedule: &mut [u64],
+) -> usize
+    requires { ⌜ Worked unit (now prices) (now cells) ⌝ }
+    requires { ⌜ (f ≡ figuresOf unit (length (now prices))) × (w ≡ width f) × (length (now prices) ≤ length (now schedule)) ⌝ }
+    requires { ⌜ (profitOf (best unit (now prices)) ≡ Nothing → ⊥) ⌝ }
+    ensures { λ r. ⌜ r ≡ planTries unit (now (prices .entry)) ⌝ }
+    ensures { λ _. ⌜ now (schedule .exit) ≡ scheduleAfter Passed (best unit (now (prices .entry))) (now (schedule .entry)) ⌝ }
+{
+    let from = budgets::opening_cell(unit, prices.len());
+    table::read_off(cells, w, f, prices, from, schedule)
 }
 
 fn read_outcomes(unit: UnitRecord, f: Figures, prices: &[i64], cells: &[i64]) -> Valued

@@ -1,6 +1,6 @@
 -- The output that is read off a cell is the plan's: the first that reaches the cell's number is the first that reaches its value.
 use mathlib.Core.Path.{_≡_, refl, sym, ap, subst, _∙_}
-use mathlib.Core.Bool.{Bool, true, false, cond, not, _&&_, true≢false, false≢true}
+use mathlib.Core.Bool.{Bool, true, false, cond, not, true≢false, false≢true}
 use mathlib.Core.List.{List, _∷_}
 use mathlib.Core.Logic.{⊎-elim}
 use Prim.Native.Nat.{ℕ, zero, suc, _+_, _-_, _*_, _≤_, _<_}
@@ -22,7 +22,7 @@ use Rattle.optimality.proofs.Values.{no-earning}
 use Rattle.optimality.proofs.Turns.{off-turn, on-turn, some-turn, off-in-table, on-in-table}
 use Rattle.geometry.specs.Layers.{swing, Layer}
 use Rattle.layers.specs.Turns.{raised, offStored, roomFor, onStored, cellStored, quarterStored}
-use Rattle.table.specs.Reading.{firstOn, chosen, nextCell, Allowed}
+use Rattle.table.specs.Reading.{reachesOn, firstOn, OnReaches, chosen, nextCell, Allowed}
 use Rattle.layers.proofs.Stretches.{last-or-before}
 use Rattle.layers.proofs.Raising.{raised-above, raised-reach}
 use Rattle.geometry.proofs.Holding.{Offers, offered, offers-best, offers-earning}
@@ -31,22 +31,19 @@ use Rattle.layers.proofs.Turning.{off-holds, on-is, on-offers}
 -- ---- the first that reaches
 
 module _ (f : Figures) (stored : Cell → ℤ) (c : Cell) (price best : ℤ) where
-  -- whether an output fits and reaches the best
-  abbrev pub meets : ℕ → Bool
-  meets k = roomFor f stored c k && not (ltZ (onStored f stored c price k) best)
-
-  passed-over : (n k count : ℕ) → ((j : ℕ) → k ≤ j → j < k + n → meets j ≡ false)
+  passed-over : (n k count : ℕ) → ((j : ℕ) → k ≤ j → j < k + n → reachesOn f stored c price best j ≡ false)
       → firstOn f stored c price best k (n + count) ≡ firstOn f stored c price best (k + n) count
   unfolding firstOn
   passed-over zero k count h = let e : 0 + count ≡ count = omega arith in let i : k + 0 ≡ k = omega arith in rw (e, i)
   passed-over (suc n) k count h =
       let e : suc n + count ≡ suc (n + count) = omega arith in
       let i : suc k + n ≡ k + suc n = omega arith in
-      let m : meets k ≡ false = h k (omega arith) (omega arith) in
+      let m : reachesOn f stored c price best k ≡ false = h k (omega arith) (omega arith) in
       ap (firstOn f stored c price best k) e ∙ (rw m) ∙ passed-over n (suc k) count (λ j lo hi. h j (omega arith) (omega arith))
       ∙ ap (λ (j : ℕ). firstOn f stored c price best j count) i
 
-  pub first-at : (k : ℕ) → f .pmin ≤ k → k ≤ f .pmax → ((j : ℕ) → f .pmin ≤ j → j < k → meets j ≡ false) → meets k ≡ true
+  pub first-at : (k : ℕ) → f .pmin ≤ k → k ≤ f .pmax → ((j : ℕ) → f .pmin ≤ j → j < k → reachesOn f stored c price best j ≡ false)
+      → reachesOn f stored c price best k ≡ true
       → firstOn f stored c price best (f .pmin) (rungs f) ≡ k
   unfolding firstOn
   first-at k lo hi short e =
@@ -55,14 +52,6 @@ module _ (f : Figures) (stored : Cell → ℤ) (c : Cell) (price best : ℤ) whe
       ap (firstOn f stored c price best (f .pmin)) n ∙ passed-over (k - f .pmin) (f .pmin) (suc (f .pmax - k)) (λ j l u. short j l (omega arith))
       ∙ ap (λ (j : ℕ). firstOn f stored c price best j (suc (f .pmax - k))) i
       ∙ (rw e)
-
-  pub first-past : f .pmin ≤ f .pmax → ((j : ℕ) → f .pmin ≤ j → j < suc (f .pmax) → meets j ≡ false)
-      → firstOn f stored c price best (f .pmin) (rungs f) ≡ suc (f .pmax)
-  unfolding firstOn
-  first-past order short =
-      let n : rungs f ≡ rungs f + 0 = omega arith in
-      let i : f .pmin + rungs f ≡ suc (f .pmax) = omega arith in
-      ap (firstOn f stored c price best (f .pmin)) n ∙ passed-over (rungs f) (f .pmin) 0 (λ j l u. short j l (omega arith)) ∙ i
 
   -- ---- the numbers of the outputs are at most the cell's
 
@@ -138,7 +127,7 @@ module _ (f : Figures) (ok : Sound f) (q : Quarter) (small : natAbs (q .price) �
         false≢true (sym (le-ltZ best best (≤ℤ-refl best)) ∙ (rw i at falls))
 
     -- an output meets the test exactly where it reaches the value
-    met : (k : ℕ) → f .pmin ≤ k → k ≤ f .pmax → meets f stored c (q .price) best k ≡ true → onValue f (valueAt f ends quarters) c (q .price) k ≡ Profit best
+    met : (k : ℕ) → f .pmin ≤ k → k ≤ f .pmax → reachesOn f stored c (q .price) best k ≡ true → onValue f (valueAt f ends quarters) c (q .price) k ≡ Profit best
     met k lo hi e =
         let b = both (roomFor f stored c k) (not (ltZ (onStored f stored c (q .price) k) best)) e in
         let l = ltZ-false (onStored f stored c (q .price) k) best (not-true′ (ltZ (onStored f stored c (q .price) k) best) (b .1)) in
@@ -150,7 +139,7 @@ module _ (f : Figures) (ok : Sound f) (q : Quarter) (small : natAbs (q .price) �
         not-true′ true e = absurd (false≢true e)
         not-true′ false e = refl
 
-    unmet : (k : ℕ) → k ≤ f .pmax → meets f stored c (q .price) best k ≡ false → onValue f (valueAt f ends quarters) c (q .price) k ≡ Profit best → ⊥
+    unmet : (k : ℕ) → k ≤ f .pmax → reachesOn f stored c (q .price) best k ≡ false → onValue f (valueAt f ends quarters) c (q .price) k ≡ Profit best → ⊥
     unmet k hi e v = by (roomFor f stored c k) refl
       where
         by : (t : Bool) → roomFor f stored c k ≡ t → ⊥
@@ -158,29 +147,35 @@ module _ (f : Figures) (ok : Sound f) (q : Quarter) (small : natAbs (q .price) �
         by true r =
             let i = offers-earning (suc (length quarters)) (onValue f (valueAt f ends quarters) c (q .price) k) (onStored f stored c (q .price) k) best
             (on-offers f ok (q .price) small ends quarters short stored layer c here may k hi r) v in
-            let m : meets f stored c (q .price) best k ≡ true = rw (r, i, le-ltZ best best (≤ℤ-refl best)) in
+            let m : reachesOn f stored c (q .price) best k ≡ true = rw (r, i, le-ltZ best best (≤ℤ-refl best)) in
             true≢false (sym m ∙ e)
 
     record Found : Type 0 where
       at : ℕ
       low : f .pmin ≤ at
       high : at ≤ f .pmax
-      passed : (j : ℕ) → f .pmin ≤ j → j < at → meets f stored c (q .price) best j ≡ false
-      meeting : meets f stored c (q .price) best at ≡ true
+      passed : (j : ℕ) → f .pmin ≤ j → j < at → reachesOn f stored c (q .price) best j ≡ false
+      meeting : reachesOn f stored c (q .price) best at ≡ true
 
-    found : (n k : ℕ) → k + n ≡ suc (f .pmax) → f .pmin ≤ k → ((j : ℕ) → f .pmin ≤ j → j < k → meets f stored c (q .price) best j ≡ false) → Found
+    found : (n k : ℕ) → k + n ≡ suc (f .pmax) → f .pmin ≤ k → ((j : ℕ) → f .pmin ≤ j → j < k → reachesOn f stored c (q .price) best j ≡ false) → Found
     found zero k e lo passed =
         absurd (some-turn f ok ends q quarters c best worth opened off-short (λ j l h. unmet j h (passed j l (omega arith))))
-    found (suc n) k e lo passed = by (λ more. found n (suc k) (omega arith) (omega arith) more) (meets f stored c (q .price) best k) refl
+    found (suc n) k e lo passed = by (λ more. found n (suc k) (omega arith) (omega arith) more) (reachesOn f stored c (q .price) best k) refl
       where
-        by : (((j : ℕ) → f .pmin ≤ j → j < suc k → meets f stored c (q .price) best j ≡ false) → Found)
-            → (t : Bool) → meets f stored c (q .price) best k ≡ t → Found
+        by : (((j : ℕ) → f .pmin ≤ j → j < suc k → reachesOn f stored c (q .price) best j ≡ false) → Found)
+            → (t : Bool) → reachesOn f stored c (q .price) best k ≡ t → Found
         by later true m = record { at = k; low = lo; high = omega arith; passed = passed; meeting = m }
         by later false m = later (λ j l h. ⊎-elim (λ (i : j ≡ k). rw i m) (λ (i : j < k). passed j l i) (last-or-before j k (omega arith)))
 
+    first : Found
+    first = found (rungs f) (f .pmin) (omega (arith, ok .pmax)) (omega arith) (λ j l h. absurd (omega arith))
+
+    on-reaches : OnReaches f stored c (q .price) best
+    on-reaches = record { may = may; at = first .at; low = first .low; high = first .high; meets = first .meeting }
+
     on-chosen : Chosen f ends q quarters c (firstOn f stored c (q .price) best (f .pmin) (rungs f))
     on-chosen =
-        let r = found (rungs f) (f .pmin) (omega (arith, ok .pmax)) (omega arith) (λ j l h. absurd (omega arith)) in
+        let r = first in
         subst (Chosen f ends q quarters c) (sym (first-at f stored c (q .price) best (r .at) (r .low) (r .high) (r .passed) (r .meeting))) (made (r .at) r refl)
       where
         made : (k : ℕ) → (r : Found) → r .at ≡ k → Chosen f ends q quarters c (r .at)
@@ -218,11 +213,10 @@ module _ (f : Figures) (ok : Sound f) (q : Quarter) (small : natAbs (q .price) �
       by true opened is = open-chosen opened is
       by false shut is = shut-chosen is
 
--- where off falls short the quarter is open, and the unit may run
-pub must-run : (f : Figures) (stored : Cell → ℤ) (c : Cell) (q : Quarter) (best : ℤ) → quarterStored f stored c q ≡ best
-    → ltZ (offStored f stored c) best ≡ true → mayRun f c ≡ true
-must-run f stored c q best is short = by (q .opens) is
-  where
-    by : (t : Bool) → cond t (cellStored f stored c (q .price)) (offStored f stored c) ≡ best → mayRun f c ≡ true
-    by true is = open-runs f stored c (q .price) best is short
-    by false is = absurd (false≢true (sym (le-ltZ best best (≤ℤ-refl best)) ∙ (rw is at short)))
+  -- where off falls short the quarter is open, and some output reaches the number
+  pub must-reach : quarterStored f stored c q ≡ best → ltZ (offStored f stored c) best ≡ true → OnReaches f stored c (q .price) best
+  must-reach is falls = by (q .opens) refl is
+    where
+      by : (t : Bool) → q .opens ≡ t → cond t (cellStored f stored c (q .price)) (offStored f stored c) ≡ best → OnReaches f stored c (q .price) best
+      by true opened is = on-reaches opened is falls
+      by false shut is = absurd (false≢true (sym (le-ltZ best best (≤ℤ-refl best)) ∙ (rw is at falls)))

@@ -1,7 +1,7 @@
 -- The plan read off the layers: interval by interval, what is written and the plan from the cell reached make the whole plan.
 use mathlib.Core.Path.{_≡_, refl, sym, ap, ap₂, _∙_}
 use mathlib.Core.Bool.{true}
-use mathlib.Core.List.{List, [], _∷_, _++_, map, append-assoc, append-nil}
+use mathlib.Core.List.{List, [], _∷_, _++_, append-assoc, append-nil}
 use Prim.Native.Nat.{ℕ, suc, _+_, _*_, _≤_, _<_}
 use native.Mathlib.Numerals.{add-one}
 use native.Mathlib.Omega.{arith}
@@ -11,13 +11,15 @@ use lib.Seq.{drop-cons}
 use lib.Signed.{ltZ}
 use Rattle.commitment.specs.Bounds.{mostIntervals}
 use Rattle.lists.proofs.Fills.{take-next, kept-next, kept-whole}
-use Rattle.commitment.specs.Best.{Plan, nothing, plan, profitOf}
+use Rattle.commitment.specs.Tries.{triesTo, triesOver}
+use Rattle.commitment.proofs.Tries.{tries-append, tries-in-blocks}
+use Rattle.commitment.specs.Best.{Plan, nothing, plan, profitOf, scheduleOf}
 use Rattle.optimality.specs.declared.Figures.{Figures}
 use Rattle.optimality.specs.declared.Cell.{Cell}
 use Rattle.commitment.specs.declared.BestProfit.{BestProfit}
 use Rattle.commitment.specs.declared.BestProfit.the-variants.{Nothing, Profit}
 use Rattle.optimality.specs.Machine.{Quarter, after, anywhere}
-use Rattle.optimality.specs.Cells.{Sound, InTable, mayRun, planAt, valueAt}
+use Rattle.optimality.specs.Cells.{Sound, InTable, planAt, valueAt}
 use Rattle.optimality.proofs.Values.{no-earning}
 use Rattle.optimality.proofs.Turns.{plan-value}
 use Rattle.geometry.specs.Geometry.{width}
@@ -26,9 +28,9 @@ use Rattle.layers.specs.Turns.{offStored, quarterStored}
 use Rattle.layers.proofs.Filling.{PricedOver}
 use Rattle.optimality.proofs.Quarters.{noQuarter}
 use Rattle.commitment.specs.Ranges.{Priced}
-use Rattle.table.specs.Reading.{chosen, nextCell, scheduleOf, PlanFrom}
+use Rattle.table.specs.Reading.{OnReaches, chosen, nextCell, PlanFrom}
 use Rattle.layers.proofs.Turning.{cell-holds}
-use Rattle.table.proofs.Choosing.{Chosen, chosen-is, must-run}
+use Rattle.table.proofs.Choosing.{Chosen, chosen-is, must-reach}
 
 -- ---- quarters of these prices
 
@@ -45,7 +47,7 @@ module _ (f : Figures) (prices cells : List ℤ) (from : Cell) (quarters : List 
 -- ---- one interval
 
 pub record ReadTurn (f : Figures) (ends : Cell → BestProfit) (q : Quarter) (quarters : List Quarter) (stored : Cell → ℤ) (c : Cell) (best : ℤ) : Type 0 where
-  pub may : ltZ (offStored f stored c) best ≡ true → mayRun f c ≡ true
+  pub on : ltZ (offStored f stored c) best ≡ true → OnReaches f stored c (q .price) best
   pub choice : Chosen f ends q quarters c (chosen f stored c (q .price) best)
 
 pub read-turn : (f : Figures) (ends : Cell → BestProfit) (quarters : List Quarter) (cells : List ℤ) (t : ℕ) (c : Cell)
@@ -82,9 +84,10 @@ read-turn f ends quarters cells t c ok priced short filled inside here some =
         (cell-holds f ok (q .price) (priced t inside) ends rest few stored next c here (q .opens)) in
         let is : quarterStored f stored c q ≡ best = made .0 ∙ sym (h .0) in
         let bound : natAbs best ≤ suc (length rest) * swing = rw (h .0) (h .1) in
+        let worth = e ∙ ap Profit (sym (h .0)) in
         record {
-          may = must-run f stored c q best is;
-          choice = chosen-is f ok q (priced t inside) ends rest few stored next c here best (e ∙ ap Profit (sym (h .0))) bound is;
+          on = must-reach f ok q (priced t inside) ends rest few stored next c here best worth bound is;
+          choice = chosen-is f ok q (priced t inside) ends rest few stored next c here best worth bound is;
         }
 
 -- ---- the plan so far
@@ -139,11 +142,21 @@ written-next f ends quarters from old now t c k inside room w choice =
       same = length-set now t (k * f .block) ∙ w .same;
     }
 
-pub written-all : (f : Figures) (quarters : List Quarter) (from : Cell) (old now : List ℕ) (t : ℕ) (c : Cell) → t ≡ length quarters
-    → Written f anywhere quarters from old now t c
-    → now ≡ scheduleOf (planAt f anywhere quarters from) ++ drop (length quarters) old
-unfolding planAt
-written-all f quarters from old now t c e w =
-    let d : drop t quarters ≡ [] = drop-of-length-le quarters {i = t} (omega arith) in
-    let front : take t now ≡ scheduleOf (planAt f anywhere quarters from) = sym (append-nil (take t now)) ∙ (rw d at (w .whole)) in
-    kept-whole now old t (w .kept) ∙ ap₂ (λ (xs : List ℕ) (j : ℕ). xs ++ drop j old) front e
+-- what its outputs take, one more being written
+pub tries-next : (block pmin : ℕ) (now : List ℕ) (t k : ℕ) {tries more : ℕ} → 1 ≤ block → t < length now → tries ≡ triesOver block pmin (take t now)
+    → more ≡ triesTo pmin k → tries + more ≡ triesOver block pmin (take (t + 1) (set now t (k * block)))
+tries-next block pmin now t k block-some room so-far one =
+    let e = ap (triesOver block pmin) (take-next now t (k * block) room) ∙ tries-append block pmin (take t now) ((k * block) ∷ []) in
+    omega (arith, e, so-far, one, tries-in-blocks block pmin k block-some)
+
+-- all are
+module _ (f : Figures) (quarters : List Quarter) (from : Cell) (old now : List ℕ) (t : ℕ) (c : Cell) (e : t ≡ length quarters)
+    (w : Written f anywhere quarters from old now t c) where
+  pub front-all : take t now ≡ scheduleOf (planAt f anywhere quarters from)
+  unfolding planAt
+  front-all =
+      let d : drop t quarters ≡ [] = drop-of-length-le quarters {i = t} (omega arith) in
+      sym (append-nil (take t now)) ∙ (rw d at (w .whole))
+
+  pub written-all : now ≡ scheduleOf (planAt f anywhere quarters from) ++ drop (length quarters) old
+  written-all = kept-whole now old t (w .kept) ∙ ap₂ (λ (xs : List ℕ) (j : ℕ). xs ++ drop j old) front-all e

@@ -1,26 +1,39 @@
 -- The output that is read off a cell, by the numbers that the cells of the next layer hold, and the schedule of a plan.
 use mathlib.Core.Path.{_≡_}
-use mathlib.Core.Bool.{Bool, cond, not, _&&_}
-use mathlib.Core.List.{List, [], _++_, map}
+use mathlib.Core.Bool.{Bool, true, cond, not, _&&_}
+use mathlib.Core.List.{List, _++_, map}
 use Prim.Native.Nat.{ℕ, zero, suc, _+_, _-_, _*_, _≤_}
 use lib.Dec.{leb}
 use lib.IntN.{ℤ, pos, _+ℤ_}
 use lib.ListN.{length, getD, drop}
 use lib.Signed.{ltZ}
 use Rattle.commitment.specs.declared.BestProfit.the-variants.{Nothing}
-use Rattle.commitment.specs.Best.{Plan, nothing, plan}
+use Rattle.commitment.specs.Best.{scheduleOf}
+use Rattle.commitment.specs.Tries.{triesOver}
 use Rattle.geometry.specs.Layers.{Filled}
 use Rattle.optimality.specs.declared.Figures.{Figures}
 use Rattle.optimality.specs.declared.Cell.{Cell}
 use Rattle.optimality.specs.Machine.{Quarter, anywhere}
-use Rattle.optimality.specs.Cells.{startTakes, offCell, onCell, rungs, planAt, valueAt}
+use Rattle.optimality.specs.Cells.{startTakes, mayRun, offCell, onCell, rungs, planAt, valueAt}
 use Rattle.layers.specs.Turns.{net, offStored, roomFor, onStored}
 
 module _ (f : Figures) (stored : Cell → ℤ) (c : Cell) where
+  -- whether the blocks left allow k, and it reaches the best
+  abbrev pub reachesOn : ℤ → ℤ → ℕ → Bool
+  reachesOn price best k = roomFor f stored c k && not (ltZ (onStored f stored c price k) best)
+
   -- the first of so many outputs from k on that reaches the best
   unfoldable pub firstOn : ℤ → ℤ → ℕ → ℕ → ℕ
   firstOn price best k zero = k
-  firstOn price best k (suc count) = cond (roomFor f stored c k && not (ltZ (onStored f stored c price k) best)) k (firstOn price best (suc k) count)
+  firstOn price best k (suc count) = cond (reachesOn price best k) k (firstOn price best (suc k) count)
+
+  -- some output reaches it, with the unit on
+  pub record OnReaches (price best : ℤ) : Type 0 where
+    pub may : mayRun f c ≡ true
+    pub at : ℕ
+    pub low : f .pmin ≤ at
+    pub high : at ≤ f .pmax
+    pub meets : reachesOn price best at ≡ true
 
   -- so many blocks, 0 for off
   unfoldable pub chosen : ℤ → ℤ → ℕ
@@ -40,18 +53,15 @@ abbrev pub nextCell : Figures → Cell → ℕ → Cell
 nextCell f c zero = offCell f c
 nextCell f c (suc k) = onCell f c (suc k)
 
-abbrev pub scheduleOf : Plan → List ℕ
-scheduleOf nothing = []
-scheduleOf (plan s p) = s
-
 -- a table that is filled for quarters of these prices, whichever of them are open, and a cell that has a plan
 pub record PlanFrom (f : Figures) (prices cells : List ℤ) (from : Cell) (quarters : List Quarter) : Type 0 where
   pub priced : map (λ (q : Quarter). q .price) quarters ≡ prices
   pub filled : Filled f anywhere quarters cells
   pub some : valueAt f anywhere quarters from ≡ Nothing → ⊥
 
--- the best plan from a cell stands in the schedule's front, and the rest is as it was
-abbrev pub ReadOff : Figures → List ℤ → List ℤ → Cell → List ℕ → List ℕ → Type 0
-ReadOff f prices cells from was schedule =
+-- the best plan from a cell stands in the schedule's front, and the rest is as it was; so many outputs were tried in all
+abbrev pub ReadOff : Figures → List ℤ → List ℤ → Cell → List ℕ → List ℕ → ℕ → Type 0
+ReadOff f prices cells from was schedule tries =
     (quarters : List Quarter) → PlanFrom f prices cells from quarters
-    → schedule ≡ scheduleOf (planAt f anywhere quarters from) ++ drop (length quarters) was
+    → (schedule ≡ scheduleOf (planAt f anywhere quarters from) ++ drop (length quarters) was)
+    × (tries ≡ triesOver (f .block) (f .pmin) (scheduleOf (planAt f anywhere quarters from)))

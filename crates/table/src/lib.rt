@@ -26,7 +26,7 @@ pub fn best_at(scratch: &[i64], f: Figures, at: Cell) -> BestProfit
     geometry::told(scratch[i])
 }
 
-// The best plan from a cell of the first layer that has one, output by output.
+// The best plan from a cell of the first layer that has one, output by output, and how many outputs were tried in all.
 pub fn read_off(
     scratch: &[i64],
     w: usize,
@@ -34,24 +34,28 @@ pub fn read_off(
     prices: &[i64],
     from: Cell,
     schedule: &mut [u64],
-)
+) -> usize
     requires { ⌜ (Room f (length (now prices)) (length (now scratch))) × (w ≡ width f) × (Priced (now prices)) ⌝ }
     requires { ⌜ ((quarters : List Quarter) × PlanFrom f (now prices) (now scratch) from quarters) ⌝ }
     requires { ⌜ InTable f from ⌝ }
     requires { ⌜ length (now prices) ≤ length (now schedule) ⌝ }
-    ensures { λ _. ⌜ ReadOff f (now (prices .entry)) (now (scratch .entry)) from (now (schedule .entry)) (now (schedule .exit)) ⌝ }
+    ensures { λ r. ⌜ ReadOff f (now (prices .entry)) (now (scratch .entry)) from (now (schedule .entry)) (now (schedule .exit)) r ⌝ }
 {
     let n = prices.len();
     let mut at = 0;
     let mut c = from;
+    let mut tries = 0;
     let mut t = 0;
     while t < n {
         let i = at + geometry::index(f, c);
         let best = scratch[i];
         at += w;
-        let k = reading::choose(scratch, at, f, prices[t], c, best);
+        let found = reading::choose(scratch, at, f, prices[t], c, best);
+        let k = found.blocks;
+        tries += found.tries;
         schedule[t] = (k * f.block) as u64;
         c = reading::moved(f, c, k);
         t += 1;
     }
+    tries
 }

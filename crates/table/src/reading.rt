@@ -8,24 +8,36 @@ ghost use mathlib.Core.Bool.{true};
 ghost use Prim.Native.Nat.{_+_, _-_, _*_, _≤_, _<_};
 ghost use lib.ListN.{length};
 ghost use lib.Signed.{ltZ};
+ghost use Rattle.commitment.specs.Tries.{triesTo};
 ghost use Rattle.optimality.specs.Cells.{Sound, InTable, cell, states, afterOn, startTakes, mayRun, rungs};
 ghost use Rattle.geometry.specs.Geometry.{width, row, index};
 ghost use Rattle.geometry.specs.Layers.{storedAt, mostPays};
 ghost use Rattle.geometry.specs.Geometry as geometry;
 ghost use Rattle.layers.specs.Turns.{Interval, offStored};
-ghost use Rattle.table.specs.Reading.{firstOn, chosen, reachesBest, Allowed, nextCell};
+ghost use Rattle.table.specs.Reading.{firstOn, OnReaches, chosen, reachesBest, Allowed, nextCell};
 ghost use Rattle.layers.specs.Stretches.{Readable};
 
-// How many blocks the plan has in the interval of a cell that holds `best`, by the layer at `at` behind it: the first that reaches it.
-pub fn choose(scratch: &[i64], at: usize, f: Figures, price: i64, c: Cell, best: i64) -> usize
+// An output in blocks, 0 for off, and how many were tried to find it.
+pub struct Tried {
+    pub blocks: usize,
+    pub tries: usize,
+}
+
+// The plan's output in the interval of a cell that holds `best`, by the layer at `at` behind it: they are tried from 0 upwards, to the first that
+// reaches it. Off is tried even where the run may not end yet.
+pub fn choose(scratch: &[i64], at: usize, f: Figures, price: i64, c: Cell, best: i64) -> Tried
     requires { ⌜ (Interval f price) × (InTable f c) × (Readable (now scratch) at (width f)) ⌝ }
-    requires { ⌜ (ltZ (offStored f (storedAt f (now scratch) at) c) best ≡ true → mayRun f c ≡ true) ⌝ }
-    ensures { λ r. ⌜ r ≡ chosen f (storedAt f (now (scratch .entry)) at) c price best ⌝ }
+    requires { ⌜ (ltZ (offStored f (storedAt f (now scratch) at) c) best ≡ true → OnReaches f (storedAt f (now scratch) at) c price best) ⌝ }
+    ensures { λ r. ⌜ r .blocks ≡ chosen f (storedAt f (now (scratch .entry)) at) c price best ⌝ }
+    ensures { λ r. ⌜ r .tries ≡ triesTo (f .pmin) (r .blocks) ⌝ }
 {
     if off_stored(scratch, at, f, c) < best {
         return first_on(scratch, at, f, price, c, best);
     }
-    0
+    Tried {
+        blocks: 0,
+        tries: 1,
+    }
 }
 
 // The best with the interval off.
@@ -50,22 +62,29 @@ fn off_stored(scratch: &[i64], at: usize, f: Figures, c: Cell) -> i64
     scratch[i]
 }
 
-fn first_on(scratch: &[i64], at: usize, f: Figures, price: i64, c: Cell, best: i64) -> usize
-    requires { ⌜ (Interval f price) × (InTable f c) × (mayRun f c ≡ true) × (Readable (now scratch) at (width f)) ⌝ }
-    ensures { λ r. ⌜ r ≡ firstOn f (storedAt f (now (scratch .entry)) at) c price best (f .pmin) (rungs f) ⌝ }
+// The first output on that reaches the best, off having been tried before it.
+fn first_on(scratch: &[i64], at: usize, f: Figures, price: i64, c: Cell, best: i64) -> Tried
+    requires { ⌜ (Interval f price) × (InTable f c) × (Readable (now scratch) at (width f)) ⌝ }
+    requires { ⌜ OnReaches f (storedAt f (now scratch) at) c price best ⌝ }
+    ensures { λ r. ⌜ r .blocks ≡ firstOn f (storedAt f (now (scratch .entry)) at) c price best (f .pmin) (rungs f) ⌝ }
+    ensures { λ r. ⌜ r .tries ≡ triesTo (f .pmin) (r .blocks) ⌝ }
 {
     let pays = steps::start_pays(f, c.state);
     let row = at + on_row(f, c);
     let z = c.blocks;
-    let last = f.pmax;
-    let mut k = f.pmin;
-    while k <= last {
+    let mut above = 0;
+    let mut tries = 1;
+    loop {
+        let k = f.pmin + above;
+        tries += 1;
         if reaches(scratch, row, z, f, price, pays, k, best) {
-            return k;
+            return Tried {
+                blocks: k,
+                tries: tries,
+            };
         }
-        k += 1;
+        above += 1;
     }
-    k
 }
 
 // The row of the cells that an interval on leads to.

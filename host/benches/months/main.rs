@@ -79,7 +79,16 @@ fn cases() -> Vec<(&'static str, Unit)> {
         mwh: Some(5000),
         ..u
     };
+    // 500 outputs on: reading the plan off is the larger part
+    let wide = Unit {
+        block: 1,
+        pmin: 1,
+        pmax: 500,
+        ..u
+    };
     vec![
+        ("nothing limited, 7 outputs", u),
+        ("nothing limited, 500 outputs", wide),
         (
             "starts 30",
             Unit {
@@ -171,7 +180,7 @@ fn main() {
     let prices = month();
     println!("{INTERVALS} intervals, least of {ROUNDS} rounds or more; ns per cell");
     println!(
-        "{:<24}{:>13}{:>9}{:>9}{:>9}{:>9}{:>9}{:>12}",
+        "{:<30}{:>13}{:>9}{:>9}{:>9}{:>9}{:>9}{:>12}",
         "case", "cells", "library", "plain", "ratio", "plan", "floor", "report/plan"
     );
     for (name, unit) in cases() {
@@ -187,7 +196,7 @@ fn main() {
         let times = measure(unit, &prices, &mut scratch);
         let each = |seconds: f64| seconds * 1e9 / cells as f64;
         println!(
-            "{:<24}{:>13}{:>9.2}{:>9.2}{:>9.2}{:>9.2}{:>9.2}{:>12.2}",
+            "{:<30}{:>13}{:>9.2}{:>9.2}{:>9.2}{:>9.2}{:>9.2}{:>12.2}",
             name,
             cells,
             each(times.library),

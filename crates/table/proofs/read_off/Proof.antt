@@ -1,16 +1,18 @@
--- The invariant: whichever quarters are open, t outputs are written, the rest of the plan is that of the cell reached, and layer t stands at `at`.
--- The intervals left fall.
-use mathlib.Core.Path.{_≡_, ap, _∙_}
+-- The invariant: whichever quarters are open, t outputs are written, the rest of the plan is that of the cell reached, layer t stands at `at`, and the
+-- outputs tried number as the t outputs take. The intervals left fall.
+use mathlib.Core.Path.{_≡_, refl, ap, _∙_}
 use mathlib.Core.List.{List}
 use Prim.Native.Nat.{ℕ, suc, _+_, _-_, _*_, _≤_, _<_}
 use native.Mathlib.Nat.{mul-le-mul-right}
 use native.Mathlib.Omega.{arith}
 use lib.IntN.{ℤ, pos, natAbs}
-use lib.ListN.{length, getD, drop, length-drop}
+use lib.ListN.{length, getD, take, drop, length-drop}
 use mir.Syntax.{w64}
 use mir.Val.{toZ, ofZ}
 use Rattle.optimality.specs.Machine.{anywhere}
-use Rattle.commitment.specs.Bounds.{mostPrice, mostIntervals}
+use Rattle.commitment.specs.Bounds.{mostPrice, mostIntervals, mostBlocks}
+use Rattle.commitment.specs.Tries.{triesOver}
+use Rattle.commitment.proofs.Tries.{tries-most}
 use Rattle.integers.proofs.Ranges.{plain-fits}
 use Rattle.optimality.specs.declared.Figures.{Figures}
 use Rattle.optimality.specs.declared.Cell.{Cell}
@@ -19,28 +21,31 @@ use Rattle.geometry.specs.Layers.{storedAt}
 use Rattle.layers.specs.Stretches.{Small}
 use Rattle.geometry.proofs.Places.{index-lt}
 use Rattle.layers.proofs.Filling.{layer-small}
+use Rattle.layers.proofs.Turning.{pmax-most}
 use Rattle.table.proofs.Choosing.{Chosen}
 use Rattle.optimality.specs.Machine.{Quarter}
 use Rattle.optimality.proofs.Quarters.{noQuarter}
 use Rattle.table.specs.Reading.{PlanFrom}
-use Rattle.table.proofs.Plans.{as-many, same-price, priced-over, ReadTurn, read-turn, Written, written-none, written-next, written-all}
+use Rattle.table.proofs.Plans.{as-many, same-price, priced-over, ReadTurn, read-turn}
+use Rattle.table.proofs.Plans.{Written, written-none, written-next, front-all, written-all, tries-next}
 use Rattle.table.proofs.read_off.Statement.{statement}
 use Rattle.table.proofs.read_off.Tie as tie
 
 abbrev Inv-loop : tie.InvT-loop
-Inv-loop scratch w f prices schedule₀ n at₀ c₀ t₀ schedule at c t =
+Inv-loop scratch w f prices schedule₀ n at₀ c₀ tries₀ t₀ schedule at c tries t =
     (t ≤ length prices) × (at ≡ t * width f)
+    × (tries ≡ triesOver (f .block) (f .pmin) (take t schedule)) × (tries ≤ t * (mostBlocks + 1))
     × ((quarters : List Quarter) → PlanFrom f prices scratch c₀ quarters → Written f anywhere quarters c₀ schedule₀ schedule t c)
 
 abbrev μ-loop : tie.MeasureT-loop
-μ-loop scratch w f prices schedule₀ n at₀ c₀ t₀ schedule at c t = length prices - t
+μ-loop scratch w f prices schedule₀ n at₀ c₀ tries₀ t₀ schedule at c tries t = length prices - t
 
 -- by the quarters that the table is known to be filled for
 written : (c : tie.At-loop Inv-loop μ-loop) →
     let o = c .before .before in
     let l = c .loop in
     Written (o .args .f) anywhere (o .pre .1 .0 .0) (o .args .from) (o .args .schedule .now) (l .schedule) (l .t) (l .c)
-written c = let given = c .before .before .pre .1 .0 in c .loop .inv .2 (given .0) (given .1)
+written c = let given = c .before .before .pre .1 .0 in c .loop .inv .4 (given .0) (given .1)
 
 -- what a turn finds
 record Turn (f : Figures) (w : ℕ) (prices cells : List ℤ) (from : Cell) (at t : ℕ) (c : Cell) : Type 0 where
@@ -77,7 +82,7 @@ here c =
       price = o .pre .0 .2 (l .t) lt;
       read = λ quarters p.
           let n = as-many (a .f) (a .prices .now) (a .scratch .now) (a .from) quarters p in
-          let so-far = l .inv .2 quarters p in
+          let so-far = l .inv .4 quarters p in
           rw (next, l .inv .1) (read-turn (a .f) anywhere quarters (a .scratch .now) (l .t) (l .c) (room .sound)
           (priced-over (a .f) (a .prices .now) (a .scratch .now) (a .from) quarters p (o .pre .0 .2))
           (omega (arith, n, room .short)) (p .filled) (omega (arith, n, lt)) (so-far .inside) (so-far .some));
@@ -106,11 +111,11 @@ plans : (c : tie.After-choose Inv-loop μ-loop) →
     let a = at-loop .before .before .args in
     let l = at-loop .loop in
     (quarters : List Quarter) → PlanFrom (a .f) (a .prices .now) (a .scratch .now) (a .from) quarters
-    → Chosen (a .f) anywhere (getD quarters (l .t) noQuarter) (drop (suc (l .t)) quarters) (l .c) (c .choose .result)
+    → Chosen (a .f) anywhere (getD quarters (l .t) noQuarter) (drop (suc (l .t)) quarters) (l .c) (c .choose .result .blocks)
 plans c quarters p =
     let at-loop = c .before .before .before .before .before in
     let a = at-loop .before .before .args in
-    let e = rw (price-is (c .before), best-is (c .before .before)) at (c .choose .ensures) in
+    let e = rw (price-is (c .before), best-is (c .before .before)) at (c .choose .ensures .0) in
     rw (e, ← same-price (a .f) (a .prices .now) (a .scratch .now) (a .from) quarters p (at-loop .loop .t))
     (here (c .before .before .before .before) .read quarters p .choice)
 
@@ -120,7 +125,7 @@ plan-is : (c : tie.After-choose Inv-loop μ-loop) →
     let o = at-loop .before .before in
     let quarters = o .pre .1 .0 .0 in
     let l = at-loop .loop in
-    Chosen (o .args .f) anywhere (getD quarters (l .t) noQuarter) (drop (suc (l .t)) quarters) (l .c) (c .choose .result)
+    Chosen (o .args .f) anywhere (getD quarters (l .t) noQuarter) (drop (suc (l .t)) quarters) (l .c) (c .choose .result .blocks)
 plan-is c = let given = c .before .before .before .before .before .before .before .pre .1 .0 in plans c (given .0) (given .1)
 
 -- the place of the output in the schedule
@@ -131,12 +136,14 @@ loop-holds : tie.Need-loop-holds Inv-loop μ-loop
 loop-holds c =
     let o = c .before in
     let a = o .args in
-    (omega arith, omega arith, λ quarters p. written-none (a .f) anywhere quarters (a .from) (a .schedule .now) (o .pre .1 .1 .0) (p .some))
+    (omega arith, omega arith, refl, omega arith, λ quarters p. written-none (a .f) anywhere quarters (a .from) (a .schedule .now) (o .pre .1 .1 .0) (p .some))
 
 choose-requires : tie.Need-choose-requires Inv-loop μ-loop
 choose-requires c κs =
     let turn = c .before .before .before in
     let o = turn .before .before .before in
+    let a = o .args in
+    let given = o .pre .1 .0 in
     let t = here turn in
     rw (price-is c, best-is (c .before)) (
       (
@@ -144,40 +151,58 @@ choose-requires c κs =
         written (turn .before) .inside,
         record { fits = omega (arith, t .two, o .pre .0 .1); small = t .small },
       ),
-      t .read (o .pre .1 .0 .0) (o .pre .1 .0 .1) .may,
+      rw (same-price (a .f) (a .prices .now) (a .scratch .now) (a .from) (given .0) (given .1) (turn .before .loop .t)) at (t .read (given .0) (given .1) .on),
     )
+
+-- the tries of one output
+one-most : (c : tie.After-choose Inv-loop μ-loop) → c .choose .result .tries ≤ mostBlocks + 1
+one-most c =
+    let o = c .before .before .before .before .before .before .before in
+    let f = o .args .f in
+    let ok = o .pre .0 .0 .sound in
+    omega (arith, c .choose .ensures .1, tries-most (f .pmin) (f .pmax) (c .choose .result .blocks) (plan-is c .most), pmax-most f ok, ok .pmin, ok .pmax)
+
+add-tries : tie.Need-add-tries Inv-loop μ-loop
+add-tries c =
+    let turn = c .before .before .before .before .before in
+    omega (arith, one-most (c .before), turn .before .loop .inv .3, turn .loop-test .taken, turn .before .before .before .pre .0 .0 .short)
 
 mul-schedule : tie.Need-mul-schedule Inv-loop μ-loop
 mul-schedule c =
-    let turn = c .before .before .before .before .before in
+    let turn = c .before .before .before .before .before .before in
     let o = turn .before .before .before in
-    omega (arith, mul-le-mul-right (o .args .f .block) (plan-is (c .before) .most), o .pre .0 .0 .sound .top)
+    omega (arith, mul-le-mul-right (o .args .f .block) (plan-is (c .before .before) .most), o .pre .0 .0 .sound .top)
 
 moved-requires : tie.Need-moved-requires Inv-loop μ-loop
 moved-requires c κs =
-    let at-loop = c .before .before .before .before .before .before in
-    ((at-loop .before .before .pre .0 .0 .sound, written at-loop .inside .state), plan-is (c .before) .allowed)
+    let at-loop = c .before .before .before .before .before .before .before in
+    ((at-loop .before .before .pre .0 .0 .sound, written at-loop .inside .state), plan-is (c .before .before) .allowed)
 
 add-t : tie.Need-add-t Inv-loop μ-loop
 add-t c =
-    let turn = c .before .before .before .before .before .before in
+    let turn = c .before .before .before .before .before .before .before in
     omega (arith, turn .loop-test .taken, turn .before .before .before .pre .0 .0 .short)
 
 loop-again : tie.Need-loop-again Inv-loop μ-loop
 loop-again c =
-    let turn = c .before .before .before .before .before .before in
+    let chosen = c .before .before .before in
+    let turn = chosen .before .before .before .before in
     let a = turn .before .before .before .args in
     let l = turn .before .loop in
     let lt = turn .loop-test .taken in
+    let k = chosen .choose .result .blocks in
     rw (c .moved .ensures) (
       omega (arith, lt),
       omega (arith, here turn .next),
+      tries-next (a .f .block) (a .f .pmin) (l .schedule) (l .t) k (turn .before .before .before .pre .0 .0 .sound .block) (written-in turn)
+          (l .inv .2) (chosen .choose .ensures .1),
+      omega (arith, l .inv .3, one-most chosen),
       λ quarters p.
-          written-next (a .f) anywhere quarters (a .from) (a .schedule .now) (l .schedule) (l .t) (l .c) (c .before .before .choose .result)
+          written-next (a .f) anywhere quarters (a .from) (a .schedule .now) (l .schedule) (l .t) (l .c) k
           (omega (arith, lt, as-many (a .f) (a .prices .now) (a .scratch .now) (a .from) quarters p))
           (written-in turn)
-          (l .inv .2 quarters p)
-          (plans (c .before .before) quarters p),
+          (l .inv .4 quarters p)
+          (plans chosen quarters p),
     )
 
 returns : tie.Need-returns Inv-loop μ-loop
@@ -186,8 +211,12 @@ returns c =
     let l = c .before .loop in
     λ quarters p.
     let n = as-many (a .f) (a .prices .now) (a .scratch .now) (a .from) quarters p in
-    written-all (a .f) quarters (a .from) (a .schedule .now) (l .schedule) (l .t) (l .c) (omega (arith, n, l .inv .0, c .loop-test .left))
-    (l .inv .2 quarters p)
+    let e : l .t ≡ length quarters = omega (arith, n, l .inv .0, c .loop-test .left) in
+    let w = l .inv .4 quarters p in (
+      written-all (a .f) quarters (a .from) (a .schedule .now) (l .schedule) (l .t) (l .c) e w,
+      l .inv .2
+          ∙ ap (triesOver (a .f .block) (a .f .pmin)) (front-all (a .f) quarters (a .from) (a .schedule .now) (l .schedule) (l .t) (l .c) e w),
+    )
 
 pub read-off-spec : {M : Type 1} → statement M
 read-off-spec =
@@ -197,8 +226,8 @@ read-off-spec =
     (λ c. let t = here (c .before) in omega (arith, t .number, t .two, c .index .ensures))
     (λ c. let t = here (c .before) in omega (arith, t .number, t .two, c .index .ensures))
     (λ c. let t = here (c .before .before) in omega (arith, t .two)) (λ c. omega (arith, c .before .before .loop-test .taken))
-    (λ c. omega (arith, c .before .before .loop-test .taken)) choose-requires mul-schedule
-    (λ c. omega (arith, written-in (c .before .before .before .before .before)))
-    (λ c. omega (arith, written-in (c .before .before .before .before .before)))
-    moved-requires add-t (λ c. omega (arith, c .before .before .before .before .before .before .loop-test .taken)) loop-again
+    (λ c. omega (arith, c .before .before .loop-test .taken)) choose-requires add-tries mul-schedule
+    (λ c. omega (arith, written-in (c .before .before .before .before .before .before)))
+    (λ c. omega (arith, written-in (c .before .before .before .before .before .before)))
+    moved-requires add-t (λ c. omega (arith, c .before .before .before .before .before .before .before .loop-test .taken)) loop-again
     (λ c. written (c .before) .same) returns)

@@ -1,5 +1,5 @@
 -- Each return is the clause of `chosen` that the test took.
-use mathlib.Core.Path.{_≡_}
+use mathlib.Core.Path.{_≡_, refl}
 use mathlib.Core.Bool.{Bool}
 use borrow.Author.Needs.{needs}
 use lib.Signed.{ltZ}
@@ -22,7 +22,7 @@ tested c t e = rw (plain-fits (record { sfits = c .off-stored .ok }), c .off-sto
 first-on-requires : tie.Need-first-on-requires
 first-on-requires c κs =
     let o = c .before .before in
-    (rw (plain-fits (o .fits .price)) (o .pre .0 .0), o .pre .0 .1, o .pre .1 (tested (c .before) _ (c .if1 .taken)), o .pre .0 .2)
+    rw (plain-fits (o .fits .price), plain-fits (o .fits .best)) (o .pre .0, o .pre .1 (tested (c .before) _ (c .if1 .taken)))
 
 returns : tie.Need-returns
 unfolding chosen
@@ -32,7 +32,7 @@ returns c =
 
 returns-2 : tie.Need-returns-2
 unfolding chosen
-returns-2 c = simp (tested (c .before) _ (c .if1 .left))
+returns-2 c = (simp (tested (c .before) _ (c .if1 .left)), refl)
 
 pub choose-spec : {M : Type 1} → statement M
 choose-spec = tie.close (tie.spec (λ c κs. search needs) first-on-requires returns returns-2)
