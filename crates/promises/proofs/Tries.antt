@@ -1,17 +1,20 @@
 -- The tries of reading off a plan (specification 23), clause by clause. No call tells them: `planner::tables::read_plan`, which reads a plan off, returns
 -- their sum, `planTries` by its contract.
 use mathlib.Core.Path.{_≡_, sym, ap, _∙_}
+use mathlib.Core.Bool.{_&&_}
 use mathlib.Core.List.{List, [], map}
 use Prim.Native.Nat.{ℕ, _+_, _-_, _*_, _≤_}
 use native.Mathlib.Omega.{arith}
+use borrow.Author.Tests.{leb-true}
 use lib.Dec.{eqb}
 use lib.IntN.{ℤ}
 use lib.ListN.{length, take}
 use Rattle.lists.specs.Every.{every}
 use Rattle.lists.proofs.Conjunctions.{both}
+use Rattle.commitment.specs.declared.Limit.the-variants.{At}
 use Rattle.commitment.specs.declared.UnitRecord.{UnitRecord}
 use Rattle.commitment.specs.Best.{Plan, plan, scheduleOf, best}
-use Rattle.commitment.specs.Keeping.{outputSum}
+use Rattle.commitment.specs.Keeping.{outputSum, keepsStarts, keepsRuns, keepsSpells, keepsHours, keepsMwh, keepsWindow}
 use Rattle.commitment.specs.Ranges.{pricesKept}
 use Rattle.commitment.specs.Rivals.{Rival}
 use Rattle.commitment.specs.Schedule.{isOutput}
@@ -48,6 +51,15 @@ module _ (u : UnitRecord) (prices : List ℤ) where
     -- which is at most one for each output of the unit in each interval, and at most one for each interval and one for each block of output
     pub most : planTries u prices ≤ length prices * (u .generator .pmax - u .generator .pmin + 2)
     pub blocks : planTries u prices * u .generator .block ≤ length prices * u .generator .block + outputSum s
+    -- so many blocks as the limitation of MWh leaves room for
+    pub mwh : (limit : ℕ) → u .limits .mwh ≡ At limit → planTries u prices * u .generator .block ≤ length prices * u .generator .block + 4 * limit
+
+  -- a rival's outputs add up to no more than the limitation of MWh
+  sum-kept : (s : List ℕ) → Rival u prices s → (limit : ℕ) → u .limits .mwh ≡ At limit → outputSum s ≤ 4 * limit
+  sum-kept s own limit e =
+      let first = keepsStarts u s && keepsRuns u s && keepsSpells u s && keepsHours u s in
+      let kept = both first (keepsMwh u s) (both (first && keepsMwh u s) (keepsWindow u s) (own .kept) .0) .1 in
+      leb-true (outputSum s) (4 * limit) (rw e at kept)
 
   of-best : Ranged u → (s : List ℕ) (p : ℤ) → best u prices ≡ plan s p → Rival u prices s → WithTries s
   of-best ok s p is own =
@@ -55,11 +67,14 @@ module _ (u : UnitRecord) (prices : List ℤ) where
       let outputs = both (eqb (length s) (length prices)) (every (isOutput (u .generator)) s) (own .schedule) .1 in
       let sum : planTries u prices ≡ triesOver (u .generator .block) (u .generator .pmin) s =
       ap (λ (b : Plan). triesOver (u .generator .block) (u .generator .pmin) (scheduleOf b)) is in
+      let blocks : planTries u prices * u .generator .block ≤ length prices * u .generator .block + outputSum s =
+      rw (sum, ← long) (tries.tries-by-blocks (u .generator .block) (u .generator .pmin) (ok .pmin) s) in
       record {
         each = plan-with-tries u prices (ok .block) (ok .pmin) s p long is;
         sum = sum;
         most = rw (sum, ← long) (tries.tries-at-most (u .generator) s outputs);
-        blocks = rw (sum, ← long) (tries.tries-by-blocks (u .generator .block) (u .generator .pmin) (ok .pmin) s);
+        blocks = blocks;
+        mwh = λ limit e. omega (arith, blocks, sum-kept s own limit e);
       }
 
   with-tries : (cells : ℕ) (was : List ℕ) (n : ℕ) (p : ℤ) → Given u prices cells was n p → WithTries (take n (scheduleLeft u prices cells was))
