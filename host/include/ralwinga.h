@@ -69,7 +69,7 @@ struct ralwinga_assessment {
 
 struct ralwinga_cells {
     uint64_t number;
-    size_t cells;
+    size_t needed, table;
 };
 
 struct ralwinga_plan {
@@ -116,7 +116,9 @@ struct ralwinga_curve ralwinga_curve(struct ralwinga_curve_inputs inputs, const 
 struct ralwinga_assessment ralwinga_assess(struct ralwinga_unit unit, const int64_t *prices, size_t prices_len,
                                            const uint64_t *schedule, size_t schedule_len);
 
-/* The cells of scratch that a case of so many intervals needs. */
+/* The cells of scratch of a case of so many intervals: `needed`, in two layers, and `table`, in the long table, which is faster to plan in.
+ * A call lent `table` cells or more uses the long table, else two layers, and refuses with 8 where it is lent fewer than `needed`. The cells used are
+ * 0 afterwards and those past them as they were. */
 struct ralwinga_cells ralwinga_cells(struct ralwinga_unit unit, size_t intervals);
 
 /* The best plan into the front of `schedule`. */
@@ -127,7 +129,7 @@ struct ralwinga_plan ralwinga_plan(struct ralwinga_unit unit, const int64_t *pri
 struct ralwinga_valuation ralwinga_value(struct ralwinga_unit unit, const int64_t *prices, size_t prices_len,
                                          int64_t *scratch, size_t scratch_len);
 
-/* Plan and outcomes from one fill of the table. */
+/* Plan and outcomes at once. */
 struct ralwinga_report ralwinga_report(struct ralwinga_unit unit, const int64_t *prices, size_t prices_len, int64_t *scratch,
                                        size_t scratch_len, uint64_t *schedule, size_t schedule_len);
 

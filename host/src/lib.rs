@@ -123,6 +123,16 @@ pub struct Segment {
     pub price: i64,
 }
 
+/// The two sizes of scratch that a case is planned in. Scratch between them is used as two layers; the cells used are 0 afterwards, those past them
+/// as they were.
+#[derive(Clone, Copy, Debug, PartialEq, Eq)]
+pub struct Cells {
+    /// Two layers; fewer are refused.
+    pub needed: usize,
+    /// The long table, which is faster to plan in.
+    pub table: usize,
+}
+
 /// What valuing a limitation comes to.
 #[derive(Clone, Copy, Debug, PartialEq, Eq)]
 pub enum Outcome {
@@ -369,11 +379,17 @@ pub fn assess(unit: Unit, prices: &[i64], schedule: &[u64]) -> Result<i64, Refus
     unless_refused(answer.number, answer.profit)
 }
 
-/// The cells of scratch that a case of so many intervals needs.
-pub fn cells_needed(unit: Unit, intervals: usize) -> Result<usize, Refusal> {
+/// The cells of scratch of a case of so many intervals.
+pub fn cells(unit: Unit, intervals: usize) -> Result<Cells, Refusal> {
     // Sound: only numbers go over.
     let answer = unsafe { ffi::ralwinga_cells(unit.numbers(), intervals) };
-    unless_refused(answer.number, answer.cells)
+    unless_refused(
+        answer.number,
+        Cells {
+            needed: answer.needed,
+            table: answer.table,
+        },
+    )
 }
 
 /// The best plan into the front of `schedule`: its length and profit.
@@ -413,7 +429,7 @@ pub fn value(unit: Unit, prices: &[i64], scratch: &mut [i64]) -> Result<Outcomes
     unless_refused(answer.number, Outcomes::from_numbers(answer.outcomes))
 }
 
-/// Plan and outcomes from one fill of the table.
+/// Plan and outcomes at once.
 pub fn report_into(
     unit: Unit,
     prices: &[i64],

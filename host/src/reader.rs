@@ -5,7 +5,7 @@
 //! here is proved.
 
 use crate::text::{leading_table, two_tables, Cell, Fault, Table, Value};
-use crate::{assess, cells_needed, curve, figures, read_into};
+use crate::{assess, cells, curve, figures, read_into};
 use crate::{Case, CostFigures, CostInputs, CurveInputs, Refusal, Segment, Unit, Window};
 use std::array;
 
@@ -164,14 +164,14 @@ pub fn read_curve(text: &[u8]) -> Result<Vec<Segment>, Fault> {
 fn out_of_case(row: &UnitRow, price_rows: &[[Cell; 1]]) -> Fault {
     let unit = unit_of(in_order(), None);
     first_out(UNIT_NAMES, in_order(), &[row.unit], |values| {
-        cells_needed(unit_of(values, None), 1).err()
+        cells(unit_of(values, None), 1).err()
     })
     .or_else(|| {
         first_out(
             WINDOW_NAMES,
             WINDOW_IN_ORDER,
             row.window.as_slice(),
-            |values| cells_needed(unit_of(in_order(), Some(values)), 1).err(),
+            |values| cells(unit_of(in_order(), Some(values)), 1).err(),
         )
     })
     .or_else(|| {

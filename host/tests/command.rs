@@ -147,9 +147,50 @@ fn memory_is_said_and_capped() {
     let answer = answer_on(&["--cells", "588", "-"], C1.as_bytes());
     assert!(answer.stdout.starts_with(b"interval,mw\n1,0\n2,20\n"));
     assert_eq!(answer.stderr, b"ralwinga: 588 cells, 4.6 KiB of scratch\n");
-    let answer = answer_on(&["--cells", "587", "-"], C1.as_bytes());
-    stops(&answer, 1, "refused,8\n", "needs 588 cells");
-    stops(&answer, 1, "refused,8\n", "--cells allows 587; it fits with 588 cells, or the first 5 of the 6 prices, or starts none, or hours none");
+    let listing = answer.stdout;
+    for cells in ["587", "168"] {
+        let answer = answer_on(&["--cells", cells, "-"], C1.as_bytes());
+        assert_eq!(answer.stdout, listing);
+        let said = "ralwinga: 168 cells, 1.3 KiB of scratch: two layers, since the long table of 588 cells does not fit\n";
+        assert_eq!(String::from_utf8_lossy(&answer.stderr), said);
+    }
+    let answer = answer_on(&["--cells", "167", "-"], C1.as_bytes());
+    stops(&answer, 1, "refused,8\n", "needs 168 cells");
+    stops(&answer, 1, "refused,8\n", "--cells allows 167; it fits with 168 cells, or the first 5 of the 6 prices, or starts none, or hours none");
+}
+
+/// Where the system does not give what it says is free, the case is planned in two layers too.
+#[test]
+fn memory_that_is_not_given() {
+    let folder = Folder::new("not-given");
+    let mut text = C1.lines().take(4).collect::<Vec<_>>().join("\n") + "\n";
+    // 1,152,192 cells to a layer: 8.8 MiB, and 114 MiB the 13 of the long table
+    text = text.replacen("10,1,2,2,2,0,2,", "1,1,500,96,96,0,96,", 1);
+    text = text.replacen(",2,2,none", ",none,none,5000", 1);
+    text.push_str(&"9000\n".repeat(12));
+    let case = folder.file("wide.csv", &text);
+    let expected = ralwinga([&case]).output().expect("runs");
+    assert_eq!(expected.status.code(), Some(0));
+    let limited = |kib: u32| {
+        let line = format!("ulimit -v {kib}; exec \"$0\" \"$1\"");
+        let mut shell = Command::new("sh");
+        shell.args(["-c", &line, env!("CARGO_BIN_EXE_ralwinga")]);
+        shell.arg(&case).output().expect("a shell")
+    };
+    let answer = limited(100_000);
+    assert_eq!(answer.stdout, expected.stdout);
+    let said = String::from_utf8_lossy(&answer.stderr).to_string();
+    assert_eq!(said.lines().count(), 2, "{said}");
+    assert!(said.ends_with("wide.csv: 2304384 cells, 17.6 MiB of scratch: two layers, since the long table of 14978496 cells does not fit\n"), "{said}");
+    let answer = limited(20_000);
+    assert_eq!(answer.stdout, b"refused,8\n");
+    let said = String::from_utf8_lossy(&answer.stderr).to_string();
+    assert!(
+        said.contains(
+            "; the system gives at most 2304383; it fits with 2304384 cells, or the first "
+        ),
+        "{said}"
+    );
 }
 
 /// A month is longer than the proved reader takes.

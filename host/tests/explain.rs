@@ -2,7 +2,7 @@
 
 mod support;
 
-use ralwinga::{cells_needed, plan_into, Outcome, Unit};
+use ralwinga::{cells, plan_into, Outcome, Unit};
 use support::{
     answer_on, calendar, dated, long_case, month, paper, recursion, small_case, text_of,
 };
@@ -246,8 +246,8 @@ fn check_window(head: &[&str], unit: &Unit) {
 
 /// The library's profit and plan, from one call to the next.
 fn by_the_library(unit: &Unit, prices: &[i64]) -> Option<(i64, Vec<u64>)> {
-    let cells = cells_needed(*unit, prices.len()).expect("a case in order");
-    let (mut scratch, mut schedule) = (vec![0; cells], vec![0; prices.len()]);
+    let cells = cells(*unit, prices.len()).expect("a case in order");
+    let (mut scratch, mut schedule) = (vec![0; cells.table], vec![0; prices.len()]);
     let (_, profit) = plan_into(*unit, prices, &mut scratch, &mut schedule).ok()?;
     Some((profit, schedule))
 }

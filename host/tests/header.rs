@@ -2,7 +2,7 @@
 
 mod support;
 
-use ralwinga::{Case, Unit, Window};
+use ralwinga::{Case, Cells, Unit, Window};
 use std::path::{Path, PathBuf};
 use std::process::Command;
 use support::points::{any_points, text_of_points};
@@ -41,8 +41,11 @@ fn a_host_in_c() {
             continue;
         }
         let expected = answer_on(&["-"], &text);
-        let answer = run_on(Command::new(&program), &text);
-        assert_eq!(answer.stdout, expected.stdout);
+        for words in [&[][..], &["in two layers"]] {
+            let mut host = Command::new(&program);
+            host.args(words);
+            assert_eq!(run_on(host, &text).stdout, expected.stdout);
+        }
     }
 }
 
@@ -117,9 +120,9 @@ fn numbers_of(four: [u64; 4]) -> String {
         let (report, _) = paper::reported(&unit, &prices)?;
         Ok((paper::cells(&unit, prices.len()), report))
     });
-    let (number, cells, count, profit) = match judged {
-        Ok((cells, report)) => (0, cells, report.count, report.profit),
-        Err(number) => (number, 0, 0, 0),
+    let (number, needed, table, count, profit) = match judged {
+        Ok((Cells { needed, table }, report)) => (0, needed, table, report.count, report.profit),
+        Err(number) => (number, 0, 0, 0, 0),
     };
     // by the first hour a day has not come to a change of time; interval 6 is in the second
     let on_date = |number| match number {
@@ -138,7 +141,7 @@ fn numbers_of(four: [u64; 4]) -> String {
     let (refused, hour) = on_date(paper::judge_case(&dated, &prices).err().unwrap_or(0));
     let listed = if word > FULL && word != NONE { 3 } else { 0 };
     format!(
-        "{number},{cells},{number},{number},{count},{profit},{number},{number},{profit},{refused},{hour},{listed}"
+        "{number},{needed},{table},{number},{number},{count},{profit},{number},{number},{profit},{refused},{hour},{listed}"
     )
 }
 
@@ -167,8 +170,8 @@ fn a_window_in_c() {
         }
     }
     // none of the four, and one of them
-    assert!(numbers_of([NONE; 4]).starts_with("0,588,0,0,6,400000,"));
-    assert!(numbers_of([NONE, 2, 3, 1]).starts_with("3,0,3,3,0,0,"));
+    assert!(numbers_of([NONE; 4]).starts_with("0,168,588,0,0,6,400000,"));
+    assert!(numbers_of([NONE, 2, 3, 1]).starts_with("3,0,0,3,3,0,0,"));
 }
 
 #[test]

@@ -2,7 +2,7 @@
 
 mod support;
 
-use ralwinga::{cells_needed, report_into, Case, Report};
+use ralwinga::{cells, report_into, Case, Report};
 use std::ffi::OsStr;
 use std::os::unix::ffi::OsStrExt;
 use std::os::unix::fs::PermissionsExt;
@@ -17,8 +17,8 @@ const HEAD: &str = "file,number,profit,starts,hours,mwh\n";
 /// The number, or the report by the library, from one call to the next.
 fn by_the_library(case: &Case) -> Result<Report, u64> {
     let Case { unit, prices } = case;
-    let answer = cells_needed(*unit, prices.len()).and_then(|cells| {
-        let (mut scratch, mut schedule) = (vec![0; cells], vec![0; prices.len()]);
+    let answer = cells(*unit, prices.len()).and_then(|cells| {
+        let (mut scratch, mut schedule) = (vec![0; cells.table], vec![0; prices.len()]);
         report_into(*unit, prices, &mut scratch, &mut schedule)
     });
     answer.map_err(|refusal| refusal.number())
@@ -61,7 +61,7 @@ fn five_hundred_files() {
         refused += usize::from(answer.is_err());
         expected.push_str(&row(file.to_str().expect("text"), &answer));
         files.push(file);
-        cases.push((text, case.unit, enumerated));
+        cases.push((text, case, enumerated));
     }
     assert!(refused > 20 && refused < FILES - 20, "{refused} refusals");
     for jobs in [&[][..], &["--jobs", "1"], &["--jobs", "7"]] {
@@ -72,12 +72,14 @@ fn five_hundred_files() {
         // how much memory, and a line for each that is refused
         assert_eq!(text(&output.stderr).lines().count(), 1 + refused);
     }
-    for (i, (text, unit, enumerated)) in cases.iter().enumerate() {
+    for (i, (text, Case { unit, prices }, enumerated)) in cases.iter().enumerate() {
         let listing = folder.read(&format!("plans/of a day/unit{i}.listing.csv"));
         assert_eq!(listing, paper::printed(unit, enumerated), "{text}");
         if i % 10 == 0 && text.len() <= 12_288 && !listing.contains("refused,") {
             let program = run_on(proved_program(), text.as_bytes()).stdout;
-            assert!(program == listing.as_bytes() || program == b"refused,8\n");
+            let fits = paper::used(unit, prices.len(), 4000).is_ok();
+            let expected = if fits { &listing } else { "refused,8\n" };
+            assert_eq!(program, expected.as_bytes(), "{text}");
         }
     }
 }

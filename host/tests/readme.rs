@@ -4,7 +4,7 @@ mod support;
 
 use ralwinga::amounts::grouped;
 use ralwinga::reader::read_case;
-use ralwinga::{cells_needed, Unit};
+use ralwinga::{cells, Unit};
 use std::process::Command;
 use support::{answer_on, proved_program, ralwinga, run_on, Folder};
 
@@ -133,6 +133,17 @@ fn the_line_for_an_array_of_jobs() {
     assert!(!folder.path("plans/north.listing.csv").exists());
 }
 
+/// Cells and their memory, as the table has them.
+fn sized(cells: usize) -> String {
+    let (bytes, unit) = match 8 * cells {
+        small if small < 1 << 20 => (1 << 10, "KiB"),
+        _ => (1 << 20, "MiB"),
+    };
+    let tenths = (cells as f64 * 80.0 / f64::from(bytes)).round() as u64;
+    let memory = format!("{}.{} {unit}", grouped(tenths / 10), tenths % 10);
+    format!("= {} | {memory} |", grouped(cells as u64))
+}
+
 /// The months of the table of memory.
 #[test]
 fn the_cells_of_a_month() {
@@ -142,6 +153,8 @@ fn the_cells_of_a_month() {
         (None, Some(200), None),
         (None, None, Some(5000)),
         (Some(30), Some(200), None),
+        (Some(30), None, Some(5000)),
+        (None, Some(200), Some(5000)),
     ] {
         let limited = Unit {
             block: 5,
@@ -152,10 +165,31 @@ fn the_cells_of_a_month() {
             mwh,
             ..unit
         };
-        let cells = cells_needed(limited, 2976).expect("a case in order") as u64;
-        let tenths = (cells as f64 * 80.0 / 1024.0 / 1024.0).round() as u64;
-        let mib = format!("{}.{} MiB", grouped(tenths / 10), tenths % 10);
-        let row = format!("= {} | {mib} |", grouped(cells));
-        assert!(README.contains(&row), "{row}");
+        let sizes = cells(limited, 2976).expect("a case in order");
+        let (layers, table) = (sized(sizes.needed), sized(sizes.table));
+        let row = |line: &&str| line.contains(&layers) && line.ends_with(&table);
+        assert_eq!(README.lines().filter(row).count(), 1, "{layers} {table}");
+    }
+}
+
+/// The sizes of the case, and of days in the program's cells.
+#[test]
+fn the_cells_of_the_case_and_of_a_day() {
+    let unit = read_case(case().as_bytes()).expect("a case in order").unit;
+    let of_a_day = |starts, hours| Unit {
+        starts,
+        hours,
+        ..unit
+    };
+    for (unit, intervals, said) in [
+        (unit, 6, ["needs 168 cells", "long table has 588"]),
+        (of_a_day(Some(2), None), 96, ["= 24 cells", "= 1,164"]),
+        (of_a_day(Some(4), Some(12)), 96, ["= 1,960", "= 95,060"]),
+    ] {
+        let sizes = cells(unit, intervals).expect("a case in order");
+        for (size, said) in [sizes.needed, sizes.table].into_iter().zip(said) {
+            assert!(said.contains(&grouped(size as u64)), "{size} as {said}");
+            assert!(README.contains(said), "{said}");
+        }
     }
 }

@@ -12,10 +12,11 @@ fn long_month() -> String {
 }
 
 /// What the command writes to a terminal.
-fn on_a_terminal(files: &[PathBuf]) -> String {
+fn on_a_terminal(words: &str, files: &[PathBuf]) -> String {
     let command = env!("CARGO_BIN_EXE_ralwinga");
     let files = files.iter().map(|file| format!("'{}'", file.display()));
-    let line = format!("'{command}' plan {}", files.collect::<Vec<_>>().join(" "));
+    let files = files.collect::<Vec<_>>().join(" ");
+    let line = format!("'{command}' plan {words} {files}");
     let answer = Command::new("script")
         .args(["-qec", &line, "/dev/null"])
         .output()
@@ -28,7 +29,7 @@ fn on_a_terminal(files: &[PathBuf]) -> String {
 fn a_long_case() {
     let folder = Folder::new("terminal");
     let file = folder.file("month.csv", long_month());
-    let shown = on_a_terminal(std::slice::from_ref(&file));
+    let shown = on_a_terminal("", std::slice::from_ref(&file));
     assert!(shown.contains("00:00:00 ["), "{shown}");
     assert!(shown.contains("%, about "), "{shown}");
     assert!(shown.contains("\nprofit,"), "{shown}");
@@ -40,13 +41,30 @@ fn a_long_case() {
     );
 }
 
+/// A month with four hours, whose two layers are worked out for about a second: it is not shown as done when each layer was so once.
+#[test]
+fn a_case_in_two_layers() {
+    let folder = Folder::new("terminal-layers");
+    let text = month().replacen(",5000,2,2,none", ",5000,2,4,none", 1);
+    let file = folder.file("month.csv", text);
+    let shown = on_a_terminal("--cells 1000", std::slice::from_ref(&file));
+    assert!(shown.contains(": two layers, since "), "{shown}");
+    assert!(shown.contains("%, about "), "{shown}");
+    let shares: Vec<u32> = shown
+        .split("%, about ")
+        .filter_map(|before| before.rsplit("] ").next()?.parse().ok())
+        .collect();
+    assert!(shares.len() > 2 && shares[0] < 50, "{shares:?}");
+    assert!(shown.contains("\nprofit,"), "{shown}");
+}
+
 #[test]
 fn many_cases() {
     let folder = Folder::new("terminals");
     let files: Vec<PathBuf> = (0..3)
         .map(|i| folder.file(&format!("month{i}.csv"), long_month()))
         .collect();
-    let shown = on_a_terminal(&files);
+    let shown = on_a_terminal("", &files);
     assert!(shown.contains("0 of 3 cases done"), "{shown}");
     // the bar is drawn now and then: a count that lasts a moment may not be seen
     let counted = |done: &str| shown.contains(&format!("{done} of 3 cases done"));

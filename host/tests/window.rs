@@ -2,9 +2,7 @@
 
 mod support;
 
-use ralwinga::{
-    assess, cells_needed, listing, plan_into, refusal_line, report_into, write_listing,
-};
+use ralwinga::{assess, cells, listing, plan_into, refusal_line, report_into, write_listing};
 use ralwinga::{Case, Outcome, Outcomes, Refusal, Report, Unit, Window};
 use support::calendar::{changes, days_after, Date};
 use support::{answer_on, c1, dated, paper, proved_program, ralwinga, recursion, run_on};
@@ -22,8 +20,8 @@ fn within(unit: Unit, (year, month, day): Date, word: u64) -> Unit {
 
 /// The report and the plan by the library, or the number.
 fn reported(unit: Unit, prices: &[i64]) -> Result<(Report, Vec<u64>), u64> {
-    let answer = cells_needed(unit, prices.len()).and_then(|cells| {
-        let (mut scratch, mut schedule) = (vec![0; cells], vec![0; prices.len()]);
+    let answer = cells(unit, prices.len()).and_then(|cells| {
+        let (mut scratch, mut schedule) = (vec![0; cells.table], vec![0; prices.len()]);
         let report = report_into(unit, prices, &mut scratch, &mut schedule)?;
         Ok((report, schedule))
     });

@@ -15,7 +15,7 @@ use Rattle.commitment.specs.declared.Permit.the-variants.{AnyHour, Within}
 use Rattle.commitment.specs.declared.UnitRecord.{UnitRecord}
 use Rattle.commitment.specs.Best.{best}
 use Rattle.commitment.specs.Causes.{numberOf, Check, firstOf}
-use Rattle.commitment.specs.Cells.{cellsNeeded}
+use Rattle.commitment.specs.Cells.{cellsUsed}
 use Rattle.commitment.specs.Valuing.{outcomesOf}
 use Rattle.casefile.specs.Answers.{pricesLeft}
 use Rattle.casefile.specs.Reading.{unitIn, pricesIn, writtenChecks}
@@ -112,7 +112,7 @@ printed text lent = linesFor (allFound text lent) (serves (unitIn text .permit) 
 unfoldable pub answered : List ℕ → Lent → Answered
 answered text lent = answeredIn (reportedNumber (reportOn text lent)) (printed text lent) (lent .bytes)
 
--- ---- the slices: as they were where the text is refused before the work, prices read and needed cells 0 after it, the plan in front of the schedule slice
+-- ---- the slices: as they were where the text is refused before the work, prices read and the cells used 0 after it, the plan in front of the schedule slice
 
 abbrev pub pricesAfter : List ℕ → Lent → List ℤ → List ℤ
 pricesAfter text lent was = pricesLeft (lentFound text lent) (pricesIn text) was
@@ -121,4 +121,4 @@ abbrev pub scheduleAnswered : List ℕ → Lent → List ℕ → List ℕ
 scheduleAnswered text lent was = scheduleAfter (allFound text lent) (best (unitIn text) (pricesIn text)) was
 
 abbrev pub scratchAnswered : List ℕ → Lent → List ℤ → List ℤ
-scratchAnswered text lent was = scratchAfter (lentFound text lent) (cellsNeeded (unitIn text) (length (pricesIn text))) was
+scratchAnswered text lent was = scratchAfter (lentFound text lent) (cellsUsed (unitIn text) (length (pricesIn text)) (length was)) was

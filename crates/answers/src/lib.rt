@@ -10,7 +10,7 @@ ghost use mathlib.Core.Path.{_≡_};
 ghost use lib.ListN.{length};
 ghost use Rattle.commitment.specs.declared.Checked.the-variants.{Passed};
 ghost use Rattle.commitment.specs.Causes.{numberOf};
-ghost use Rattle.commitment.specs.Cells.{cellsNeeded};
+ghost use Rattle.commitment.specs.Cells.{cellsUsed};
 ghost use Rattle.casefile.specs.Answers.{pricesLeft};
 ghost use Rattle.casefile.specs.Reading.{unitIn, pricesIn};
 ghost use Rattle.listing.specs.Listing.{refusal, bufferAfter};
@@ -154,7 +154,8 @@ fn report(
         ≡ scheduleAnswered (now (text .entry)) (lengths (now (prices .entry)) (now (scratch .entry)) (now (schedule .entry)) (now (out .entry)))
         (now (schedule .entry)) ⌝ }
     ensures { λ _. ⌜ now (scratch .exit)
-        ≡ scratchAfter Passed (cellsNeeded (unitIn (now (text .entry))) (length (pricesIn (now (text .entry))))) (now (scratch .entry)) ⌝ }
+        ≡ scratchAfter Passed (cellsUsed (unitIn (now (text .entry))) (length (pricesIn (now (text .entry)))) (length (now (scratch .entry))))
+        (now (scratch .entry)) ⌝ }
 {
     let unit = casefile::fields::unit_in(text);
     let count = casefile::pricing::prices_counted(text);

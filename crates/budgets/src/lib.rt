@@ -1,4 +1,4 @@
-// From the record of a unit to what the table counts in: figures and budgets, the opening cell, the cells needed.
+// From the record of a unit to what the table counts in: figures and budgets, the opening cell, the cells of two layers and of the long table.
 
 use commitment::Generator;
 use commitment::Limit;
@@ -8,9 +8,9 @@ use optimality::Cell;
 use optimality::Figures;
 ghost use mathlib.Core.Path.{_≡_};
 ghost use mathlib.Core.Bool.{true};
-ghost use Prim.Native.Nat.{_≤_};
+ghost use Prim.Native.Nat.{_+_, _*_, _≤_};
 ghost use Rattle.commitment.specs.Bounds.{mostMwh, mostIntervals};
-ghost use Rattle.commitment.specs.Cells.{inCounts, mostCounts, cellsNeeded};
+ghost use Rattle.commitment.specs.Cells.{inCounts, mostCounts, layerCells, cellsNeeded, cellsLong};
 ghost use Rattle.commitment.specs.Cells as cells;
 ghost use Rattle.commitment.specs.Limits.{limitKept};
 ghost use Rattle.commitment.specs.Ranges.{generatorKept, rangesKept, InOrder};
@@ -134,10 +134,26 @@ pub fn lowered(figure: u64) -> u64
     9 * figure / 10
 }
 
-// The cells of scratch that a case of n intervals needs.
+// The cells of scratch that a case of n intervals needs: two layers.
 pub fn cells_needed(unit: UnitRecord, n: usize) -> usize
     requires { ⌜ InOrder unit n ⌝ }
     ensures { λ r. ⌜ r ≡ cellsNeeded unit n ⌝ }
 {
-    geometry::table_cells(figures_of(unit, n), n)
+    cells_over(unit, n, 1)
+}
+
+// The cells of its long table.
+pub fn cells_long(unit: UnitRecord, n: usize) -> usize
+    requires { ⌜ InOrder unit n ⌝ }
+    ensures { λ r. ⌜ r ≡ cellsLong unit n ⌝ }
+{
+    cells_over(unit, n, n)
+}
+
+// The layers of a case of n intervals, for so many of them.
+fn cells_over(unit: UnitRecord, n: usize, intervals: usize) -> usize
+    requires { ⌜ (InOrder unit n) × (intervals ≤ mostIntervals) ⌝ }
+    ensures { λ r. ⌜ r ≡ (intervals + 1) * layerCells unit n ⌝ }
+{
+    geometry::table_cells(figures_of(unit, n), intervals)
 }

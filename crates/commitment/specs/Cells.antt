@@ -1,5 +1,7 @@
--- The cells of scratch that a case of n intervals needs (specification 14).
+-- The cells of scratch that a case of n intervals needs, and those that it uses (specification 14).
+use mathlib.Core.Bool.{cond}
 use Prim.Native.Nat.{ℕ, _+_, _*_, _/_, min}
+use lib.Dec.{leb}
 use Rattle.commitment.specs.declared.Limit.{Limit}
 use Rattle.commitment.specs.declared.Limit.the-variants.{None, At}
 use Rattle.commitment.specs.declared.Limitation.{Limitation}
@@ -34,6 +36,14 @@ abbrev pub layerCells : UnitRecord → ℕ → ℕ
 layerCells u n =
     (u .generator .mot + u .generator .mdt) * (countFor u n Starts + 1) * (countFor u n Hours + 1) * (countFor u n Mwh + 1)
 
--- (n+1) × (mot+mdt) × (a+1) × (b+1) × (c+1)
+-- two layers: 2 × (mot+mdt) × (a+1) × (b+1) × (c+1)
 abbrev pub cellsNeeded : UnitRecord → ℕ → ℕ
-cellsNeeded u n = (n + 1) * layerCells u n
+cellsNeeded u n = 2 * layerCells u n
+
+-- the long table, a layer for each interval and one more: (n+1) × (mot+mdt) × (a+1) × (b+1) × (c+1)
+abbrev pub cellsLong : UnitRecord → ℕ → ℕ
+cellsLong u n = (n + 1) * layerCells u n
+
+-- of a scratch of so many cells the long table is used where it fits, else two layers
+abbrev pub cellsUsed : UnitRecord → ℕ → ℕ → ℕ
+cellsUsed u n lent = cond (leb (cellsLong u n) lent) (cellsLong u n) (cellsNeeded u n)

@@ -67,11 +67,11 @@ reportNumbers answer =
 abbrev pub clockNumbers : ClockRead → ClockNumbers
 clockNumbers answer = record { number = clockNumber answer; hour = hourIn answer }
 
--- ---- the cells that a case of so many intervals needs, where its check passes
+-- ---- the cells that a case of so many intervals needs, and those of its long table, where its check passes
 
-abbrev pub cellsNumbers : Checked → ℕ → CellsNumbers
-cellsNumbers Passed needed = record { number = 0; cells = needed }
-cellsNumbers (Refused cause) needed = record { number = numberOf cause; cells = 0 }
+abbrev pub cellsNumbers : Checked → ℕ → ℕ → CellsNumbers
+cellsNumbers Passed needed long = record { number = 0; needed = needed; table = long }
+cellsNumbers (Refused cause) needed long = record { number = numberOf cause; needed = 0; table = 0 }
 
 -- ---- a text written into a buffer
 

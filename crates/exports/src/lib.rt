@@ -23,7 +23,7 @@ use numbers::WrittenNumbers;
 ghost use mathlib.Core.Path.{_≡_};
 ghost use lib.ListN.{length};
 ghost use mathlib.Core.Bool.{true};
-ghost use Rattle.commitment.specs.Cells.{cellsNeeded};
+ghost use Rattle.commitment.specs.Cells.{cellsNeeded, cellsLong};
 ghost use Rattle.calendar.specs.Dates.{date};
 ghost use Rattle.commitment.specs.Ranges.{caseChecked};
 ghost use Rattle.commitment.specs.Windows.{clockHour};
@@ -90,20 +90,23 @@ pub extern "C" fn ralwinga_assess(
     numbers::of_assessment(assessment::assess(numbers::record_of(unit), prices, schedule))
 }
 
-// The cells that a case of so many intervals needs; or 3, 4, 12 or 5. Its prices are not judged.
+// The cells of two layers, which a case of so many intervals needs, and of its long table; or 3, 4, 12 or 5. Its prices are not judged.
 #[no_mangle]
 pub extern "C" fn ralwinga_cells(unit: UnitNumbers, intervals: usize) -> CellsNumbers
-    ensures { λ r. ⌜ r ≡ cellsNumbers (caseChecked (recordOf unit) true intervals) (cellsNeeded (recordOf unit) intervals) ⌝ }
+    ensures { λ r. ⌜ r
+        ≡ cellsNumbers (caseChecked (recordOf unit) true intervals) (cellsNeeded (recordOf unit) intervals) (cellsLong (recordOf unit) intervals) ⌝ }
 {
     let record = numbers::record_of(unit);
     match commitment::check_case(record, true, intervals) {
         Checked::Passed => CellsNumbers {
             number: 0,
-            cells: budgets::cells_needed(record, intervals),
+            needed: budgets::cells_needed(record, intervals),
+            table: budgets::cells_long(record, intervals),
         },
         Checked::Refused(cause) => CellsNumbers {
             number: commitment::number_of(cause),
-            cells: 0,
+            needed: 0,
+            table: 0,
         },
     }
 }

@@ -95,7 +95,8 @@ pub struct AssessNumbers {
 #[repr(C)]
 pub struct CellsNumbers {
     pub number: u64,
-    pub cells: usize,
+    pub needed: usize,
+    pub table: usize,
 }
 
 #[repr(C)]

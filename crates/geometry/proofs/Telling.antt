@@ -17,7 +17,7 @@ use Rattle.optimality.specs.declared.Cell.{Cell}
 use Rattle.optimality.specs.Machine.{Quarter}
 use Rattle.optimality.specs.Cells.{InTable, valueAt}
 use Rattle.geometry.specs.Geometry.{width, index}
-use Rattle.geometry.specs.Layers.{halfway, told, Holds, inFront, Filled}
+use Rattle.geometry.specs.Layers.{halfway, told, Holds, inFront, Layer, Filled}
 use Rattle.geometry.proofs.Holding.{above-infeasible}
 
 up-halfway : up halfway ≡ 0
@@ -33,12 +33,16 @@ told-is n Nothing a short h = rw (lt-ltZ a halfway (omega (zarith, above-infeasi
 told-is n (Profit p) a short h =
     rw (le-ltZ a halfway (omega (zarith, within-abs p, h .0, h .1, up-halfway, dn-halfway))) (ap Profit (h .0))
 
--- a cell of the first layer of a filled table tells its best profit
-pub first-told : (f : Figures) (ends : Cell → BestProfit) (quarters : List Quarter) (cells : List ℤ) (c : Cell)
-    → Filled f ends quarters cells → length quarters ≤ mostIntervals
+-- a cell of a layer at the front tells its best profit
+pub front-told : (f : Figures) (ends : Cell → BestProfit) (quarters : List Quarter) (cells : List ℤ) (c : Cell)
+    → Layer f ends quarters (inFront f cells) → length quarters ≤ mostIntervals
     → InTable f c
     → told (inFront f cells c) ≡ valueAt f ends quarters c
-first-told f ends quarters cells c filled short inside =
-    let h : Holds (length quarters) (valueAt f ends quarters c) (inFront f cells c) =
-    rw (zero-mul (width f), zero-add (index f c)) at (filled .layers 0 (omega arith) .holds c inside) in
-    told-is (length quarters) (valueAt f ends quarters c) (inFront f cells c) short h
+front-told f ends quarters cells c layer short inside =
+    told-is (length quarters) (valueAt f ends quarters c) (inFront f cells c) short (layer .holds c inside)
+
+-- as the first layer of a filled table is
+pub first-layer : (f : Figures) (ends : Cell → BestProfit) (quarters : List Quarter) (cells : List ℤ)
+    → Filled f ends quarters cells → Layer f ends quarters (inFront f cells)
+first-layer f ends quarters cells filled =
+    record { holds = λ c inside. rw (zero-mul (width f), zero-add (index f c)) at (filled .layers 0 (omega arith) .holds c inside) }

@@ -16,12 +16,13 @@ use Rattle.commitment.specs.declared.BestProfit.{BestProfit}
 use Rattle.optimality.specs.Machine.{anywhere, Quarter}
 use Rattle.commitment.specs.Bounds.{mostPrice, mostIntervals}
 use Rattle.optimality.specs.declared.Figures.{Figures}
-use Rattle.optimality.specs.Cells.{Sound, valueAt}
+use Rattle.optimality.specs.Cells.{Sound, InTable, valueAt}
 use Rattle.optimality.proofs.Turns.{value-end}
 use Rattle.optimality.proofs.Quarters.{noQuarter}
 use Rattle.geometry.specs.Geometry.{width, index}
 use Rattle.geometry.specs.Layers.{Holds, Layer, storedAt, Filled}
 use Rattle.layers.specs.Stretches.{Small, LayerMade}
+use Rattle.layers.specs.Turns.{quarterStored}
 use Rattle.geometry.proofs.Places.{index-lt, numbered}
 use Rattle.layers.proofs.Stretches.{putIn, put-inside, same-from}
 use Rattle.geometry.proofs.Holding.{holds-small}
@@ -38,6 +39,17 @@ layer-small f ends quarters cells at short layer i h =
     let n = numbered f i h in
     subst (λ (j : ℕ). natAbs (getD cells (at + j) (pos 0)) ≤ 2 ^ 62) (n .is)
     (holds-small (length quarters) (valueAt f ends quarters (n .of)) (storedAt f cells at (n .of)) short (layer .holds (n .of) (n .inside)))
+
+-- a layer whose every number is made from a layer holds the values one interval earlier
+pub layer-earlier : (f : Figures) → Sound f → (ends : Cell → BestProfit) (q : Quarter) → natAbs (q .price) ≤ mostPrice → (rest : List Quarter)
+    → length rest < mostIntervals
+    → (stored now : Cell → ℤ) → Layer f ends rest stored → ((c : Cell) → InTable f c → now c ≡ quarterStored f stored c q) → Layer f ends (q ∷ rest) now
+layer-earlier f ok ends q priced rest few stored now next made =
+    record {
+      holds = λ c h.
+          subst (λ (v : ℤ). Holds (suc (length rest)) (valueAt f ends (q ∷ rest) c) v) (sym (made c h))
+          (cell-holds f ok (q .price) priced ends rest few stored next c h (q .opens));
+    }
 
 -- the layers from t on are filled
 pub record FilledFrom (f : Figures) (ends : Cell → BestProfit) (quarters : List Quarter) (was s : List ℤ) (t : ℕ) : Type 0 where
@@ -96,11 +108,7 @@ module _ (f : Figures) (ends : Cell → BestProfit) (quarters : List Quarter) (w
           let e : suc t * width f ≡ t * width f + width f = omega arith in
           let next : Layer f ends rest (storedAt f s (t * width f + width f)) = rw e at (old .layers (suc t) (omega arith) inside) in
           rw (drop-cons quarters t noQuarter inside)
-          (record {
-            holds = λ c h.
-                subst (λ (v : ℤ). Holds (suc (length rest)) (valueAt f ends (q ∷ rest) c) v) (sym (made .inside c h))
-                (cell-holds f ok (q .price) (priced t inside) ends rest few (storedAt f s (t * width f + width f)) next c h (q .opens));
-          })
+          (layer-earlier f ok ends q (priced t inside) rest few (storedAt f s (t * width f + width f)) (storedAt f cells (t * width f)) next (made .inside))
 
       by : (j : ℕ) → t ≤ j → j ≤ length quarters → (b : Bool) → ltb t j ≡ b → Layer f ends (drop j quarters) (storedAt f cells (j * width f))
       by j lo hi true e = later j (ltb-true t j e) hi

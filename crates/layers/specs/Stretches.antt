@@ -33,10 +33,11 @@ pub record Readable (cells : List ℤ) (from count : ℕ) : Type 0 where
   pub fits : from + count ≤ length cells
   pub small : Small cells from count
 
--- a stretch to be made from one as long that lies behind it, and the same of numbers that an interval is added to
-pub record Before (cells : List ℤ) (to from count : ℕ) : Type 0 where
-  pub before : to + count ≤ from
+-- a stretch to be made from one as long that lies apart from it, and from one that lies behind it, of numbers that an interval is added to
+pub record Beside (cells : List ℤ) (to from count : ℕ) : Type 0 where
+  pub beside : (to + count ≤ from) ⊎ (from + count ≤ to)
   pub fits : from + count ≤ length cells
+  pub room : to + count ≤ length cells
 
 pub record Behind (cells : List ℤ) (to from count : ℕ) : Type 0 where
   pub before : to + count ≤ from

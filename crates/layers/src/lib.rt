@@ -5,8 +5,8 @@
 // costs one sum and one maximum; where it is, a few more, since the best output is carried along the row: the number of outputs costs nothing.
 // Here: the fill, layer by layer. mod states: a layer, state by state; mod rows: passes over stretches and rows; mod steps: one interval.
 
-mod rows;
-mod states;
+pub mod rows;
+pub mod states;
 pub mod steps;
 
 use commitment::windows;

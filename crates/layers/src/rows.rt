@@ -10,7 +10,7 @@ ghost use Rattle.optimality.specs.Cells.{Sound};
 ghost use Rattle.geometry.specs.Geometry.{span};
 ghost use Rattle.layers.specs.Ladders.{Steady, brings, outputs, mostBrought};
 ghost use Rattle.layers.specs.Ladders as ladders;
-ghost use Rattle.layers.specs.Stretches.{Before, Behind, Carries, Copied, Raised, Passed, Swept, placeOf, Between, Past, Reached};
+ghost use Rattle.layers.specs.Stretches.{Beside, Behind, Carries, Copied, Raised, Passed, Swept, placeOf, Between, Past, Reached};
 ghost use Rattle.layers.specs.Stretches.{RowRaised, SpanRaised};
 
 // The outputs of an interval: from `low` to `high` blocks, of which the lowest brings `least` and each block more `rise`.
@@ -25,7 +25,7 @@ pub struct Ladder {
 const BELOW: i64 = -4611686087146864640;
 
 // What the highest output brings.
-fn most(l: Ladder) -> i64
+pub fn most(l: Ladder) -> i64
     requires { ⌜ Steady l ⌝ }
     ensures { λ r. ⌜ r ≡ brings l (l .high) ⌝ }
 {
@@ -53,9 +53,9 @@ pub fn put(scratch: &mut [i64], to: usize, count: usize, v: i64)
     }
 }
 
-// The numbers of a stretch that lies behind.
+// The numbers of a stretch that lies apart.
 pub fn copy(scratch: &mut [i64], to: usize, from: usize, count: usize)
-    requires { ⌜ Before (now scratch) to from count ⌝ }
+    requires { ⌜ Beside (now scratch) to from count ⌝ }
     ensures { λ _. ⌜ Copied (now (scratch .entry)) (now (scratch .exit)) to from count ⌝ }
 {
     let mut i = 0;

@@ -42,7 +42,7 @@ and-rest : (a b : Bool) → a ≡ true → (a && b) ≡ false → b ≡ false
 and-rest true b i e = e
 and-rest false b i e = absurd (false≢true i)
 
-neither-earlier : (s t : List ℕ) → length s ≡ length t → earlier s t ≡ false → earlier t s ≡ false → s ≡ t
+pub neither-earlier : (s t : List ℕ) → length s ≡ length t → earlier s t ≡ false → earlier t s ≡ false → s ≡ t
 neither-earlier [] [] n e f = refl
 neither-earlier [] (m ∷ t) n e f = absurd (omega arith)
 neither-earlier (m ∷ s) [] n e f = absurd (omega arith)

@@ -9,6 +9,7 @@ pub mod Commit
 pub mod Ranges
 pub mod Outputs
 pub mod Best
+pub mod Split
 pub mod Simulate
 pub mod Left
 pub mod Cells

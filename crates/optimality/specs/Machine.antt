@@ -58,6 +58,24 @@ abbrev pub along : {State : Type 0} → ℕ → Step State → (State → Plan) 
 along m stop rest = nothing
 along m (go g x) rest = after m g (rest x)
 
+-- what was earned before a step
+abbrev pub earning : {State : Type 0} → ℤ → Step State → Step State
+earning g stop = stop
+earning g (go h x) = go (g +ℤ h) x
+
+-- one step after another
+abbrev pub then : {State : Type 0} → Step State → (State → Step State) → Step State
+then stop next = stop
+then (go g x) next = earning g (next x)
+
+module _ (State Input : Type 0) (step : State → Input → ℕ → Step State) where
+  -- where a list of outputs leads from a state, and what it earns on the way
+  abbrev pub walk : List Input → State → List ℕ → Step State
+  walk [] x [] = go (pos 0) x
+  walk [] x (m ∷ ms) = stop
+  walk (i ∷ is) x [] = stop
+  walk (i ∷ is) x (m ∷ ms) = then (step x i m) (λ y. walk is y ms)
+
 module _ (State Input : Type 0) (step : State → Input → ℕ → Step State) (ends : State → BestProfit) where
   -- a list of outputs with what it earns from a state, where every step is allowed
   abbrev pub run : List Input → State → List ℕ → Plan

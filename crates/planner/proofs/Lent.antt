@@ -2,9 +2,9 @@
 use mathlib.Core.Path.{_≡_, sym, ap, _∙_}
 use mathlib.Core.Bool.{Bool, true}
 use mathlib.Core.List.{List, [], _∷_, _++_}
-use Prim.Native.Nat.{ℕ, _+_, _*_, _≤_}
+use Prim.Native.Nat.{ℕ, _+_, _*_, _≤_, _<_}
 use native.Mathlib.Omega.{arith}
-use borrow.Author.Tests.{leb-true}
+use borrow.Author.Tests.{leb-true, le-leb, lt-leb}
 use lib.Dec.{leb}
 use lib.IntN.{ℤ, pos}
 use lib.ListN.{length, drop, replicate}
@@ -12,7 +12,8 @@ use Rattle.commitment.specs.declared.Cause.the-variants.{Length, Scratch}
 use Rattle.commitment.specs.declared.Checked.the-variants.{Passed}
 use Rattle.commitment.specs.declared.UnitRecord.{UnitRecord}
 use Rattle.commitment.specs.Causes.{_else_, firstOf}
-use Rattle.commitment.specs.Cells.{cellsNeeded}
+use Rattle.commitment.specs.Bounds.{mostIntervals}
+use Rattle.commitment.specs.Cells.{layerCells, cellsNeeded, cellsLong, cellsUsed}
 use Rattle.commitment.specs.Keeping.{opensIn}
 use Rattle.commitment.specs.Ranges.{pricesKept, permitKept, dateKept, caseChecks, caseChecked, Priced}
 use Rattle.commitment.specs.declared.windows.Hours.{Hours}
@@ -30,10 +31,11 @@ use Rattle.geometry.specs.Geometry.{width}
 use Rattle.geometry.specs.Layers.{Room, Filled}
 use Rattle.geometry.proofs.Widths.{width-is}
 use Rattle.layers.specs.Filling.{quartersIn}
+use Rattle.pair.specs.Rolling.{Rolled}
 use Rattle.planner.specs.Planning.{slicesChecks, lentChecks, lentChecked, scheduleChecks, scheduleChecked, planChecked, scratchAfter}
-use Rattle.planner.specs.Tables.{Worked}
+use Rattle.planner.specs.Tables.{Told, Worked, Paired}
 use Rattle.planner.specs.Valuing.{valueLentChecks, valueLent, valueChecked}
-use Rattle.planner.proofs.Worked.{worked}
+use Rattle.planner.proofs.Worked.{told-in, worked}
 
 -- ---- in turn
 
@@ -76,15 +78,7 @@ lent u prices long scratch e =
     let c = unless-passed (leb (cellsNeeded u (length prices)) scratch) Scratch Passed (b .1) in
     record { case = passing u (pricesKept prices) (length prices) (a .0); entries = b .0; cells = leb-true (cellsNeeded u (length prices)) scratch (c .0) }
 
--- ---- the table that fits what is lent: figures f, layers of w cells
-
-pub record Fitted (u : UnitRecord) (prices : List ℤ) (scratch : ℕ) (f : Figures) (w : ℕ) : Type 0 where
-  pub room : Room f (length prices) scratch
-  pub priced : Priced prices
-  pub all : (length prices + 1) * w ≡ cellsNeeded u (length prices)
-  pub most : (length prices + 1) * w ≤ scratch
-  pub works : (hours : Hours) → HoursOf (u .permit) hours
-      → (cells : List ℤ) → length cells ≡ scratch → Filled f anywhere (quartersIn hours prices) cells → Worked u prices cells
+-- ---- what fits what is lent: figures f, layers of w cells
 
 module _ (u : UnitRecord) (prices : List ℤ) (scratch : ℕ) (h : Lent u prices true scratch) (f : Figures) (is : f ≡ figuresOf u (length prices)) where
   pub lent-sound : Sound f
@@ -92,34 +86,86 @@ module _ (u : UnitRecord) (prices : List ℤ) (scratch : ℕ) (h : Lent u prices
       let o = h .case .order in
       rw is (figures-sound u (ranged u (o .ranges) (o .shape)) (length prices) (o .short))
 
-  -- the quarters of the hours are those of the case
-  quarters-are : (hours : Hours) → HoursOf (u .permit) hours → quartersIn hours prices ≡ quartersOf u prices
-  quarters-are hours of =
-      let short = h .case .order .short in
-      quarters-same (opens hours) (opensIn (u .permit)) 0 prices (λ t k. of .same (0 + t) (omega (arith, short)))
-
   -- a case that passed has a permit in order
   pub permitted : (permitKept (u .permit) ≡ true) × (dateKept (u .permit) ≡ true)
   permitted = (in-range u (h .case .order .ranges) .permit, h .case .order .dated)
 
-  pub fitted : (w : ℕ) → w ≡ width f → Fitted u prices scratch f w
-  fitted w wide =
-      let o = h .case .order in
-      let layer : width f ≡ width (figuresOf u (length prices)) = ap width is in
-      let cells : (length prices + 1) * w ≡ cellsNeeded u (length prices) =
-      ap (λ (n : ℕ). (length prices + 1) * n) (wide ∙ layer ∙ width-is u (length prices)) in
-      let priced = prices-small prices (h .case .prices) in
-      record {
-        room = record { sound = lent-sound; short = o .short; fits = rw (is, width-is u (length prices)) (h .cells) };
-        priced = priced;
-        all = cells;
-        most = rw cells (h .cells);
-        works = λ hours of stored long filled. worked u prices stored o priced (rw long (h .cells)) (rw (is, quarters-are hours of) at filled);
-      }
+  -- the cells of a layer
+  pub layer-is : (w : ℕ) → w ≡ width f → w ≡ layerCells u (length prices)
+  layer-is w wide = wide ∙ ap width is ∙ width-is u (length prices)
 
--- the scratch after all layers are cleared, of which the fill left what lies behind them
-pub cleared : (u : UnitRecord) (prices : List ℤ) (needed : ℕ) (was filled : List ℤ) → needed ≡ cellsNeeded u (length prices)
-    → drop needed filled ≡ drop needed was
-    → replicate needed (pos 0) ++ drop needed filled ≡ scratchAfter Passed (cellsNeeded u (length prices)) was
-cleared u prices needed was filled e behind =
-    ap (λ (rest : List ℤ). replicate needed (pos 0) ++ rest) behind ∙ ap (λ (n : ℕ). replicate n (pos 0) ++ drop n was) e
+-- the quarters of the hours are those of the case
+pub quarters-are : (u : UnitRecord) (prices : List ℤ) → length prices ≤ mostIntervals → (hours : Hours) → HoursOf (u .permit) hours
+    → quartersIn hours prices ≡ quartersOf u prices
+quarters-are u prices short hours of = quarters-same (opens hours) (opensIn (u .permit)) 0 prices (λ t k. of .same (0 + t) (omega (arith, short)))
+
+-- ---- the long table
+
+pub record Fitted (u : UnitRecord) (prices : List ℤ) (scratch : ℕ) (f : Figures) (w : ℕ) : Type 0 where
+  pub room : Room f (length prices) scratch
+  pub priced : Priced prices
+  pub all : (length prices + 1) * w ≡ cellsLong u (length prices)
+  pub most : (length prices + 1) * w ≤ scratch
+  pub works : (hours : Hours) → HoursOf (u .permit) hours
+      → (cells : List ℤ) → length cells ≡ scratch → Filled f anywhere (quartersIn hours prices) cells → Worked u prices cells
+
+pub fitted : (u : UnitRecord) (prices : List ℤ) (scratch : ℕ) → Lent u prices true scratch → cellsLong u (length prices) ≤ scratch
+    → (f : Figures) → f ≡ figuresOf u (length prices) → (w : ℕ) → w ≡ width f → Fitted u prices scratch f w
+fitted u prices scratch h long f is w wide =
+    let o = h .case .order in
+    let all : (length prices + 1) * w ≡ cellsLong u (length prices) =
+    ap (λ (n : ℕ). (length prices + 1) * n) (layer-is u prices scratch h f is w wide) in
+    let priced = prices-small prices (h .case .prices) in
+    record {
+      room = record { sound = lent-sound u prices scratch h f is; short = o .short; fits = rw (is, width-is u (length prices)) long };
+      priced = priced;
+      all = all;
+      most = rw all long;
+      works = λ hours of stored same filled.
+          worked u prices stored o priced (rw same long) (rw (is, quarters-are u prices (o .short) hours of) at filled);
+    }
+
+-- ---- two layers
+
+pub paired : (u : UnitRecord) (prices cells : List ℤ) → Lent u prices true (length cells) → (f : Figures) → f ≡ figuresOf u (length prices)
+    → (w : ℕ) → w ≡ width f → (hours : Hours) → HoursOf (u .permit) hours → Paired u f w hours prices cells
+paired u prices cells h f is w wide hours of =
+    let o = h .case .order in
+    record {
+      order = o;
+      some = h .case .some;
+      figures = is;
+      opened = of;
+      lent =
+          record {
+            room = record { sound = lent-sound u prices (length cells) h f is; short = omega arith; fits = rw (is, width-is u (length prices)) (h .cells) };
+            wide = wide;
+            short = o .short;
+            priced = prices-small prices (h .case .prices);
+            clocked = of .clocked;
+          };
+    }
+
+-- the first layer, rolled to the front, tells
+pub rolled-told : (u : UnitRecord) (f : Figures) (w : ℕ) (hours : Hours) (prices cells rolled : List ℤ) → Paired u f w hours prices cells
+    → length rolled ≡ length cells → Rolled f anywhere (quartersIn hours prices) 0 rolled → Told u prices rolled
+rolled-told u f w hours prices cells rolled p same r =
+    let fits = p .lent .room .fits in
+    told-in u prices rolled (p .order) (rw (← p .figures) (omega (arith, fits, same)))
+    (rw (p .figures, quarters-are u prices (p .order .short) hours (p .opened)) at (r .front))
+
+-- ---- which of the two is used
+
+module _ (u : UnitRecord) (n lent : ℕ) where
+  pub long-used : cellsLong u n ≤ lent → cellsLong u n ≡ cellsUsed u n lent
+  long-used fits = rw (le-leb (cellsLong u n) lent fits)
+
+  pub two-used : lent < cellsLong u n → cellsNeeded u n ≡ cellsUsed u n lent
+  two-used short = rw (lt-leb (cellsLong u n) lent short)
+
+-- ---- the scratch after the cells used are cleared, of which the work left what lies behind them
+
+pub cleared : (used needed : ℕ) (was left : List ℤ) → used ≡ needed → drop used left ≡ drop used was
+    → replicate used (pos 0) ++ drop used left ≡ scratchAfter Passed needed was
+cleared used needed was left e behind =
+    ap (λ (rest : List ℤ). replicate used (pos 0) ++ rest) behind ∙ ap (λ (n : ℕ). replicate n (pos 0) ++ drop n was) e

@@ -12,12 +12,12 @@ use Rattle.commitment.specs.declared.Checked.the-variants as checked
 use Rattle.commitment.specs.declared.UnitRecord.{UnitRecord}
 use Rattle.commitment.specs.Best.{Plan, nothing, plan, best}
 use Rattle.commitment.specs.Causes.{numberOf, Check, _else_, firstOf}
-use Rattle.commitment.specs.Cells.{cellsNeeded}
+use Rattle.commitment.specs.Cells.{cellsNeeded, cellsUsed}
 use Rattle.commitment.specs.Ranges.{pricesKept, caseChecks}
 use Rattle.planner.specs.declared.Planned.{Planned}
 use Rattle.planner.specs.declared.Planned.the-variants.{Plan as Given, Refused}
 
--- ---- the causes: those of the case, then 7 (schedule slice shorter than the prices), 8 (scratch shorter than needed), 9 (no schedule)
+-- ---- the causes: those of the case, then 7 (schedule slice shorter than the prices), 8 (scratch of fewer than two layers), 9 (no schedule)
 
 -- beside a schedule slice that is long enough or not, a scratch of so many cells
 abbrev pub slicesChecks : UnitRecord → ℕ → Bool → ℕ → List Check
@@ -65,17 +65,18 @@ scheduleAfter Passed (plan s p) was = s ++ drop (length s) was
 scheduleAfter Passed nothing was = was
 scheduleAfter (checked.Refused cause) best was = was
 
--- where the work was begun the needed cells are 0, and the cells beyond are as they were
+-- where the work was begun the cells used are 0, and the cells beyond are as they were
 abbrev pub scratchAfter : Checked → ℕ → List ℤ → List ℤ
-scratchAfter Passed needed was = replicate needed (pos 0) ++ drop needed was
-scratchAfter (checked.Refused cause) needed was = was
+scratchAfter Passed used was = replicate used (pos 0) ++ drop used was
+scratchAfter (checked.Refused cause) used was = was
 
 -- both as a call leaves them, beside a scratch of so many cells, and beside a schedule slice of so many entries
 abbrev pub scheduleLeft : UnitRecord → List ℤ → ℕ → List ℕ → List ℕ
 scheduleLeft u prices cells was = scheduleAfter (planChecked u prices cells (length was)) (best u prices) was
 
 abbrev pub scratchLeft : UnitRecord → List ℤ → ℕ → List ℤ → List ℤ
-scratchLeft u prices entries was = scratchAfter (lentChecked u prices (leb (length prices) entries) (length was)) (cellsNeeded u (length prices)) was
+scratchLeft u prices entries was =
+    scratchAfter (lentChecked u prices (leb (length prices) entries) (length was)) (cellsUsed u (length prices) (length was)) was
 
 -- ---- the number, the profit and the count of an answer: 0 where there is none; the part that comes back, empty on a refusal
 

@@ -7,14 +7,17 @@ use lib.ListN.{length}
 use Rattle.commitment.specs.declared.BestProfit.{BestProfit}
 use Rattle.commitment.specs.declared.BestProfit.the-variants.{Nothing, Profit}
 use Rattle.commitment.specs.declared.UnitRecord.{UnitRecord}
-use Rattle.commitment.specs.Cells.{cellsNeeded}
+use Rattle.commitment.specs.declared.windows.Hours.{Hours}
+use Rattle.commitment.specs.Cells.{cellsLong}
 use Rattle.commitment.specs.Ranges.{InOrder, Priced}
+use Rattle.commitment.specs.Windows.{HoursOf}
 use Rattle.optimality.specs.declared.Cell.{Cell}
 use Rattle.optimality.specs.declared.Figures.{Figures}
 use Rattle.optimality.specs.Machine.{anywhere}
 use Rattle.optimality.specs.Cells.{figuresOf, quartersOf, InTable, valueAt}
 use Rattle.geometry.specs.Geometry.{width}
 use Rattle.geometry.specs.Layers.{told, inFront, Filled}
+use Rattle.pair.specs.Rolling.{Lent}
 
 -- a profit, 0 where there is none, and the most that the difference of two leaves room for
 abbrev pub amount : BestProfit → ℤ
@@ -41,5 +44,13 @@ ToldBy f u prices cells = Told u prices cells × (f ≡ figuresOf u (length pric
 pub record Worked (u : UnitRecord) (prices cells : List ℤ) : Type 0 where
   pub told : Told u prices cells
   pub priced : Priced prices
-  pub room : cellsNeeded u (length prices) ≤ length cells
+  pub room : cellsLong u (length prices) ≤ length cells
   pub filled : Filled (figuresOf u (length prices)) anywhere (quartersOf u prices) cells
+
+-- a case in order whose figures, layers and hours are known, and two layers lent
+pub record Paired (u : UnitRecord) (f : Figures) (w : ℕ) (hours : Hours) (prices cells : List ℤ) : Type 0 where
+  pub order : InOrder u (length prices)
+  pub some : 1 ≤ length prices
+  pub figures : f ≡ figuresOf u (length prices)
+  pub opened : HoursOf (u .permit) hours
+  pub lent : Lent f w prices cells hours

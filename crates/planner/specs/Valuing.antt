@@ -11,7 +11,7 @@ use Rattle.commitment.specs.declared.Checked.the-variants as checked
 use Rattle.commitment.specs.declared.Outcomes.{Outcomes}
 use Rattle.commitment.specs.declared.UnitRecord.{UnitRecord}
 use Rattle.commitment.specs.Causes.{numberOf, Check, _else_, firstOf}
-use Rattle.commitment.specs.Cells.{cellsNeeded}
+use Rattle.commitment.specs.Cells.{cellsNeeded, cellsUsed}
 use Rattle.commitment.specs.Ranges.{pricesKept, caseChecks}
 use Rattle.commitment.specs.Valuing.{outcomesOf, noOutcomes}
 use Rattle.planner.specs.Planning.{scheduleChecks, scratchAfter}
@@ -44,7 +44,7 @@ valued u prices scratch = valuedBy (valueChecked u prices scratch) (outcomesOf u
 
 -- the scratch, beside which valuing takes no slice
 abbrev pub scratchValued : UnitRecord → List ℤ → List ℤ → List ℤ
-scratchValued u prices was = scratchAfter (valueLent u prices (length was)) (cellsNeeded u (length prices)) was
+scratchValued u prices was = scratchAfter (valueLent u prices (length was)) (cellsUsed u (length prices) (length was)) was
 
 abbrev pub valuedNumber : Valued → ℕ
 valuedNumber (Given outcomes) = 0

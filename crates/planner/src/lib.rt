@@ -1,8 +1,11 @@
-// Planning and valuing over one table: the calls of the outside, none of which has a `requires`. Below them: what an answer holds (contents), what is
-// found before any work (checks), the table filled, read and cleared (tables), the runs of valuing (runs).
+// Planning and valuing: the calls of the outside, none of which has a `requires`. Below them: what an answer holds (contents), what is
+// found before any work (checks), the scratch that is used (cases): the long table filled, read and cleared (tables), or two layers (pairs); the runs of
+// valuing (runs).
 
+mod cases;
 pub mod checks;
 pub mod contents;
+mod pairs;
 mod runs;
 mod tables;
 
@@ -62,11 +65,11 @@ pub fn value(unit: UnitRecord, prices: &[i64], scratch: &mut [i64]) -> Valued
 {
     match checks::check_lent(unit, prices, true, scratch.len()) {
         Checked::Refused(cause) => Valued::Refused(cause),
-        Checked::Passed => tables::value_case(unit, prices, scratch),
+        Checked::Passed => cases::value_case(unit, prices, scratch),
     }
 }
 
-// Plan and outcomes from one fill of the table.
+// Plan and outcomes together.
 pub fn report_into(
     unit: UnitRecord,
     prices: &[i64],
@@ -80,7 +83,7 @@ pub fn report_into(
     let long = prices.len() <= schedule.len();
     match checks::check_lent(unit, prices, long, scratch.len()) {
         Checked::Refused(cause) => Reported::Refused(cause),
-        Checked::Passed => tables::report_case(unit, prices, scratch, schedule),
+        Checked::Passed => cases::report_case(unit, prices, scratch, schedule),
     }
 }
 

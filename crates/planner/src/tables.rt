@@ -1,4 +1,4 @@
-// A case that passed its checks: the table is filled once, read, and cleared.
+// The long table of a case that passed its checks: it is filled once, read, and cleared.
 
 use crate::Report;
 use crate::Reported;
@@ -17,7 +17,7 @@ ghost use Rattle.commitment.specs.declared.Checked.the-variants.{Passed};
 ghost use Rattle.commitment.specs.declared.BestProfit.the-variants.{Nothing};
 ghost use Rattle.commitment.specs.Best.{best, profitOf};
 ghost use Rattle.commitment.specs.Tries.{planTries};
-ghost use Rattle.commitment.specs.Cells.{cellsNeeded};
+ghost use Rattle.commitment.specs.Cells.{cellsLong};
 ghost use Rattle.commitment.specs.Valuing.{outcomesOf};
 ghost use Rattle.optimality.specs.Cells.{figuresOf};
 ghost use Rattle.geometry.specs.Geometry.{width};
@@ -33,10 +33,11 @@ pub fn report_case(
     schedule: &mut [u64],
 ) -> Reported
     requires { ⌜ (lentChecked unit (now prices) true (length (now scratch)) ≡ Passed) × (length (now prices) ≤ length (now schedule)) ⌝ }
+    requires { ⌜ cellsLong unit (length (now prices)) ≤ length (now scratch) ⌝ }
     ensures { λ r. ⌜ r ≡ reportedBy (scheduleChecked unit (now (prices .entry))) (best unit (now (prices .entry))) (outcomesOf unit (now (prices .entry))) ⌝ }
     ensures { λ _. ⌜ now (schedule .exit)
         ≡ scheduleAfter (scheduleChecked unit (now (prices .entry))) (best unit (now (prices .entry))) (now (schedule .entry)) ⌝ }
-    ensures { λ _. ⌜ now (scratch .exit) ≡ scratchAfter Passed (cellsNeeded unit (length (now (prices .entry)))) (now (scratch .entry)) ⌝ }
+    ensures { λ _. ⌜ now (scratch .exit) ≡ scratchAfter Passed (cellsLong unit (length (now (prices .entry)))) (now (scratch .entry)) ⌝ }
 {
     let n = prices.len();
     let f = budgets::figures_of(unit, n);
@@ -51,8 +52,9 @@ pub fn report_case(
 
 pub fn value_case(unit: UnitRecord, prices: &[i64], scratch: &mut [i64]) -> Valued
     requires { ⌜ lentChecked unit (now prices) true (length (now scratch)) ≡ Passed ⌝ }
+    requires { ⌜ cellsLong unit (length (now prices)) ≤ length (now scratch) ⌝ }
     ensures { λ r. ⌜ r ≡ valuedBy (scheduleChecked unit (now (prices .entry))) (outcomesOf unit (now (prices .entry))) ⌝ }
-    ensures { λ _. ⌜ now (scratch .exit) ≡ scratchAfter Passed (cellsNeeded unit (length (now (prices .entry)))) (now (scratch .entry)) ⌝ }
+    ensures { λ _. ⌜ now (scratch .exit) ≡ scratchAfter Passed (cellsLong unit (length (now (prices .entry)))) (now (scratch .entry)) ⌝ }
 {
     let n = prices.len();
     let f = budgets::figures_of(unit, n);
@@ -113,7 +115,7 @@ fn read_plan(
     table::read_off(cells, w, f, prices, from, schedule)
 }
 
-fn read_outcomes(unit: UnitRecord, f: Figures, prices: &[i64], cells: &[i64]) -> Valued
+pub fn read_outcomes(unit: UnitRecord, f: Figures, prices: &[i64], cells: &[i64]) -> Valued
     requires { ⌜ ToldBy f unit (now prices) (now cells) ⌝ }
     ensures { λ r. ⌜ r ≡ valuedBy (scheduleChecked unit (now (prices .entry))) (outcomesOf unit (now (prices .entry))) ⌝ }
 {

@@ -10,7 +10,7 @@ use Rattle.commitment.specs.declared.Checked.{Checked}
 use Rattle.commitment.specs.declared.Checked.the-variants.{Passed, Refused}
 use Rattle.commitment.specs.declared.UnitRecord.{UnitRecord}
 use Rattle.commitment.specs.Best.{Plan, nothing, plan, best}
-use Rattle.commitment.specs.Cells.{cellsNeeded}
+use Rattle.commitment.specs.Cells.{cellsUsed}
 use Rattle.commitment.specs.Valuing.{outcomesOf}
 use Rattle.casefile.specs.declared.CaseRead.the-variants as reading
 use Rattle.casefile.specs.Answers.{readBy, pricesLeft, frontPart, readCase, readPrices, readPart}
@@ -64,7 +64,7 @@ module _ (text : List ℕ) (lent : Lent) where
       let case = best (unitIn text) (pricesIn text) in (
         λ was. (
           ap (λ (k : Checked). pricesLeft k (pricesIn text) was) e,
-          ap (λ (k : Checked). scratchAfter k (cellsNeeded (unitIn text) (length (pricesIn text))) was) e,
+          ap (λ (k : Checked). scratchAfter k (cellsUsed (unitIn text) (length (pricesIn text)) (length was)) was) e,
         ),
         λ was. ap (λ (k : Checked). scheduleAfter k case was) (refused-in-all text lent cause e),
       )

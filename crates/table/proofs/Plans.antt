@@ -9,7 +9,7 @@ use lib.IntN.{ℤ, pos, natAbs}
 use lib.ListN.{length, getD, set, take, drop, length-drop, length-map, length-set, drop-of-length-le, List·getD-map}
 use lib.Seq.{drop-cons}
 use lib.Signed.{ltZ}
-use Rattle.commitment.specs.Bounds.{mostIntervals}
+use Rattle.commitment.specs.Bounds.{mostPrice, mostIntervals}
 use Rattle.lists.proofs.Fills.{take-next, kept-next, kept-whole}
 use Rattle.commitment.specs.Tries.{triesTo, triesOver}
 use Rattle.commitment.proofs.Tries.{tries-append, tries-in-blocks}
@@ -23,7 +23,7 @@ use Rattle.optimality.specs.Cells.{Sound, InTable, planAt, valueAt}
 use Rattle.optimality.proofs.Values.{no-earning}
 use Rattle.optimality.proofs.Turns.{plan-value}
 use Rattle.geometry.specs.Geometry.{width}
-use Rattle.geometry.specs.Layers.{swing, Holds, storedAt, Filled}
+use Rattle.geometry.specs.Layers.{swing, Holds, storedAt, Layer, Filled}
 use Rattle.layers.specs.Turns.{offStored, quarterStored}
 use Rattle.layers.proofs.Filling.{PricedOver}
 use Rattle.optimality.proofs.Quarters.{noQuarter}
@@ -50,6 +50,28 @@ pub record ReadTurn (f : Figures) (ends : Cell → BestProfit) (q : Quarter) (qu
   pub on : ltZ (offStored f stored c) best ≡ true → OnReaches f stored c (q .price) best
   pub choice : Chosen f ends q quarters c (chosen f stored c (q .price) best)
 
+-- by a layer and the one behind it
+pub read-layers : (f : Figures) (ends : Cell → BestProfit) (q : Quarter) (rest : List Quarter) (here stored : Cell → ℤ) (c : Cell)
+    → Sound f → natAbs (q .price) ≤ mostPrice → length rest < mostIntervals
+    → Layer f ends (q ∷ rest) here → Layer f ends rest stored
+    → InTable f c → (valueAt f ends (q ∷ rest) c ≡ Nothing → ⊥)
+    → ReadTurn f ends q rest stored c (here c)
+read-layers f ends q rest here stored c ok priced few layer next inside some = by (valueAt f ends (q ∷ rest) c) refl (layer .holds c inside) some
+  where
+    by : (v : BestProfit) → valueAt f ends (q ∷ rest) c ≡ v → Holds (suc (length rest)) v (here c) → (v ≡ Nothing → ⊥)
+        → ReadTurn f ends q rest stored c (here c)
+    by Nothing e h some = absurd (some refl)
+    by (Profit p) e h some =
+        let made : Holds (suc (length rest)) (Profit p) (quarterStored f stored c q) = rw e at
+        (cell-holds f ok (q .price) priced ends rest few stored next c inside (q .opens)) in
+        let is : quarterStored f stored c q ≡ here c = made .0 ∙ sym (h .0) in
+        let bound : natAbs (here c) ≤ suc (length rest) * swing = rw (h .0) (h .1) in
+        let worth = e ∙ ap Profit (sym (h .0)) in
+        record {
+          on = must-reach f ok q priced ends rest few stored next c inside (here c) worth bound is;
+          choice = chosen-is f ok q priced ends rest few stored next c inside (here c) worth bound is;
+        }
+
 pub read-turn : (f : Figures) (ends : Cell → BestProfit) (quarters : List Quarter) (cells : List ℤ) (t : ℕ) (c : Cell)
     → Sound f → PricedOver quarters → length quarters ≤ mostIntervals
     → Filled f ends quarters cells → t < length quarters
@@ -57,38 +79,9 @@ pub read-turn : (f : Figures) (ends : Cell → BestProfit) (quarters : List Quar
     → ReadTurn f ends (getD quarters t noQuarter) (drop (suc t) quarters) (storedAt f cells (suc t * width f)) c (storedAt f cells (t * width f) c)
 read-turn f ends quarters cells t c ok priced short filled inside here some =
     let d = drop-cons quarters t noQuarter inside in
-    let h = rw d at (filled .layers t (omega arith) .holds c here) in
-    by (valueAt f ends (q ∷ rest) c) refl h (rw d at some)
-  where
-    q : Quarter
-    q = getD quarters t noQuarter
-
-    rest : List Quarter
-    rest = drop (suc t) quarters
-
-    stored : Cell → ℤ
-    stored = storedAt f cells (suc t * width f)
-
-    best : ℤ
-    best = storedAt f cells (t * width f) c
-
-    few : length rest < mostIntervals
-    few = omega (arith, length-drop (suc t) quarters)
-
-    by : (v : BestProfit) → valueAt f ends (q ∷ rest) c ≡ v → Holds (suc (length rest)) v best → (v ≡ Nothing → ⊥)
-        → ReadTurn f ends q rest stored c best
-    by Nothing e h some = absurd (some refl)
-    by (Profit p) e h some =
-        let next = filled .layers (suc t) inside in
-        let made : Holds (suc (length rest)) (Profit p) (quarterStored f stored c q) = rw e at
-        (cell-holds f ok (q .price) (priced t inside) ends rest few stored next c here (q .opens)) in
-        let is : quarterStored f stored c q ≡ best = made .0 ∙ sym (h .0) in
-        let bound : natAbs best ≤ suc (length rest) * swing = rw (h .0) (h .1) in
-        let worth = e ∙ ap Profit (sym (h .0)) in
-        record {
-          on = must-reach f ok q (priced t inside) ends rest few stored next c here best worth bound is;
-          choice = chosen-is f ok q (priced t inside) ends rest few stored next c here best worth bound is;
-        }
+    read-layers f ends (getD quarters t noQuarter) (drop (suc t) quarters) (storedAt f cells (t * width f)) (storedAt f cells (suc t * width f)) c ok
+    (priced t inside) (omega (arith, length-drop (suc t) quarters)) (rw d at (filled .layers t (omega arith))) (filled .layers (suc t) inside) here
+    (rw d at some)
 
 -- ---- the plan so far
 

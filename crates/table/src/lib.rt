@@ -1,7 +1,7 @@
 // Reading a table that is filled: the best profit of any cell of the first layer, and the best plan from it, interval by interval the first
 // output that reaches the number of the cell where the plan stands (mod reading; proofs/ Choosing and Plans).
 
-mod reading;
+pub mod reading;
 
 use commitment::BestProfit;
 use optimality::Cell;

@@ -52,6 +52,15 @@ WorthOf cap Empty = (cap .limited ≡ true) × (cap .most * 9 / 10 ≡ 0)
 WorthOf cap Never = (cap .limited ≡ true) × (cap .most * 9 / 10 ≡ 0 → ⊥)
 WorthOf cap (Gap gap) = (cap .limited ≡ true) × (cap .most * 9 / 10 ≡ 0 → ⊥)
 
+-- a refusal: nothing is earned and nothing is worth anything
+pub record Refused (number : ℕ) (expected : Expected) : Type 0 where
+  pub planned : expected .planned ≡ false
+  pub refusal : expected .refusal ≡ number
+  pub profit : expected .profit ≡ pos 0
+  pub starts : expected .starts ≡ None
+  pub hours : expected .hours ≡ None
+  pub mwh : expected .mwh ≡ None
+
 -- without a plan nothing is earned and nothing is worth anything; with one, each limitation has its outcome
 pub record ExpectedOf (case : Case) (expected : Expected) : Type 0 where
   pub refused : expected .planned ≡ false

@@ -7,6 +7,8 @@ use crate::enumerator::Case;
 use crate::enumerator::ROOM;
 use crate::enumerator::Which;
 use crate::enumerator::Worth;
+use crate::lending;
+use crate::lending::Lent;
 use crate::numbers::difference;
 use crate::numbers::one_if;
 use crate::numbers::wide8;
@@ -27,7 +29,7 @@ use commitment::Window;
 use planner::Planned;
 use planner::Reported;
 use planner::Valued;
-ghost use Rattle.trials.specs.Expecting.{ExpectedOf};
+ghost use Rattle.trials.specs.Expecting.{ExpectedOf, Refused};
 
 // What no output of a small case is: entries that a call leaves as they were still hold it.
 const UNTOUCHED: u64 = 7777;
@@ -57,16 +59,7 @@ pub fn expected_of(case: Case) -> Expected
 {
     let best = enumerator::best_of(case);
     if !best.any {
-        return Expected {
-            planned: false,
-            refusal: refusal_of(case, 9),
-            tied: false,
-            profit: 0,
-            schedule: [UNTOUCHED; ROOM],
-            starts: Worth::None,
-            hours: Worth::None,
-            mwh: Worth::None,
-        };
+        return refused(refusal_of(case, 9));
     }
     Expected {
         planned: true,
@@ -77,6 +70,21 @@ pub fn expected_of(case: Case) -> Expected
         starts: enumerator::worth_of(case, Which::Starts),
         hours: enumerator::worth_of(case, Which::Hours),
         mwh: enumerator::worth_of(case, Which::Mwh),
+    }
+}
+
+fn refused(number: u64) -> Expected
+    ensures { λ r. ⌜ Refused number r ⌝ }
+{
+    Expected {
+        planned: false,
+        refusal: number,
+        tied: false,
+        profit: 0,
+        schedule: [UNTOUCHED; ROOM],
+        starts: Worth::None,
+        hours: Worth::None,
+        mwh: Worth::None,
     }
 }
 
@@ -107,17 +115,95 @@ pub fn agreed_on(case: Case, expected: Expected, scratch: &mut [i64]) -> Agreed 
     each_agreed(case, &prices[..n], expected, scratch)
 }
 
+// A call agrees where it does with each length of scratch.
 fn each_agreed(case: Case, prices: &[i64], expected: Expected, scratch: &mut [i64]) -> Agreed {
     let unit = unit_of(case);
-    let plan = same_plan(unit, prices, expected, &mut *scratch);
-    let value = same_value(unit, prices, expected, &mut *scratch);
-    let report = same_report(unit, prices, expected, scratch);
-    let assess = same_profits(case, unit, prices);
+    let mut agreed = Agreed {
+        plan: true,
+        value: true,
+        report: true,
+        assess: same_profits(case, unit, prices),
+    };
+    let mut number = 0;
+    while number < lending::LENGTHS {
+        let lent = lending::lent_of(case, number);
+        let answer = expected_with(case, expected, lent);
+        agreed = both(
+            agreed,
+            agreed_with(unit, prices, answer, lent, &mut *scratch),
+        );
+        number += 1;
+    }
+    agreed
+}
+
+fn both(one: Agreed, other: Agreed) -> Agreed {
     Agreed {
-        plan,
-        value,
-        report,
-        assess,
+        plan: one.plan & other.plan,
+        value: one.value & other.value,
+        report: one.report & other.report,
+        assess: one.assess & other.assess,
+    }
+}
+
+// Too few cells are found before any list is looked for.
+fn expected_with(case: Case, expected: Expected, lent: Lent) -> Expected {
+    if 0 < lent.used {
+        return expected;
+    }
+    refused(refusal_of(case, 8))
+}
+
+// Where there are not so many cells to lend, no call agrees.
+fn agreed_with(
+    unit: UnitRecord,
+    prices: &[i64],
+    expected: Expected,
+    lent: Lent,
+    scratch: &mut [i64],
+) -> Agreed {
+    let cells = lent.cells;
+    if scratch.len() < cells {
+        return Agreed {
+            plan: false,
+            value: false,
+            report: false,
+            assess: true,
+        };
+    }
+    let used = used_for(expected, lent);
+    agreed_on_cells(unit, prices, expected, used, &mut scratch[..cells])
+}
+
+// Every refusal but 9 comes before any work.
+fn used_for(expected: Expected, lent: Lent) -> usize {
+    if expected.planned | (expected.refusal == 9) {
+        return lent.used;
+    }
+    0
+}
+
+fn agreed_on_cells(
+    unit: UnitRecord,
+    prices: &[i64],
+    expected: Expected,
+    used: usize,
+    scratch: &mut [i64],
+) -> Agreed {
+    lending::fill(&mut *scratch);
+    let plan = same_plan(unit, prices, expected, &mut *scratch);
+    let plan_left = lending::is_left(&*scratch, used);
+    lending::fill(&mut *scratch);
+    let value = same_value(unit, prices, expected, &mut *scratch);
+    let value_left = lending::is_left(&*scratch, used);
+    lending::fill(&mut *scratch);
+    let report = same_report(unit, prices, expected, &mut *scratch);
+    let report_left = lending::is_left(&*scratch, used);
+    Agreed {
+        plan: plan & plan_left,
+        value: value & value_left,
+        report: report & report_left,
+        assess: true,
     }
 }
 

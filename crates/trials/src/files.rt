@@ -56,26 +56,25 @@ fn try_text(bytes: &[u8], prices: &mut [i64]) {
         refused(number);
         return;
     }
-    try_case(unit, &part[..]);
+    let mut scratch = [0i64; answers::CELL_ROOM];
+    try_case(unit, &part[..], &mut scratch);
 }
 
-fn try_case(unit: UnitRecord, prices: &[i64]) {
-    let mut scratch = [0i64; answers::CELL_ROOM];
-    match planner::value(unit, prices, &mut scratch) {
+pub fn try_case(unit: UnitRecord, prices: &[i64], scratch: &mut [i64]) {
+    match planner::value(unit, prices, &mut *scratch) {
         Valued::Refused(cause) => refused(commitment::number_of(cause)),
-        Valued::Outcomes(outcomes) => try_plan(unit, prices, outcomes),
+        Valued::Outcomes(outcomes) => try_plan(unit, prices, outcomes, scratch),
     }
 }
 
-fn try_plan(unit: UnitRecord, prices: &[i64], outcomes: Outcomes) {
-    let mut scratch = [0i64; answers::CELL_ROOM];
+fn try_plan(unit: UnitRecord, prices: &[i64], outcomes: Outcomes, scratch: &mut [i64]) {
     let mut schedule = [0u64; answers::PRICE_ROOM];
     let mut number = 0;
     let mut profit = 0;
     let plan = planner::plan(
         unit,
         prices,
-        &mut scratch,
+        scratch,
         &mut schedule,
         &mut number,
         &mut profit,

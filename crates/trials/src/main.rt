@@ -7,6 +7,7 @@ mod enumerator;
 mod figures;
 mod files;
 mod generator;
+mod lending;
 mod numbers;
 mod others;
 mod printing;

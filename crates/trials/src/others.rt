@@ -1,7 +1,9 @@
-// C1 besides its plan: the cells that it needs, slices too short, schedules handed in, and those two where only hour 0 is permitted.
+// C1 besides its plan: the cells that it needs, slices too short, schedules handed in, and those two where only hour 0 is permitted. The cells of other cases.
 
 use crate::files::contents;
 use crate::files::hand_in;
+use crate::files::try_case;
+use crate::lending;
 use crate::printing::line;
 use crate::printing::text;
 use casefile::CaseRead;
@@ -13,8 +15,10 @@ pub fn try_others() {
     let mut prices = [0i64; 6];
     let unit = unit_in(b"c1.csv", &mut prices);
     try_scratch(unit, &prices);
+    try_one_price();
     try_schedules(unit, &prices);
     try_first_hour();
+    try_two_layers();
     text(b"\n");
 }
 
@@ -36,17 +40,60 @@ fn try_prices() {
     );
 }
 
+// The long table, two layers with cells beyond them, two layers, and too few.
 fn try_scratch(unit: UnitRecord, prices: &[i64]) {
-    let mut enough = [0i64; 588];
-    let mut short = [0i64; 587];
+    let mut long = [0i64; 588];
+    let mut between = [0i64; 587];
+    let mut two = [0i64; 168];
+    let mut short = [0i64; 167];
     line(
         b"c1 planned with 588 cells,",
-        planned(unit, prices, &mut enough),
+        planned(unit, prices, &mut long),
     );
+    lending::fill(&mut between);
     line(
         b"c1 planned with 587 cells,",
+        planned(unit, prices, &mut between),
+    );
+    line(b"cells as they were,", lending::untouched(&between));
+    line(
+        b"c1 planned with 168 cells,",
+        planned(unit, prices, &mut two),
+    );
+    line(
+        b"c1 planned with 167 cells,",
         planned(unit, prices, &mut short),
     );
+}
+
+// Two layers are the long table.
+fn try_one_price() {
+    let mut prices = [0i64; 1];
+    let unit = unit_in(b"c3.csv", &mut prices);
+    let mut enough = [0i64; 32];
+    let mut short = [0i64; 31];
+    line(
+        b"c3 planned with 32 cells,",
+        planned(unit, &prices, &mut enough),
+    );
+    line(
+        b"c3 planned with 31 cells,",
+        planned(unit, &prices, &mut short),
+    );
+}
+
+// Two layers and no cell more.
+fn try_two_layers() {
+    let mut prices = [0i64; 6];
+    let unit = unit_in(b"c7.csv", &mut prices);
+    let mut scratch = [0i64; 336];
+    text(b"\nc7 with 336 cells\n");
+    try_case(unit, &prices, &mut scratch);
+    let mut prices = [0i64; 16];
+    let unit = unit_in(b"sixteen-prices.csv", &mut prices);
+    let mut scratch = [0i64; 40];
+    text(b"\nsixteen prices with 40 cells\n");
+    try_case(unit, &prices, &mut scratch);
 }
 
 fn planned(unit: UnitRecord, prices: &[i64], scratch: &mut [i64]) -> u64 {

@@ -1,9 +1,11 @@
 //! Months on the library and on the same algorithm in plain Rust, alternating in one run over the same scratch. Prints ns per cell, the ratio of
-//! the two, and the floor: each cell written, read and cleared once. Some cases come once more with permitted hours, all of them and half.
+//! the two, and the floor: each cell written, read and cleared once. Some cases come once more with permitted hours, all of them and half. Two layers
+//! beside the long table come last.
 
+mod layers;
 mod plain;
 
-use ralwinga::{cells_needed, plan_into, report_into, Unit, Window};
+use ralwinga::{cells, plan_into, report_into, Unit, Window};
 use std::hint::black_box;
 use std::time::Instant;
 
@@ -63,22 +65,46 @@ fn permitted(unit: Unit, word: u64) -> Unit {
     Unit { window, ..unit }
 }
 
+/// The unit of a month with what limits it.
+struct Limited {
+    hours: Unit,
+    both: Unit,
+    mwh: Unit,
+    /// 4,001 rungs of MWh left, as the 50 MW unit has at 5,000 MWh, in blocks of 1 MW: 101 outputs.
+    narrow: Unit,
+}
+
+fn limited_units() -> Limited {
+    let u = unit();
+    let hours = Some(200);
+    Limited {
+        hours: Unit { hours, ..u },
+        both: Unit {
+            starts: Some(30),
+            hours,
+            ..u
+        },
+        mwh: Unit {
+            mwh: Some(5000),
+            ..u
+        },
+        narrow: Unit {
+            block: 1,
+            pmax: 104,
+            mwh: Some(1000),
+            ..u
+        },
+    }
+}
+
 fn cases() -> Vec<(&'static str, Unit)> {
     let u = unit();
-    // 4,001 rungs of MWh left, as the 50 MW unit has at 5,000 MWh, in blocks of 1 MW
-    let narrow = Unit {
-        block: 1,
-        mwh: Some(1000),
-        ..u
-    };
-    let hours = Unit {
-        hours: Some(200),
-        ..u
-    };
-    let mwh = Unit {
-        mwh: Some(5000),
-        ..u
-    };
+    let Limited {
+        hours,
+        both,
+        mwh,
+        narrow,
+    } = limited_units();
     // 500 outputs on: reading the plan off is the larger part
     let wide = Unit {
         block: 1,
@@ -99,25 +125,12 @@ fn cases() -> Vec<(&'static str, Unit)> {
         ("hours 200", hours),
         ("hours 200, every hour", permitted(hours, EVERY_HOUR)),
         ("hours 200, 12 hours", permitted(hours, TWELVE_HOURS)),
-        (
-            "starts 30, hours 200",
-            Unit {
-                starts: Some(30),
-                hours: Some(200),
-                ..u
-            },
-        ),
+        ("starts 30, hours 200", both),
         ("mwh 5000, 7 outputs", mwh),
         ("mwh 5000, every hour", permitted(mwh, EVERY_HOUR)),
         ("mwh 5000, 12 hours", permitted(mwh, TWELVE_HOURS)),
         ("mwh 1000, 31 outputs", Unit { pmax: 34, ..narrow }),
-        (
-            "mwh 1000, 101 outputs",
-            Unit {
-                pmax: 104,
-                ..narrow
-            },
-        ),
+        ("mwh 1000, 101 outputs", narrow),
     ]
 }
 
@@ -174,6 +187,10 @@ fn measure(unit: Unit, prices: &[i64], scratch: &mut [i64]) -> Times {
     least
 }
 
+fn is_wanted(wanted: &Option<String>, name: &str) -> bool {
+    wanted.as_ref().is_none_or(|word| name.contains(word))
+}
+
 fn main() {
     // cargo hands on `--bench`; any other word picks the cases that have it in their name
     let wanted = std::env::args().skip(1).find(|word| !word.starts_with('-'));
@@ -184,13 +201,10 @@ fn main() {
         "case", "cells", "library", "plain", "ratio", "plan", "floor", "report/plan"
     );
     for (name, unit) in cases() {
-        if wanted
-            .as_ref()
-            .is_some_and(|word| !name.contains(word.as_str()))
-        {
+        if !is_wanted(&wanted, name) {
             continue;
         }
-        let cells = cells_needed(unit, prices.len()).expect("a case in order");
+        let cells = cells(unit, prices.len()).expect("a case in order").table;
         // touched, so that no page is new to a contestant
         let mut scratch = vec![1i64; cells];
         let times = measure(unit, &prices, &mut scratch);
@@ -207,4 +221,5 @@ fn main() {
             times.library / times.plan,
         );
     }
+    layers::run(&wanted, &prices);
 }

@@ -23,8 +23,8 @@ int main(void) {
         struct ralwinga_clock clock = ralwinga_clock_hour(year, month, day, INTERVALS);
         struct ralwinga_written written =
             ralwinga_listing(off, INTERVALS, 0, report.outcomes, window, out, sizeof out);
-        printf("%" PRIu64 ",%zu,%" PRIu64 ",%" PRIu64 ",%zu,%" PRId64 ",%" PRIu64 ",%" PRIu64 ",%" PRId64, cells.number, cells.cells,
-               assessment.number, plan.number, plan.count, plan.profit, value.number, report.number, report.profit);
+        printf("%" PRIu64 ",%zu,%zu,%" PRIu64 ",%" PRIu64 ",%zu,%" PRId64 ",%" PRIu64 ",%" PRIu64 ",%" PRId64, cells.number, cells.needed,
+               cells.table, assessment.number, plan.number, plan.count, plan.profit, value.number, report.number, report.profit);
         printf(",%" PRIu64 ",%" PRIu64 ",%" PRIu64 "\n", clock.number, clock.hour, written.number);
     }
     return 0;

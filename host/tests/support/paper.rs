@@ -2,7 +2,7 @@
 //! but the types.
 
 use super::calendar;
-use ralwinga::{CostFigures, CostInputs, Outcome, Outcomes, Report, Unit, Window};
+use ralwinga::{Cells, CostFigures, CostInputs, Outcome, Outcomes, Report, Unit, Window};
 
 type Refused = u64;
 
@@ -220,9 +220,7 @@ pub fn answer_to_text(
         return Err(1);
     }
     judge_case(u, prices)?;
-    if cells(u, prices.len()) > most {
-        return Err(8);
-    }
+    used(u, prices.len(), most)?;
     reported(u, prices)
 }
 
@@ -282,13 +280,31 @@ pub fn printed(u: &Unit, answer: &Result<(Report, Vec<u64>), Refused>) -> String
     }
 }
 
-pub fn cells(u: &Unit, n: usize) -> usize {
-    let n = n as u64;
+/// The cells of two layers and of a layer to each interval and one more.
+pub fn cells(u: &Unit, n: usize) -> Cells {
+    let layer = layer(u, n as u64);
+    Cells {
+        needed: 2 * layer,
+        table: (n + 1) * layer,
+    }
+}
+
+/// The cells that are used of so many lent, or 8.
+pub fn used(u: &Unit, n: usize, lent: usize) -> Result<usize, Refused> {
+    let Cells { needed, table } = cells(u, n);
+    match lent {
+        _ if lent >= table => Ok(table),
+        _ if lent >= needed => Ok(needed),
+        _ => Err(8),
+    }
+}
+
+fn layer(u: &Unit, n: u64) -> usize {
     let count = |limit: Option<u64>, most: u64| limit.map_or(0, |figure| figure.min(most));
     let a = count(u.starts, n);
     let b = count(u.hours.map(|h| 4 * h), n);
     let c = count(u.mwh.map(|m| 4 * m / u.block), n * u.pmax);
-    ((n + 1) * (u.mot + u.mdt) * (a + 1) * (b + 1) * (c + 1)) as usize
+    ((u.mot + u.mdt) * (a + 1) * (b + 1) * (c + 1)) as usize
 }
 
 /// A fraction rounded to a whole number, a half going up.

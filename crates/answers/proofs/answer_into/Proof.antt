@@ -6,7 +6,7 @@ use lib.IntN.{ℤ}
 use lib.ListN.{length}
 use Rattle.commitment.specs.declared.Checked.{Checked}
 use Rattle.commitment.specs.Best.{best}
-use Rattle.commitment.specs.Cells.{cellsNeeded}
+use Rattle.commitment.specs.Cells.{cellsUsed}
 use Rattle.casefile.specs.Answers.{pricesLeft}
 use Rattle.casefile.specs.Reading.{unitIn, pricesIn}
 use Rattle.listing.specs.Listing.{bufferAfter}
@@ -40,7 +40,7 @@ prices s found = pricesLeft found (pricesIn (s .args .text .now)) (s .args .pric
 abbrev scratch : tie.Start → Checked → List ℤ
 scratch s found =
     let text = s .args .text .now in
-    scratchAfter found (cellsNeeded (unitIn text) (length (pricesIn text))) (s .args .scratch .now)
+    scratchAfter found (cellsUsed (unitIn text) (length (pricesIn text)) (length (s .args .scratch .now))) (s .args .scratch .now)
 
 report-requires : tie.Need-report-requires
 report-requires c κs =

@@ -7,7 +7,7 @@ use lib.ListN.{length, take, drop}
 use lib.Seq.{length-take-le, take-append-seam}
 use Rattle.commitment.specs.declared.Checked.{Checked}
 use Rattle.commitment.specs.Best.{best}
-use Rattle.commitment.specs.Cells.{cellsNeeded}
+use Rattle.commitment.specs.Cells.{cellsUsed}
 use Rattle.casefile.specs.Reading.{unitIn, pricesIn}
 use Rattle.listing.specs.Listing.{bufferAfter}
 use Rattle.planner.specs.Planning.{scheduleAfter, scratchAfter}
@@ -63,7 +63,9 @@ returns c =
           stored .store .ensures,
           (
             made .1 .1 .0 ∙ ap (λ (found : Checked). scheduleAfter found (best (unitIn text) (pricesIn text)) (a .schedule .now)) (r .plan-is),
-            made .1 .1 .1 ∙ ap (λ (found : Checked). scratchAfter found (cellsNeeded (unitIn text) (length (pricesIn text))) (a .scratch .now)) (r .lent-is),
+            made .1 .1 .1
+                ∙ ap (λ (found : Checked). scratchAfter found (cellsUsed (unitIn text) (length (pricesIn text)) (length (a .scratch .now))) (a .scratch .now))
+                (r .lent-is),
           ),
         ),
       ),

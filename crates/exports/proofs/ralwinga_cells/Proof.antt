@@ -3,8 +3,8 @@ use mathlib.Core.Path.{_≡_, sym, ap, _∙_}
 use mathlib.Core.Bool.{true}
 use borrow.Author.Needs.{needs}
 use Rattle.commitment.specs.declared.Checked.{Checked}
-use Rattle.commitment.specs.Cells.{cellsNeeded}
-use Rattle.commitment.specs.Ranges.{caseChecked}
+use Rattle.commitment.specs.Cells.{cellsNeeded, cellsLong}
+use Rattle.commitment.specs.Ranges.{caseChecked, InOrder}
 use Rattle.commitment.proofs.Passing.{passing}
 use Rattle.exports.specs.Answers.{cellsNumbers}
 use Rattle.exports.specs.Records.{recordOf}
@@ -20,20 +20,25 @@ checked-is c = rw (c .before .record-of .ensures) at (c .check-case .ensures)
 found : (c : tie.After-check-case) {k : Checked} → c .check-case .result ≡ k →
     let a = c .before .before .args in
     let needed = cellsNeeded (recordOf (a .unit)) (a .intervals) in
-    cellsNumbers k needed ≡ cellsNumbers (caseChecked (recordOf (a .unit)) true (a .intervals)) needed
+    let long = cellsLong (recordOf (a .unit)) (a .intervals) in
+    cellsNumbers k needed long ≡ cellsNumbers (caseChecked (recordOf (a .unit)) true (a .intervals)) needed long
 found c e =
     let a = c .before .before .args in
-    ap (λ (x : Checked). cellsNumbers x (cellsNeeded (recordOf (a .unit)) (a .intervals))) (sym e ∙ checked-is c)
+    ap (λ (x : Checked). cellsNumbers x (cellsNeeded (recordOf (a .unit)) (a .intervals)) (cellsLong (recordOf (a .unit)) (a .intervals)))
+    (sym e ∙ checked-is c)
 
-cells-needed-requires : tie.Need-cells-needed-requires
-cells-needed-requires c κs =
+-- a case that passed is in order
+order : (c : tie.After-enum-told) → let check = c .before .before in InOrder (check .before .record-of .result) (check .before .before .args .intervals)
+order c =
     let check = c .before .before in
     passing (check .before .record-of .result) true (check .before .before .args .intervals) (sym (check .check-case .ensures) ∙ c .enum-told .given .1) .order
 
 returns : tie.Need-returns
 returns c =
-    let check = c .before .before .before in
-    rw (c .cells-needed .ensures, check .before .record-of .ensures) (found check (c .before .enum-told .given .1))
+    let needed = c .before in
+    let told = needed .before in
+    let check = told .before .before in
+    rw (needed .cells-needed .ensures, c .cells-long .ensures, check .before .record-of .ensures) (found check (told .enum-told .given .1))
 
 returns-2 : tie.Need-returns-2
 returns-2 c = rw (c .number-of .ensures) (found (c .before .before .before .before) (c .before .before .cause .given .1))
@@ -43,7 +48,8 @@ ralwinga-cells-spec =
     tie.close
     (tie.spec
     (λ c κs. search needs) (λ c κs. search needs) (λ c. search needs)
-    cells-needed-requires
+    (λ c κs. order c)
+    (λ c κs. order (c .before))
     (λ c. search needs) (λ c κs. search needs)
     returns
     returns-2)

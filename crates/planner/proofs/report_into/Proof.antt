@@ -10,7 +10,7 @@ use lib.ListN.{length}
 use Rattle.commitment.specs.declared.Checked.{Checked}
 use Rattle.commitment.specs.declared.Checked.the-variants.{Passed}
 use Rattle.commitment.specs.Best.{best}
-use Rattle.commitment.specs.Cells.{cellsNeeded}
+use Rattle.commitment.specs.Cells.{cellsUsed}
 use Rattle.commitment.specs.Valuing.{outcomesOf}
 use Rattle.commitment.proofs.Causes.{checkedThen}
 use Rattle.planner.specs.declared.Reported.{Reported}
@@ -37,7 +37,7 @@ abbrev schedule : tie.Start → Checked → List ℕ
 schedule c k = scheduleAfter k (best (c .args .unit) (c .args .prices .now)) (c .args .schedule .now)
 
 abbrev cells : tie.Start → Checked → List ℤ
-cells c k = scratchAfter k (cellsNeeded (c .args .unit) (length (c .args .prices .now))) (c .args .scratch .now)
+cells c k = scratchAfter k (cellsUsed (c .args .unit) (length (c .args .prices .now)) (length (c .args .scratch .now))) (c .args .scratch .now)
 
 module _ (c : tie.Start) {k : Checked} (found : lentOf c ≡ k) where
   whole : checkedThen k (bestOf c) ≡ planChecked (c .args .unit) (c .args .prices .now) (length (c .args .scratch .now)) (length (c .args .schedule .now))

@@ -5,7 +5,7 @@ use mathlib.Core.List.{List}
 use lib.IntN.{ℤ}
 use lib.ListN.{length}
 use Rattle.commitment.specs.declared.Checked.{Checked}
-use Rattle.commitment.specs.Cells.{cellsNeeded}
+use Rattle.commitment.specs.Cells.{cellsUsed}
 use Rattle.commitment.specs.Valuing.{outcomesOf}
 use Rattle.commitment.proofs.Causes.{checkedThen}
 use Rattle.planner.specs.declared.Valued.{Valued}
@@ -21,7 +21,7 @@ abbrev answer : tie.Start → Checked → Valued
 answer c k = valuedBy (checkedThen k (scheduleChecked (c .args .unit) (c .args .prices .now))) (outcomesOf (c .args .unit) (c .args .prices .now))
 
 abbrev cells : tie.Start → Checked → List ℤ
-cells c k = scratchAfter k (cellsNeeded (c .args .unit) (length (c .args .prices .now))) (c .args .scratch .now)
+cells c k = scratchAfter k (cellsUsed (c .args .unit) (length (c .args .prices .now)) (length (c .args .scratch .now))) (c .args .scratch .now)
 
 module _ (c : tie.Start) {k : Checked} (found : lentChecked (c .args .unit) (c .args .prices .now) true (length (c .args .scratch .now)) ≡ k) where
   lent-is : k ≡ valueLent (c .args .unit) (c .args .prices .now) (length (c .args .scratch .now))

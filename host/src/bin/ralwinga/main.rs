@@ -9,6 +9,7 @@ mod pictures;
 mod planning;
 mod progress;
 mod stop;
+mod ways;
 
 use arguments::{in_one_line, Arguments, Command, CompletionWords, PlanWords};
 use clap::{CommandFactory, Parser};

@@ -5,6 +5,7 @@ use crate::memory::{at_once, free_cells, scratch_of, side_by_side, Cap, Scratch}
 use crate::planning::{printed, Planned, Prepared};
 use crate::progress::Progress;
 use crate::stop::{is_standard_input, print, say, shown, Stop};
+use crate::ways::Way;
 use rayon::prelude::*;
 use rayon::ThreadPoolBuilder;
 use std::cell::RefCell;
@@ -105,13 +106,14 @@ fn planned(
     jobs: Option<usize>,
 ) -> Result<Vec<Entry>, Stop> {
     let ready: Vec<&Prepared> = prepared.iter().flatten().collect();
-    let needs: Vec<usize> = ready.iter().map(|case| case.cells).collect();
+    let needs: Vec<usize> = ready.iter().map(|case| case.scratch(case.way)).collect();
     let threads = jobs.unwrap_or_else(cores);
     let jobs = side_by_side(&needs, threads, free_cells());
     say(format!(
-        "{}, {jobs} at a time, at most {}",
+        "{}, {jobs} at a time, at most {}{}",
         counted(prepared.len()),
-        scratch_of(at_once(&needs, jobs))
+        scratch_of(at_once(&needs, jobs)),
+        in_two_layers(&ready)
     ));
     let progress = Progress::over(&ready, jobs);
     let entry = |(prepared, listing): (Result<Prepared, Stop>, &Option<PathBuf>)| {
@@ -125,6 +127,16 @@ fn planned(
         pool.map_err(|error| Stop::words(format!("cannot start {jobs} threads: {error}")))?;
     let cases = prepared.into_par_iter().zip(listings).with_max_len(1);
     Ok(pool.install(|| cases.map(entry).collect()))
+}
+
+/// How many of the cases are planned in two layers, where any are.
+fn in_two_layers(ready: &[&Prepared]) -> String {
+    let shorter = ready.iter().filter(|case| case.way == Way::TwoLayers);
+    match shorter.count() {
+        0 => String::new(),
+        1 => ": 1 in two layers, since its long table does not fit".to_string(),
+        cases => format!(": {cases} in two layers, since their long tables do not fit"),
+    }
 }
 
 fn cores() -> usize {

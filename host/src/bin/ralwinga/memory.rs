@@ -1,6 +1,6 @@
 //! Memory for the planner's cells: what a case may take, how many cases fit at once, and what is said of it.
 
-use ralwinga::{cells_needed, Unit};
+use ralwinga::{cells, Cells, Unit};
 use std::time::{Duration, Instant};
 
 const CELL_BYTES: usize = 8;
@@ -31,7 +31,7 @@ impl Cap {
     pub fn below(cells: usize) -> Cap {
         Cap {
             cells: cells - 1,
-            from: "the system gives fewer than",
+            from: "the system gives at most",
         }
     }
 }
@@ -58,22 +58,29 @@ const CHUNK: usize = 1_000_000;
 pub struct Scratch(Vec<i64>);
 
 impl Scratch {
-    /// So many cells, if the system has them; `told` hears how many more are there and how long that took.
-    pub fn cells(&mut self, needed: usize, told: impl Fn(usize, Duration)) -> Option<&mut [i64]> {
-        if self.0.len() >= needed {
-            told(needed, Duration::ZERO);
-            return self.0.get_mut(..needed);
+    /// Whether the system has so many cells, which are then there; `told` hears how many more are and how long that took.
+    pub fn has(&mut self, cells: usize, told: impl Fn(usize, Duration)) -> bool {
+        if self.0.len() >= cells {
+            told(cells, Duration::ZERO);
+            return true;
         }
         // what is too short goes before more is asked for
         self.0 = Vec::new();
-        self.0.try_reserve_exact(needed).ok()?;
-        while self.0.len() < needed {
+        if self.0.try_reserve_exact(cells).is_err() {
+            return false;
+        }
+        while self.0.len() < cells {
             let began = Instant::now();
-            let more = CHUNK.min(needed - self.0.len());
+            let more = CHUNK.min(cells - self.0.len());
             self.0.resize(self.0.len() + more, 0);
             told(more, began.elapsed());
         }
-        Some(&mut self.0)
+        true
+    }
+
+    /// The first of the cells that are there.
+    pub fn first(&mut self, cells: usize) -> &mut [i64] {
+        &mut self.0[..cells]
     }
 }
 
@@ -101,22 +108,26 @@ pub fn scratch_of(cells: usize) -> String {
     }
 }
 
-/// The most intervals, fewer than these, whose case fits in so many cells.
-pub fn most_intervals(unit: Unit, intervals: usize, cells: usize) -> Option<usize> {
-    let fits = |n: &usize| cells_needed(unit, *n).is_ok_and(|needed| needed <= cells);
-    (1..intervals).rev().find(fits)
+/// Two layers of a case, and why not the long table.
+pub fn two_layers_of(cells: Cells) -> String {
+    format!(
+        "{}: two layers, since the long table of {} cells does not fit",
+        scratch_of(cells.needed),
+        cells.table
+    )
 }
 
 /// The need, what there is, and what would make the case fit.
 pub fn too_large(unit: Unit, intervals: usize, needed: usize, cap: Cap) -> String {
+    let fits = |unit, n| cells(unit, n).is_ok_and(|cells| cells.needed <= cap.cells);
     let mut ways = vec![format!("{needed} cells")];
-    if let Some(n) = most_intervals(unit, intervals, cap.cells) {
+    if let Some(n) = (1..intervals).rev().find(|n| fits(unit, *n)) {
         ways.push(format!("the first {n} of the {intervals} prices"));
     }
     ways.extend(
         freed(unit)
             .into_iter()
-            .filter(|(_, unit)| cells_needed(*unit, intervals).is_ok_and(|n| n <= cap.cells))
+            .filter(|(_, unit)| fits(*unit, intervals))
             .map(|(name, _)| format!("{name} none")),
     );
     format!(

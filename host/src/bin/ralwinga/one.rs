@@ -1,7 +1,7 @@
 //! One case, planned and told as its listing or as an explanation.
 
 use crate::arguments::CaseOptions;
-use crate::memory::{scratch_of, Cap, Scratch};
+use crate::memory::{Cap, Scratch};
 use crate::planning::{Planned, Prepared};
 use crate::progress::Progress;
 use crate::stop::{print, say, Stop};
@@ -40,7 +40,7 @@ fn answer(
 
 fn prepare_and_plan(case: &Path, options: &CaseOptions) -> Result<(Prepared, Planned), Stop> {
     let prepared = Prepared::from_file(case, Cap::new(options.cells))?;
-    say(scratch_of(prepared.cells));
+    say(prepared.said_of_scratch());
     let progress = Progress::over(&[&prepared], 1);
     let planned = prepared.plan(&mut Scratch::default(), &progress)?;
     Ok((prepared, planned))

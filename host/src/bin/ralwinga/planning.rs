@@ -1,10 +1,11 @@
 //! One case from its file to its plan.
 
-use crate::memory::{too_large, Cap, Scratch};
+use crate::memory::{scratch_of, too_large, two_layers_of, Cap, Scratch};
 use crate::progress::Progress;
-use crate::stop::{is_standard_input, Stop};
+use crate::stop::{is_standard_input, say, shown, Stop};
+use crate::ways::Way;
 use ralwinga::reader::read_case;
-use ralwinga::{cells_needed, listing, refusal_line, report_into, Case, Report, Unit};
+use ralwinga::{cells, listing, refusal_line, report_into, Case, Cells, Report, Unit};
 use std::io::Read;
 use std::path::{Path, PathBuf};
 
@@ -18,11 +19,12 @@ pub fn text_of(file: &Path) -> Result<Vec<u8>, Stop> {
     read.map_err(|error| Stop::unread(file, error))
 }
 
-/// A case that is in order and may have the cells that it needs.
+/// A case that is in order and may have the cells that it needs, and the way to plan it in what it may have.
 pub struct Prepared {
     pub file: PathBuf,
     pub case: Case,
-    pub cells: usize,
+    pub cells: Cells,
+    pub way: Way,
 }
 
 /// The plan of a unit and what it earns.
@@ -36,25 +38,44 @@ impl Prepared {
     pub fn from_file(file: &Path, cap: Cap) -> Result<Prepared, Stop> {
         let text = text_of(file)?;
         let case = read_case(&text).map_err(|fault| Stop::refused(file, fault))?;
-        let cells = cells_needed(case.unit, case.prices.len())
-            .map_err(|refusal| Stop::refused(file, refusal))?;
+        let cells =
+            cells(case.unit, case.prices.len()).map_err(|refusal| Stop::refused(file, refusal))?;
+        let way =
+            Way::fastest_in(cap.cells, cells).ok_or_else(|| no_way(file, &case, cells, cap))?;
         let file = file.to_path_buf();
-        let prepared = Prepared { file, case, cells };
-        if cells <= cap.cells {
-            Ok(prepared)
-        } else {
-            Err(prepared.too_large(cap))
+        Ok(Prepared {
+            file,
+            case,
+            cells,
+            way,
+        })
+    }
+
+    /// The cells that a way lends it.
+    pub fn scratch(&self, way: Way) -> usize {
+        way.scratch(self.cells)
+    }
+
+    /// The cells that a way works out for it.
+    pub fn work(&self, way: Way) -> f64 {
+        way.work(self.cells, self.case.prices.len())
+    }
+
+    /// The scratch that it takes, and which way that is where it is not the long table.
+    pub fn said_of_scratch(&self) -> String {
+        match self.way {
+            Way::LongTable => scratch_of(self.cells.table),
+            Way::TwoLayers => two_layers_of(self.cells),
         }
     }
 
     pub fn plan(&self, scratch: &mut Scratch, progress: &Progress) -> Result<Planned, Stop> {
-        let scratch = scratch
-            .cells(self.cells, |cells, took| progress.handed_out(cells, took))
-            .ok_or_else(|| self.too_large(Cap::below(self.cells)))?;
+        let way = self.way_in(scratch, progress)?;
+        let scratch = scratch.first(self.scratch(way));
         let Case { unit, prices } = &self.case;
         let mut schedule = vec![0; prices.len()];
         let report = progress
-            .planning(self.cells, || {
+            .planning(self.work(way), || {
                 report_into(*unit, prices, scratch, &mut schedule)
             })
             .map_err(|refusal| Stop::refused(&self.file, refusal))?;
@@ -65,10 +86,26 @@ impl Prepared {
         })
     }
 
-    fn too_large(&self, cap: Cap) -> Stop {
-        let said = too_large(self.case.unit, self.case.prices.len(), self.cells, cap);
-        Stop::too_large(&self.file, said)
+    /// The way chosen; another where the system does not give its memory, though that was free.
+    fn way_in(&self, scratch: &mut Scratch, progress: &Progress) -> Result<Way, Stop> {
+        let told = |cells, took| progress.handed_out(cells, took);
+        let mut way = self.way;
+        while !scratch.has(self.scratch(way), told) {
+            let cap = Cap::below(self.scratch(way));
+            let other = Way::fastest_in(cap.cells, self.cells)
+                .ok_or_else(|| no_way(&self.file, &self.case, self.cells, cap))?;
+            progress.goes(self, way, other);
+            way = other;
+            let (file, said) = (shown(&self.file), two_layers_of(self.cells));
+            say(format!("{file}: {said}"));
+        }
+        Ok(way)
     }
+}
+
+fn no_way(file: &Path, case: &Case, cells: Cells, cap: Cap) -> Stop {
+    let said = too_large(case.unit, case.prices.len(), cells.needed, cap);
+    Stop::too_large(file, said)
 }
 
 impl Planned {

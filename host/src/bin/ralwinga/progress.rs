@@ -1,63 +1,64 @@
 //! A bar on standard error while cases are planned, where that is a terminal.
 //!
-//! A cell is counted when the system has handed out its memory, which is known, and again when it is planned. The planner answers in one call that
-//! tells nothing on its way, so that planning goes by time, at a rate measured on the front of the largest case when the run begins, and is set
-//! right whenever a case is done.
+//! A cell is counted when the system has handed out its memory, which is known, and again each time it is worked out. The planner answers in one
+//! call that tells nothing on its way, so that planning goes by time, at a rate measured on the front of the case with the most work when the run
+//! begins, and is set right whenever a case is done.
 
-use crate::memory::most_intervals;
 use crate::planning::Prepared;
+use crate::ways::Way;
 use indicatif::{ProgressBar, ProgressStyle};
-use ralwinga::{cells_needed, report_into, Case};
+use ralwinga::{cells, report_into, Case};
 use std::io::IsTerminal;
 use std::sync::mpsc::{channel, RecvTimeoutError, Sender};
 use std::sync::{Arc, Mutex, MutexGuard};
 use std::thread::JoinHandle;
 use std::time::{Duration, Instant};
 
-/// The cells that the rate is measured on: some milliseconds of work.
-const SAMPLE_CELLS: usize = 4_000_000;
+/// The work that the rate is measured on: some milliseconds.
+const SAMPLE_CELLS: f64 = 4e6;
 const TICK: Duration = Duration::from_millis(100);
 /// A case that is not done is not shown as done.
 const NEARLY: f64 = 0.99;
 
-/// The work on cells so far.
+/// The work on cells: all of it, and what is done.
 #[derive(Default)]
-struct Done {
-    /// Cells whose memory was handed out, and the seconds that took, those of all cases added up.
+struct Tally {
+    /// Cells whose memory is to be handed out and was, and the seconds that took, those of all cases added up.
+    to_hand_out: f64,
     handed_out: f64,
     handing_out: f64,
-    /// Cells and number of the cases that are done.
+    /// Cells to be worked out, and the work and number of the cases that are done.
+    to_plan: f64,
     planned: f64,
     cases: usize,
-    /// When the planning of each other case began, and its cells.
+    /// When the planning of each other case began, and its work.
     under_way: Vec<(Instant, f64)>,
 }
 
 /// What is to be done, at what rate of planning, and what is done.
 struct Work {
-    cells: f64,
     cases: usize,
     jobs: f64,
     cells_per_second: f64,
-    done: Mutex<Done>,
+    tally: Mutex<Tally>,
 }
 
 impl Work {
-    fn done(&self) -> MutexGuard<'_, Done> {
-        self.done.lock().expect("no thread ends while it counts")
+    fn tally(&self) -> MutexGuard<'_, Tally> {
+        self.tally.lock().expect("no thread ends while it counts")
     }
 
     /// The share that is done, and the seconds left.
     fn estimate(&self) -> (f64, f64) {
-        let done = self.done();
-        let by_rate = |(began, cells): &(Instant, f64)| {
-            (began.elapsed().as_secs_f64() * self.cells_per_second).min(NEARLY * cells)
+        let tally = self.tally();
+        let by_rate = |(began, work): &(Instant, f64)| {
+            (began.elapsed().as_secs_f64() * self.cells_per_second).min(NEARLY * work)
         };
-        let planned = done.planned + done.under_way.iter().map(by_rate).sum::<f64>();
-        let share = (done.handed_out + planned) / (2.0 * self.cells);
-        let per_cell = done.handing_out / done.handed_out.max(1.0);
-        let handing_out = (self.cells - done.handed_out) * per_cell;
-        let planning = (self.cells - planned) / self.cells_per_second;
+        let planned = tally.planned + tally.under_way.iter().map(by_rate).sum::<f64>();
+        let share = (tally.handed_out + planned) / (tally.to_hand_out + tally.to_plan);
+        let per_cell = tally.handing_out / tally.handed_out.max(1.0);
+        let handing_out = (tally.to_hand_out - tally.handed_out) * per_cell;
+        let planning = (tally.to_plan - planned) / self.cells_per_second;
         (share, (handing_out + planning) / self.jobs)
     }
 
@@ -65,7 +66,7 @@ impl Work {
         let (share, seconds) = self.estimate();
         let mut said = format!("about {seconds:.0} s left");
         if self.cases > 1 {
-            let done = self.done().cases;
+            let done = self.tally().cases;
             said = format!("{said}, {done} of {} cases done", self.cases);
         }
         bar.set_message(said);
@@ -87,42 +88,55 @@ struct Shown {
 impl Progress {
     /// Over cases that are planned so many at a time.
     pub fn over(cases: &[&Prepared], jobs: usize) -> Progress {
-        let largest = cases.iter().max_by_key(|case| case.cells);
-        let shown = largest
+        let work = |case: &Prepared| case.work(case.way);
+        let longest = cases.iter().max_by(|a, b| work(a).total_cmp(&work(b)));
+        let shown = longest
             .filter(|_| std::io::stderr().is_terminal())
-            .map(|largest| {
+            .map(|longest| {
                 Shown::new(Work {
-                    cells: cases.iter().map(|case| case.cells as f64).sum(),
                     cases: cases.len(),
                     jobs: jobs as f64,
-                    cells_per_second: measured_rate(largest),
-                    done: Mutex::default(),
+                    cells_per_second: measured_rate(longest),
+                    tally: Mutex::new(Tally {
+                        to_hand_out: cases.iter().map(|c| c.scratch(c.way) as f64).sum(),
+                        to_plan: cases.iter().map(|case| work(case)).sum(),
+                        ..Tally::default()
+                    }),
                 })
             });
         Progress(shown)
     }
 
-    /// So many cells more have their memory.
-    pub fn handed_out(&self, cells: usize, took: Duration) {
+    /// A case goes another way than was counted on.
+    pub fn goes(&self, case: &Prepared, from: Way, to: Way) {
         if let Some(shown) = &self.0 {
-            let mut done = shown.work.done();
-            done.handed_out += cells as f64;
-            done.handing_out += took.as_secs_f64();
+            let mut tally = shown.work.tally();
+            tally.to_hand_out += case.scratch(to) as f64 - case.scratch(from) as f64;
+            tally.to_plan += case.work(to) - case.work(from);
         }
     }
 
-    /// The planning of a case of so many cells.
-    pub fn planning<T>(&self, cells: usize, plan: impl FnOnce() -> T) -> T {
+    /// So many cells more have their memory.
+    pub fn handed_out(&self, cells: usize, took: Duration) {
+        if let Some(shown) = &self.0 {
+            let mut tally = shown.work.tally();
+            tally.handed_out += cells as f64;
+            tally.handing_out += took.as_secs_f64();
+        }
+    }
+
+    /// The planning of a case of so much work.
+    pub fn planning<T>(&self, cells: f64, plan: impl FnOnce() -> T) -> T {
         let Some(Shown { work, .. }) = &self.0 else {
             return plan();
         };
-        let begun = (Instant::now(), cells as f64);
-        work.done().under_way.push(begun);
+        let begun = (Instant::now(), cells);
+        work.tally().under_way.push(begun);
         let answer = plan();
-        let mut done = work.done();
-        done.under_way.retain(|other| *other != begun);
-        done.planned += cells as f64;
-        done.cases += 1;
+        let mut tally = work.tally();
+        tally.under_way.retain(|other| *other != begun);
+        tally.planned += cells;
+        tally.cases += 1;
         answer
     }
 }
@@ -158,20 +172,20 @@ impl Drop for Shown {
     }
 }
 
-/// Cells per second that the front of a case is planned at.
+/// Cells per second that the front of a case is planned at, the way that all of it goes.
 fn measured_rate(prepared: &Prepared) -> f64 {
-    let Case { unit, prices } = &prepared.case;
-    let front = if prepared.cells <= SAMPLE_CELLS {
-        prices.len()
-    } else {
-        most_intervals(*unit, prices.len(), SAMPLE_CELLS).unwrap_or(1)
-    };
-    let cells = cells_needed(*unit, front).unwrap_or(0);
-    let mut scratch = vec![0; cells];
+    let Prepared { case, way, .. } = prepared;
+    let Case { unit, prices } = case;
+    let sizes = |n| cells(*unit, n).unwrap_or(prepared.cells);
+    let front = (1..=prices.len())
+        .rev()
+        .find(|n| way.work(sizes(*n), *n) <= SAMPLE_CELLS)
+        .unwrap_or(1);
+    let mut scratch = vec![0; way.scratch(sizes(front))];
     let mut schedule = vec![0; front];
     // touched once, so that the memory is there; the time is what is asked for, and the front may have no schedule
     scratch.fill(1);
     let began = Instant::now();
     let _ = report_into(*unit, &prices[..front], &mut scratch, &mut schedule);
-    cells as f64 / began.elapsed().as_secs_f64().max(1e-9)
+    way.work(sizes(front), front) / began.elapsed().as_secs_f64().max(1e-9)
 }

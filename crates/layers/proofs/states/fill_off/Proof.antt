@@ -1,4 +1,5 @@
 -- The state's section is copied from that of the state that off leads to; where there is none, it holds no schedule.
+use mathlib.Core.Logic.{inl}
 use Prim.Native.Nat.{_+_, _*_, _≤_}
 use native.Mathlib.Omega.{arith}
 use borrow.Author.Needs.{needs}
@@ -19,7 +20,11 @@ there c =
 copy-requires : tie.Need-copy-requires
 copy-requires c κs =
     let o = c .before .before .before .before in
-    record { before = omega (arith, here o); fits = omega (arith, there (c .before), o .pre .1) }
+    record {
+      beside = inl (omega (arith, here o));
+      fits = omega (arith, there (c .before), o .pre .1);
+      room = omega (arith, here o, o .pre .1);
+    }
 
 returns : tie.Need-returns
 returns c =

@@ -1,12 +1,9 @@
 -- The plan from the opening cell is the best of the case.
-use mathlib.Core.Path.{_≡_, refl, sym, ap, ap₂, _∙_}
-use mathlib.Core.List.{List, _++_}
+use mathlib.Core.Path.{_≡_, ap₂, _∙_}
+use mathlib.Core.List.{_++_}
 use Prim.Native.Nat.{ℕ}
-use lib.IntN.{ℤ}
-use lib.ListN.{length, drop}
-use Rattle.commitment.specs.declared.BestProfit.the-variants.{Nothing}
-use Rattle.commitment.specs.declared.Checked.the-variants.{Passed}
-use Rattle.commitment.specs.Best.{Plan, nothing, plan, profitOf, scheduleOf, best}
+use lib.ListN.{drop}
+use Rattle.commitment.specs.Best.{Plan, scheduleOf, best}
 use Rattle.commitment.specs.Keeping.{opensIn}
 use Rattle.commitment.specs.Tries.{triesOver}
 use Rattle.optimality.specs.declared.Figures.{Figures}
@@ -14,10 +11,8 @@ use Rattle.optimality.specs.declared.Cell.{Cell}
 use Rattle.optimality.specs.Machine.{anywhere}
 use Rattle.optimality.specs.Cells.{figuresOf, quartersOf, planAt}
 use Rattle.optimality.proofs.Quarters.{quarters-length}
-use Rattle.optimality.proofs.Optimal.{plan-length}
 use Rattle.table.specs.Reading.{PlanFrom}
-use Rattle.planner.specs.Planning.{scheduleAfter}
-use Rattle.planner.proofs.Worked.{room, opening-inside, opening-plan, opening-plans}
+use Rattle.planner.proofs.Worked.{room, opening-inside, opening-plan, opening-plans, plan-in-front}
 use borrow.Author.Needs.{needs}
 use Rattle.planner.proofs.tables.read_plan.Statement.{statement}
 use Rattle.planner.proofs.tables.read_plan.Tie as tie
@@ -34,16 +29,10 @@ read-off-requires : tie.Need-read-off-requires
 read-off-requires c κs =
     let s = c .before .before .before in
     let a = s .args in
-    let inside = opening-inside (a .unit) (a .prices .now) (a .cells .now) (s .pre .0) in (
+    let inside = opening-inside (a .unit) (a .prices .now) (a .cells .now) (s .pre .0 .told) in (
       (rw (s .pre .1 .0 .0) (room (a .unit) (a .prices .now) (a .cells .now) (s .pre .0)), s .pre .1 .0 .1, s .pre .0 .priced),
       ((quartersOf (a .unit) (a .prices .now), plans (c .before)), (rw (s .pre .1 .0 .0, c .before .opening-cell .ensures) inside, s .pre .1 .0 .2)),
     )
-
--- the plan read off, in the schedule's front
-in-front : (b : Plan) (n : ℕ) (was : List ℕ) → (profitOf b ≡ Nothing → ⊥) → ((s : List ℕ) (p : ℤ) → b ≡ plan s p → length s ≡ n)
-    → scheduleOf b ++ drop n was ≡ scheduleAfter Passed b was
-in-front nothing n was some long = absurd (some refl)
-in-front (plan s p) n was some long = ap (λ (k : ℕ). s ++ drop k was) (sym (long s p refl))
 
 returns : tie.Need-returns
 unfolding figuresOf
@@ -56,13 +45,11 @@ returns c =
     let off = read .read-off .ensures quarters (plans cell) in
     let same : planAt (a .f) anywhere quarters (cell .opening-cell .result) ≡ best (a .unit) (a .prices .now) =
     ap₂ (λ (f : Figures) (x : Cell). planAt f anywhere quarters x) (s .pre .1 .0 .0) (cell .opening-cell .ensures)
-    ∙ opening-plan (a .unit) (a .prices .now) (a .cells .now) (s .pre .0) in
-    let order = s .pre .0 .told .order in (
+    ∙ opening-plan (a .unit) (a .prices .now) (a .cells .now) (s .pre .0 .told) in (
       off .1 ∙ ap₂ (λ (f : Figures) (b : Plan). triesOver (f .block) (f .pmin) (scheduleOf b)) (s .pre .1 .0 .0) same,
       off .0
           ∙ ap₂ (λ (b : Plan) (n : ℕ). scheduleOf b ++ drop n (a .schedule .now)) same (quarters-length (opensIn (a .unit .permit)) 0 (a .prices .now))
-          ∙ in-front (best (a .unit) (a .prices .now)) (length (a .prices .now)) (a .schedule .now) (s .pre .1 .1)
-          (plan-length (a .unit) (order .ranges) (order .shape) (a .prices .now)),
+          ∙ plan-in-front (a .unit) (a .prices .now) (a .cells .now) (s .pre .0 .told) (a .schedule .now) (s .pre .1 .1),
     )
 
 pub read-plan-spec : {M : Type 1} → statement M

@@ -10,7 +10,7 @@ use Rattle.planner.proofs.tables.report_case.Statement.{statement}
 use Rattle.planner.proofs.tables.report_case.Tie as tie
 
 passed : (c : tie.Start) → Lent (c .args .unit) (c .args .prices .now) true (length (c .args .scratch .now))
-passed c = lent (c .args .unit) (c .args .prices .now) true (length (c .args .scratch .now)) (c .pre .0)
+passed c = lent (c .args .unit) (c .args .prices .now) true (length (c .args .scratch .now)) (c .pre .0 .0)
 
 fit : (c : tie.After-layer-cells) →
     let s = c .before .before .before in
@@ -19,7 +19,7 @@ fit c =
     let s = c .before .before .before in
     let f = c .before .figures-of in
     let w = c .layer-cells in
-    fitted (s .args .unit) (s .args .prices .now) (length (s .args .scratch .now)) (passed s) (f .result) (f .ensures) (w .result) (w .ensures)
+    fitted (s .args .unit) (s .args .prices .now) (length (s .args .scratch .now)) (passed s) (s .pre .1) (f .result) (f .ensures) (w .result) (w .ensures)
 
 figures-of-requires : tie.Need-figures-of-requires
 figures-of-requires c κs = passed (c .before) .case .order
@@ -49,7 +49,7 @@ read-report-requires c κs =
     let fill = filled .fill-all in
     let s = layer .before .before .before in (
       fit layer .works (hours .hours-of .result) (hours .hours-of .ensures) (fill .last .0) (fill .kept .0) (fill .ensures .0),
-      (layer .before .figures-of .ensures, layer .layer-cells .ensures, s .pre .1),
+      (layer .before .figures-of .ensures, layer .layer-cells .ensures, s .pre .0 .1),
     )
 
 mul-clear : tie.Need-mul-clear
@@ -73,7 +73,7 @@ returns c =
     let needed = (length (s .args .prices .now) + 1) * layer .layer-cells .result in
     let scratch =
     c .before .clear .ensures
-    ∙ cleared (s .args .unit) (s .args .prices .now) needed (s .args .scratch .now) (fill .last .0) (fit layer .all) (fill .ensures .1) in
+    ∙ cleared needed _ (s .args .scratch .now) (fill .last .0) (fit layer .all) (fill .ensures .1) in
     (answer .0, (answer .1, scratch))
 
 pub report-case-spec : {M : Type 1} → statement M

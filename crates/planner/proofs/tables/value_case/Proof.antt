@@ -11,7 +11,7 @@ use Rattle.planner.proofs.tables.value_case.Statement.{statement}
 use Rattle.planner.proofs.tables.value_case.Tie as tie
 
 passed : (c : tie.Start) → Lent (c .args .unit) (c .args .prices .now) true (length (c .args .scratch .now))
-passed c = lent (c .args .unit) (c .args .prices .now) true (length (c .args .scratch .now)) (c .pre)
+passed c = lent (c .args .unit) (c .args .prices .now) true (length (c .args .scratch .now)) (c .pre .0)
 
 fit : (c : tie.After-layer-cells) →
     let s = c .before .before in
@@ -20,7 +20,7 @@ fit c =
     let s = c .before .before in
     let f = c .before .figures-of in
     let w = c .layer-cells in
-    fitted (s .args .unit) (s .args .prices .now) (length (s .args .scratch .now)) (passed s) (f .result) (f .ensures) (w .result) (w .ensures)
+    fitted (s .args .unit) (s .args .prices .now) (length (s .args .scratch .now)) (passed s) (s .pre .1) (f .result) (f .ensures) (w .result) (w .ensures)
 
 figures-of-requires : tie.Need-figures-of-requires
 figures-of-requires c κs = passed c .case .order
@@ -72,7 +72,7 @@ returns c =
     let needed = (length (s .args .prices .now) + 1) * layer .layer-cells .result in
     let scratch =
     c .before .clear .ensures
-    ∙ cleared (s .args .unit) (s .args .prices .now) needed (s .args .scratch .now) (fill .last .0) (fit layer .all) (fill .ensures .1) in
+    ∙ cleared needed _ (s .args .scratch .now) (fill .last .0) (fit layer .all) (fill .ensures .1) in
     (read .read-outcomes .ensures, scratch)
 
 pub value-case-spec : {M : Type 1} → statement M

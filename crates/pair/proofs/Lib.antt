@@ -1,0 +1,2 @@
+-- The layer behind, one interval earlier, and from there to the front.
+pub mod Rolling

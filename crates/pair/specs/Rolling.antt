@@ -1,0 +1,36 @@
+-- Two layers of scratch, for one interval: its own at the front, and the one behind it.
+use mathlib.Core.Path.{_≡_}
+use mathlib.Core.List.{List}
+use Prim.Native.Nat.{ℕ, suc, _+_, _≤_}
+use lib.IntN.{ℤ}
+use lib.ListN.{length, drop}
+use Rattle.commitment.specs.declared.BestProfit.{BestProfit}
+use Rattle.commitment.specs.declared.windows.Hours.{Hours}
+use Rattle.commitment.specs.Bounds.{mostIntervals}
+use Rattle.commitment.specs.Ranges.{Priced}
+use Rattle.commitment.specs.Windows.{Clocked}
+use Rattle.optimality.specs.declared.Cell.{Cell}
+use Rattle.optimality.specs.declared.Figures.{Figures}
+use Rattle.optimality.specs.Machine.{Quarter}
+use Rattle.optimality.specs.Cells.{InTable}
+use Rattle.geometry.specs.Geometry.{width}
+use Rattle.geometry.specs.Layers.{Layer, Room, storedAt, inFront}
+use Rattle.layers.specs.Turns.{quarterStored}
+
+-- what is lent: room for one interval, whatever the number of prices, and the hours in which the unit may run
+pub record Lent (f : Figures) (w : ℕ) (prices cells : List ℤ) (hours : Hours) : Type 0 where
+  pub room : Room f 1 (length cells)
+  pub wide : w ≡ width f
+  pub short : length prices ≤ mostIntervals
+  pub priced : Priced prices
+  pub clocked : Clocked hours
+
+-- the front holds the best profits over the quarters after the t-th, the layer behind it those over the quarters after the next
+pub record Rolled (f : Figures) (ends : Cell → BestProfit) (quarters : List Quarter) (t : ℕ) (cells : List ℤ) : Type 0 where
+  pub front : Layer f ends (drop t quarters) (inFront f cells)
+  pub behind : Layer f ends (drop (suc t) quarters) (storedAt f cells (width f))
+
+-- every cell of the layer behind is made from what stood there, and nothing beyond the two is touched
+pub record Earlier (f : Figures) (q : Quarter) (was cells : List ℤ) : Type 0 where
+  pub inside : (c : Cell) → InTable f c → storedAt f cells (width f) c ≡ quarterStored f (storedAt f was (width f)) c q
+  pub beyond : drop (width f + width f) cells ≡ drop (width f + width f) was

@@ -1,0 +1,97 @@
+-- Two layers of scratch, clause by clause: every answer is the same from two layers on, whichever cells are used; those used are 0 and those beyond are
+-- as they were; 8 is fewer than two layers.
+use mathlib.Core.Path.{_≡_, refl, sym, ap, _∙_}
+use mathlib.Core.List.{List, _++_}
+use Prim.Native.Nat.{ℕ, _≤_, _<_}
+use borrow.Author.Tests.{le-leb}
+use lib.Dec.{leb, lit≤}
+use lib.IntN.{ℤ, pos}
+use lib.ListN.{length, drop, replicate}
+use Rattle.commitment.specs.declared.Cause.the-variants.{Scratch}
+use Rattle.commitment.specs.declared.Checked.{Checked}
+use Rattle.commitment.specs.declared.Checked.the-variants.{Passed}
+use Rattle.commitment.specs.declared.UnitRecord.{UnitRecord}
+use Rattle.commitment.specs.Best.{best}
+use Rattle.commitment.specs.Cells.{cellsNeeded, cellsLong, cellsUsed}
+use Rattle.commitment.specs.Ranges.{rangesKept, pricesKept}
+use Rattle.commitment.specs.Twelve.{c1, c7, c1-prices}
+use Rattle.commitment.specs.Valuing.{outcomesOf}
+use Rattle.planner.specs.declared.Planned.the-variants as planning
+use Rattle.planner.specs.declared.Valued.the-variants as valuing
+use Rattle.planner.specs.Planning.{lentChecked, planChecked, plannedBy, planned, scheduleAfter, scheduleLeft, scratchLeft, partGiven, plannedPart}
+use Rattle.planner.specs.Reporting.{reportedBy, reported}
+use Rattle.planner.specs.Valuing.{valueLent, valueChecked, valuedBy, valued, scratchValued}
+use Rattle.answers.specs.Sizes.{cellRoom}
+use Rattle.planner.proofs.Lent.{long-used, two-used}
+
+module _ (u : UnitRecord) (prices : List ℤ) (a b : ℕ) (enough : cellsNeeded u (length prices) ≤ a) (also : cellsNeeded u (length prices) ≤ b) where
+  -- what is found does not go by which of them is lent
+  fits-same : leb (cellsNeeded u (length prices)) a ≡ leb (cellsNeeded u (length prices)) b
+  fits-same = le-leb (cellsNeeded u (length prices)) a enough ∙ sym (le-leb (cellsNeeded u (length prices)) b also)
+
+  found-same : (entries : ℕ) → planChecked u prices a entries ≡ planChecked u prices b entries
+  unfolding planChecked
+  found-same entries = rw fits-same
+
+  value-found-same : valueChecked u prices a ≡ valueChecked u prices b
+  unfolding valueChecked
+  value-found-same = rw fits-same
+
+  -- ---- the answers are the same
+
+  pub same-plan : (entries : ℕ) → planned u prices a entries ≡ planned u prices b entries
+  same-plan entries = ap (λ (k : Checked). plannedBy k (best u prices)) (found-same entries)
+
+  pub same-part : (entries : ℕ) → partGiven u prices a entries ≡ partGiven u prices b entries
+  same-part entries = ap (λ (k : Checked). plannedPart k (best u prices)) (found-same entries)
+
+  pub same-schedule : (was : List ℕ) → scheduleLeft u prices a was ≡ scheduleLeft u prices b was
+  same-schedule was = ap (λ (k : Checked). scheduleAfter k (best u prices) was) (found-same (length was))
+
+  pub same-report : (entries : ℕ) → reported u prices a entries ≡ reported u prices b entries
+  same-report entries = ap (λ (k : Checked). reportedBy k (best u prices) (outcomesOf u prices)) (found-same entries)
+
+  pub same-value : valued u prices a ≡ valued u prices b
+  same-value = ap (λ (k : Checked). valuedBy k (outcomesOf u prices)) value-found-same
+
+-- ---- the cells used, after planning and after valuing
+
+module _ (u : UnitRecord) (prices was : List ℤ) where
+  abbrev cleared : ℕ → List ℤ
+  cleared used = replicate used (pos 0) ++ drop used was
+
+  abbrev LeavesCleared : ℕ → Type 0
+  LeavesCleared used =
+      ((entries : ℕ) → lentChecked u prices (leb (length prices) entries) (length was) ≡ Passed → scratchLeft u prices entries was ≡ cleared used)
+      × (valueLent u prices (length was) ≡ Passed → scratchValued u prices was ≡ cleared used)
+
+  leaves : (used : ℕ) → used ≡ cellsUsed u (length prices) (length was) → LeavesCleared used
+  leaves used e = (λ entries passed. rw (passed, ← e), λ passed. rw (passed, ← e))
+
+  -- the long table where it fits, and what lies beyond it as it was
+  pub long-left : cellsLong u (length prices) ≤ length was → LeavesCleared (cellsLong u (length prices))
+  long-left fits = leaves (cellsLong u (length prices)) (long-used u (length prices) (length was) fits)
+
+  -- else two layers
+  pub two-left : length was < cellsLong u (length prices) → LeavesCleared (cellsNeeded u (length prices))
+  two-left short = leaves (cellsNeeded u (length prices)) (two-used u (length prices) (length was) short)
+
+-- for one price the two are the same
+pub one-price : (u : UnitRecord) → cellsNeeded u 1 ≡ cellsLong u 1
+one-price u = refl
+
+-- ---- C1: 588 cells for the long table, 168 for two layers
+
+pub c1-cells : (cellsLong c1 6 ≡ 588) × (cellsNeeded c1 6 ≡ 168) × (cellsUsed c1 6 588 ≡ 588) × (cellsUsed c1 6 587 ≡ 168) × (cellsUsed c1 6 168 ≡ 168)
+c1-cells = (refl, refl, refl, refl, refl)
+
+pub c1-eight : (planned c1 c1-prices 167 6 ≡ planning.Refused Scratch) × (valued c1 c1-prices 167 ≡ valuing.Refused Scratch)
+unfolding planChecked valueChecked rangesKept pricesKept
+c1-eight = (refl, refl)
+
+-- from 587 and from 168 of them it is planned as from the program's, and C7 is valued from its 336
+pub c1-planned : (planned c1 c1-prices 587 6 ≡ planned c1 c1-prices cellRoom 6) × (planned c1 c1-prices 168 6 ≡ planned c1 c1-prices cellRoom 6)
+c1-planned = (same-plan c1 c1-prices 587 cellRoom (lit≤ tt) (lit≤ tt) 6, same-plan c1 c1-prices 168 cellRoom (lit≤ tt) (lit≤ tt) 6)
+
+pub c7-valued : (cellsNeeded c7 6 ≡ 336) × (valued c7 c1-prices 336 ≡ valued c7 c1-prices cellRoom)
+c7-valued = (refl, same-value c7 c1-prices 336 cellRoom (lit≤ tt) (lit≤ tt))

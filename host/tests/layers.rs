@@ -1,0 +1,201 @@
+//! Two layers of scratch: the worked cases of the request, what is left of the scratch, and the command where the long table does not fit.
+
+mod support;
+
+use ralwinga::{cells, plan_into, report_into, value, Case, Cells, Outcome, Refusal, Unit};
+use std::path::PathBuf;
+use support::{answer_on, c1, month, paper, proved_program, ralwinga, run_on};
+use support::{Folder, Lent, C1};
+
+const PLAN: [u64; 6] = [0, 20, 20, 10, 20, 20];
+
+/// So many cells that are used and then some that are not, all with a number in them.
+fn dirty(used: usize, beyond: usize) -> (Lent<i64>, Vec<i64>) {
+    let lent = Lent::new(vec![-7; used + beyond], 77);
+    (lent, [vec![0; used], vec![-7; beyond]].concat())
+}
+
+#[test]
+fn the_sizes_of_c1() {
+    let Case { unit, prices } = c1();
+    let (needed, table) = (168, 588);
+    assert_eq!(cells(unit, prices.len()), Ok(Cells { needed, table }));
+    for (used, beyond) in [(168, 0), (168, 1), (168, 419), (588, 0), (588, 1)] {
+        let (mut scratch, after) = dirty(used, beyond);
+        let mut schedule = [9; 6];
+        let answer = plan_into(unit, &prices, scratch.slice(), &mut schedule);
+        assert_eq!((answer, schedule), (Ok((6, 400_000)), PLAN));
+        scratch.holds(&after);
+
+        let (mut scratch, after) = dirty(used, beyond);
+        let mut schedule = [9; 6];
+        let report = report_into(unit, &prices, scratch.slice(), &mut schedule).expect("a plan");
+        assert_eq!((report.profit, schedule), (400_000, PLAN));
+        assert_eq!(report.outcomes.starts, Outcome::Gap(400_000));
+        assert_eq!(report.outcomes.hours, Outcome::Gap(320_000));
+        scratch.holds(&after);
+
+        let (mut scratch, after) = dirty(used, beyond);
+        let answer = value(unit, &prices, scratch.slice());
+        assert_eq!(answer, Ok(report.outcomes));
+        scratch.holds(&after);
+    }
+}
+
+#[test]
+fn fewer_than_two_layers() {
+    let Case { unit, prices } = c1();
+    for length in [0, 1, 84, 167] {
+        let (mut scratch, after) = dirty(0, length);
+        let mut schedule = [9; 6];
+        let answer = plan_into(unit, &prices, scratch.slice(), &mut schedule);
+        assert_eq!(answer, Err(Refusal::Scratch));
+        let answer = report_into(unit, &prices, scratch.slice(), &mut schedule);
+        assert_eq!(answer, Err(Refusal::Scratch));
+        let answer = value(unit, &prices, scratch.slice());
+        assert_eq!(answer, Err(Refusal::Scratch));
+        scratch.holds(&after);
+        assert_eq!(schedule, [9; 6]);
+    }
+}
+
+/// C7: on before, six intervals at least to stay on, and three hours.
+#[test]
+fn c7_in_two_layers() {
+    let Case { unit, prices } = c1();
+    let unit = Unit {
+        was: 1,
+        held: 1,
+        mot: 6,
+        hours: Some(3),
+        ..unit
+    };
+    let (needed, table) = (336, 1176);
+    assert_eq!(cells(unit, prices.len()), Ok(Cells { needed, table }));
+    let (mut scratch, after) = dirty(336, 0);
+    let outcomes = value(unit, &prices, scratch.slice()).expect("a plan");
+    assert_eq!(outcomes.hours, Outcome::Never);
+    scratch.holds(&after);
+}
+
+/// No schedule keeps a unit on that may not run an hour: the cells used are 0 all the same.
+#[test]
+fn no_schedule_in_two_layers() {
+    let Case { unit, prices } = c1();
+    let unit = Unit {
+        was: 1,
+        held: 1,
+        hours: Some(0),
+        ..unit
+    };
+    let Cells { needed, table } = cells(unit, prices.len()).expect("a case in order");
+    for (used, beyond) in [(needed, 0), (needed, table - needed - 1), (table, 3)] {
+        let (mut scratch, after) = dirty(used, beyond);
+        let mut schedule = [9; 6];
+        let answer = report_into(unit, &prices, scratch.slice(), &mut schedule);
+        assert_eq!(answer, Err(Refusal::NoSchedule));
+        assert_eq!(schedule, [9; 6]);
+        scratch.holds(&after);
+    }
+}
+
+/// The long table of one price is two layers.
+#[test]
+fn one_price() {
+    let unit = c1().unit;
+    let sizes = cells(unit, 1).expect("a case in order");
+    assert_eq!(sizes.needed, sizes.table);
+    let (mut scratch, after) = dirty(sizes.needed, 4);
+    let mut schedule = [9];
+    let answer = report_into(unit, &[9000], scratch.slice(), &mut schedule);
+    let (expected, plan) = paper::reported(&unit, &[9000]).expect("a plan");
+    assert_eq!((answer, schedule.to_vec()), (Ok(expected), plan));
+    scratch.holds(&after);
+    let (mut scratch, _) = dirty(0, sizes.needed - 1);
+    let answer = report_into(unit, &[9000], scratch.slice(), &mut schedule);
+    assert_eq!(answer, Err(Refusal::Scratch));
+}
+
+/// Four quarter-hours of sixteen alike: the last ones, since the plan is the earliest in the order of lists.
+#[test]
+fn sixteen_prices() {
+    let unit = Unit {
+        suc: 0,
+        starts: None,
+        hours: Some(1),
+        ..c1().unit
+    };
+    let prices = [9000; 16];
+    let (needed, table) = (40, 340);
+    assert_eq!(cells(unit, prices.len()), Ok(Cells { needed, table }));
+    let plan = [vec![0; 12], vec![20; 4]].concat();
+    for (used, beyond) in [(40, 0), (40, 299), (340, 0)] {
+        let (mut scratch, after) = dirty(used, beyond);
+        let mut schedule = vec![9; 16];
+        let answer = plan_into(unit, &prices, scratch.slice(), &mut schedule);
+        assert_eq!((answer, &schedule), (Ok((16, 480_000)), &plan));
+        scratch.holds(&after);
+    }
+}
+
+/// A day whose long table is over the program's 4,000 cells is planned in two layers of them.
+#[test]
+fn a_day_in_the_program() {
+    let (head, _) = C1.split_once("price\n").expect("prices");
+    let head = head.replacen(",2,2,none", ",4,12,none", 1);
+    let prices: String = (0..96)
+        .map(|t| if t % 48 < 20 { "1000\n" } else { "9000\n" })
+        .collect();
+    let text = format!("{head}price\n{prices}");
+    let expected = answer_on(&["-"], text.as_bytes());
+    let said = String::from_utf8_lossy(&expected.stderr).to_string();
+    assert!(said.starts_with("ralwinga: 95060 cells, "), "{said}");
+    let answer = answer_on(&["--cells", "4000", "-"], text.as_bytes());
+    let said = String::from_utf8_lossy(&answer.stderr).to_string();
+    assert!(said.starts_with("ralwinga: 1960 cells, 15.3 KiB of scratch: two layers, "));
+    assert_eq!(answer.stdout, expected.stdout);
+    let program = run_on(proved_program(), text.as_bytes());
+    assert_eq!(program.stdout, expected.stdout);
+}
+
+/// A month with two hours: two layers of 9 × 3 × 4 cells.
+#[test]
+fn a_month_in_two_layers() {
+    let text = month();
+    let expected = answer_on(&["-"], text.as_bytes());
+    let answer = answer_on(&["--cells", "216", "-"], text.as_bytes());
+    assert_eq!(answer.stdout, expected.stdout);
+    let said = String::from_utf8_lossy(&answer.stderr).to_string();
+    assert!(said.contains(" two layers, since the long table of 321516 cells"));
+    let answer = answer_on(&["--cells", "215", "-"], text.as_bytes());
+    assert_eq!(answer.stdout, b"refused,8\n");
+}
+
+/// Of many cases each goes the way that fits.
+#[test]
+fn many_cases() {
+    let folder = Folder::new("layers");
+    let small = C1.replacen(",2,2,none", ",2,none,none", 1);
+    let files: [PathBuf; 3] = [
+        folder.file("a.csv", C1),
+        folder.file("small.csv", small),
+        folder.file("c.csv", C1),
+    ];
+    let run = |words: &[&str]| {
+        let answer = ralwinga(words).args(&files).output().expect("runs");
+        let said = String::from_utf8(answer.stderr).expect("text");
+        (answer.stdout, said)
+    };
+    let (table, said) = run(&["plan", "--jobs", "1"]);
+    assert!(said.ends_with("588 cells, 4.6 KiB of scratch\n"), "{said}");
+    let (same, said) = run(&["plan", "--jobs", "1", "--cells", "587"]);
+    assert_eq!(same, table);
+    assert_eq!(
+        said,
+        "ralwinga: 3 cases, 1 at a time, at most 168 cells, 1.3 KiB of scratch: 2 in two layers, since their long tables do not fit\n"
+    );
+    let (refused, said) = run(&["plan", "--jobs", "1", "--cells", "167"]);
+    let refused = String::from_utf8(refused).expect("text");
+    assert_eq!(refused.matches(",8,0,none,none,none\n").count(), 2);
+    assert_eq!(said.matches(": the case needs 168 cells, ").count(), 2);
+}
