@@ -1,7 +1,10 @@
--- Picking: outputs picked one after another. Storing: what stands aside, place by place. Climbing: up the sources of a line.
+-- Picking: outputs picked one after another. Steps: what is gained from step to step. Storing: pairs of value and mark, place by place. Climbing,
+-- Descending: up and down the sources of a line. Chunks: a piece of it. Leading: the cells that stand there. Moving: off, and the better of both.
 pub mod Picking
 pub mod Steps
 pub mod Storing
 pub mod Climbing
 pub mod Descending
 pub mod Chunks
+pub mod Leading
+pub mod Moving

@@ -57,6 +57,19 @@ module _ (value mark : ℕ → ℤ) where
           first = λ k h l. ⊎-elim (λ (i : A k). let g = p .most k i in omega zarith) (λ (i : B k). q .first k i l) h;
         }
 
+-- the same outputs, values and marks said otherwise
+pub picked-same : {A B : ℕ → Type 0} {v m : ℤ} (value mark value′ mark′ : ℕ → ℤ) → ((k : ℕ) → A k → B k) → ((k : ℕ) → B k → A k)
+    → ((k : ℕ) → A k → (value′ k ≡ value k) × (mark′ k ≡ mark k)) → Picked A value mark v m → Picked B value′ mark′ v m
+picked-same value mark value′ mark′ to from same p =
+    record {
+      at = p .at;
+      inside = to (p .at) (p .inside);
+      is = same (p .at) (p .inside) .0 ∙ p .is;
+      marked = same (p .at) (p .inside) .1 ∙ p .marked;
+      most = λ k h. let e = same k (from k h) .0 in rw e (p .most k (from k h));
+      first = λ k h l. let e = same k (from k h) .0 in rw e (p .first k (from k h) l);
+    }
+
 -- the outputs counted from another place
 pub picked-renamed : {A B : ℕ → Type 0} {v m : ℤ} (n : ℕ) (value mark value′ mark′ : ℕ → ℤ) → ((k : ℕ) → A k → B (k + n))
     → ((j : ℕ) → B j → (k : ℕ) × A k × (j ≡ k + n))

@@ -1,5 +1,7 @@
-// Values and marks of a layer, one interval earlier in place: a cell's mark is a number that goes with its plan. Here: pairs of value and mark (pairs), and
-// an interval on, for a piece of a line (images).
+// Values and marks of a layer, one interval earlier in place: a cell's mark is a number that goes with its plan. mod pairs: values with their marks;
+// mod images: an interval on, for the places of a line; mod lines: the same for its cells; mod turns: a state's stretch of a line, on or off.
 
 pub mod images;
+pub mod lines;
 pub mod pairs;
+pub mod turns;

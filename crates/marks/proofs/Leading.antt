@@ -1,0 +1,305 @@
+-- From the places of a line to the cells of a layer: what is picked for a place is picked for the cell that stands there.
+use mathlib.Core.Path.{_≡_, refl, sym, ap, ap₂, _∙_}
+use mathlib.Core.Bool.{Bool, true, false}
+use mathlib.Core.List.{List}
+use mathlib.Core.Logic.{_⊎_, ⊎-elim, inl, inr}
+use Prim.Native.Nat.{ℕ, zero, suc, _+_, _-_, _*_, _≤_, _<_}
+use native.Mathlib.Nat.{mul-le-mul-right, add-mul, zero-mul, one-mul, mul-zero, mul-one}
+use native.Mathlib.Omega.{arith}
+use borrow.Author.Tests.{leb-true, ltb-true, ltb-false, le-leb, lt-ltb}
+use lib.Dec.{leb, ltb}
+use lib.IntN.{ℤ, pos, _+ℤ_}
+use lib.ListN.{getD}
+use lib.Signed.{_≤ℤ_, _<ℤ_, ltZ}
+use Rattle.lists.proofs.Conjunctions.{both}
+use Rattle.integers.specs.Maximum.{maxℤ}
+use Rattle.integers.proofs.Linear.{zarith, zsum, up-pos, dn-pos}
+use Rattle.integers.proofs.Maximum.{Max, max-is}
+use Rattle.integers.proofs.Order.{ltZ-dec}
+use Rattle.optimality.specs.declared.Cell.{Cell}
+use Rattle.optimality.specs.declared.Figures.{Figures}
+use Rattle.optimality.specs.Cells.{Sound, states, afterOn, startTakes, startPays, mayRun, onCell}
+use Rattle.geometry.specs.Geometry.{row, span, width, index}
+use Rattle.geometry.specs.Layers.{infeasible}
+use Rattle.geometry.proofs.Places.{in-row, row-fits, span-fits, section-fits}
+use Rattle.layers.specs.declared.rows.Ladder.{Ladder}
+use Rattle.layers.specs.Ladders.{brings, betterEnd, Steady}
+use Rattle.layers.specs.Turns.{net, onStored}
+use Rattle.layers.proofs.Ladders.{brings-least, brings-next, ladder-brings, ladder-steady, end-small}
+use Rattle.layers.proofs.Turning.{pays-most}
+use Rattle.layers.specs.Stretches.{Small}
+use Rattle.marks.specs.Picking.{Picked}
+use Rattle.marks.specs.Images.{worth, markBy, PickedAt, Piece}
+use Rattle.marks.specs.Lines.{FlatAt, valueOf, markOf, OnPicked, OfPiece, lineOf, laddered, FlatLine, OnAsked, WholeChunks}
+use Rattle.marks.proofs.Picking.{picked-same}
+
+-- ---- outputs that lead to the same cell: the lowest or the highest is the first of the best
+
+module _ (l : Ladder) (some : l .low ≤ l .high) (stored mark : ℤ) where
+  falling : l .rise ≤ℤ pos 0 → (d : ℕ) → brings l (l .low + d) ≤ℤ l .least
+  falling h zero = let e : l .low + 0 ≡ l .low = omega arith in rw (e, brings-least l) (omega zarith)
+  falling h (suc d) =
+      let e : l .low + suc d ≡ suc (l .low + d) = omega arith in
+      let n = brings-next l (l .low + d) (omega arith) in
+      let i = falling h d in
+      rw (e, n) (omega (zarith, up-pos 0, dn-pos 0, zsum (brings l (l .low + d)) (l .rise)))
+
+  rising : pos 0 <ℤ l .rise → (d k : ℕ) → l .low ≤ k → brings l k <ℤ brings l (suc (k + d))
+  rising h zero k lo =
+      let e : suc (k + 0) ≡ suc k = omega arith in
+      let n = brings-next l k lo in
+      rw (e, n) (omega (zarith, up-pos 0, dn-pos 0, zsum (brings l k) (l .rise)))
+  rising h (suc d) k lo =
+      let e : suc (k + suc d) ≡ suc (suc (k + d)) = omega arith in
+      let n = brings-next l (suc (k + d)) (omega arith) in
+      let i = rising h d k lo in
+      rw (e, n) (omega (zarith, up-pos 0, dn-pos 0, zsum (brings l (suc (k + d))) (l .rise)))
+
+  below-high : pos 0 <ℤ l .rise → (k : ℕ) → l .low ≤ k → k < l .high → brings l k <ℤ brings l (l .high)
+  below-high h k lo hi = let e : suc (k + (l .high - suc k)) ≡ l .high = omega arith in rw e at (rising h (l .high - suc k) k lo)
+
+  abbrev top : Max (l .least) (brings l (l .high)) (maxℤ (l .least) (brings l (l .high)))
+  top = max-is (l .least) (brings l (l .high))
+
+  pub ends-picked : Picked (λ k. (l .low ≤ k) × (k ≤ l .high)) (λ k. stored +ℤ brings l k) (λ k. mark) (stored +ℤ betterEnd l) mark
+  ends-picked =
+      ⊎-elim (λ (w : (ltZ (pos 0) (l .rise) ≡ true) × (pos 0 <ℤ l .rise)). highest (w .1))
+      (λ (w : (ltZ (pos 0) (l .rise) ≡ false) × (l .rise ≤ℤ pos 0)). lowest (w .1)) (ltZ-dec (pos 0) (l .rise))
+    where
+      lowest : l .rise ≤ℤ pos 0 → Picked (λ k. (l .low ≤ k) × (k ≤ l .high)) (λ k. stored +ℤ brings l k) (λ k. mark) (stored +ℤ betterEnd l) mark
+      lowest h =
+          let all : (k : ℕ) → l .low ≤ k → brings l k ≤ℤ l .least =
+          λ k lo. let e : l .low + (k - l .low) ≡ k = omega arith in rw e at (falling h (k - l .low)) in
+          let high = all (l .high) some in
+          let is : betterEnd l ≡ l .least = ⊎-elim (λ e. e) (λ e. let r = top .left in omega (zarith, e)) (top .one-of) in
+          record {
+            at = l .low;
+            inside = (omega arith, some);
+            is = rw (brings-least l, is);
+            marked = refl;
+            most = λ k g. let b = all k (g .0) in rw is (omega (zarith, zsum stored (brings l k), zsum stored (l .least)));
+            first = λ k g lt. absurd (omega (arith, g .0));
+          }
+
+      highest : pos 0 <ℤ l .rise → Picked (λ k. (l .low ≤ k) × (k ≤ l .high)) (λ k. stored +ℤ brings l k) (λ k. mark) (stored +ℤ betterEnd l) mark
+      highest h =
+          let is : betterEnd l ≡ brings l (l .high) = ⊎-elim (λ e. at-low e) (λ e. e) (top .one-of) in
+          record {
+            at = l .high;
+            inside = (some, omega arith);
+            is = rw is;
+            marked = refl;
+            most = λ k g. upto k (g .0) (g .1) is;
+            first = λ k g lt. let b = below-high h k (g .0) lt in rw is (omega (zarith, zsum stored (brings l k), zsum stored (brings l (l .high))));
+          }
+        where
+          least-below : l .least ≤ℤ brings l (l .high)
+          least-below = by (ltb (l .low) (l .high)) refl
+            where
+              by : (t : Bool) → ltb (l .low) (l .high) ≡ t → l .least ≤ℤ brings l (l .high)
+              by true e = let b = below-high h (l .low) (omega arith) (ltb-true (l .low) (l .high) e) in let m = brings-least l in omega (zarith, m)
+              by false e =
+                  let g = ltb-false (l .low) (l .high) e in
+                  let same : l .high ≡ l .low = omega arith in
+                  let b : brings l (l .high) ≡ brings l (l .low) = ap (brings l) same in
+                  let m = brings-least l in
+                  omega (zarith, b, m)
+
+          at-low : betterEnd l ≡ l .least → betterEnd l ≡ brings l (l .high)
+          at-low e = let r = top .right in let b = least-below in omega (zarith, e)
+
+          upto : (k : ℕ) → l .low ≤ k → k ≤ l .high → betterEnd l ≡ brings l (l .high) → (stored +ℤ brings l k) ≤ℤ (stored +ℤ betterEnd l)
+          upto k lo hi is = by (ltb k (l .high)) refl
+            where
+              by : (t : Bool) → ltb k (l .high) ≡ t → (stored +ℤ brings l k) ≤ℤ (stored +ℤ betterEnd l)
+              by true e =
+                  let b = below-high h k lo (ltb-true k (l .high) e) in
+                  rw is (omega (zarith, zsum stored (brings l k), zsum stored (brings l (l .high))))
+              by false e =
+                  let g = ltb-false k (l .high) e in
+                  let same : k ≡ l .high = omega arith in
+                  rw (is, same) (omega zarith)
+
+-- ---- the cells of a piece
+
+module _ (f : Figures) (ok : Sound f) (w : ℕ) (cells : List ℤ) (price : ℤ) (s x : ℕ) where
+  -- what may run has what it takes
+  running : (c : Cell) → c .state ≡ s → c .starts ≡ x → mayRun f c ≡ true → (startTakes f s ≤ x) × (f .peron ≤ c .ons)
+  running c es ex e =
+      let run = both _ (leb (f .peron) (c .ons)) e in
+      let start = both (ltb (afterOn f (c .state)) (states f)) (leb (startTakes f (c .state)) (c .starts)) (run .0) in
+      let t = leb-true (startTakes f (c .state)) (c .starts) (start .1) in
+      (rw (es, ex) at t, leb-true (f .peron) (c .ons) (run .1))
+
+  runs : (c : Cell) → c .state ≡ s → c .starts ≡ x → afterOn f s < states f → startTakes f s ≤ x → f .peron ≤ c .ons → mayRun f c ≡ true
+  runs c es ex leads takes ons =
+      rw (es, ex, lt-ltb (afterOn f s) (states f) leads, le-leb (startTakes f s) x takes, le-leb (f .peron) (c .ons) ons)
+
+  -- no start is left
+  pub no-start : x < startTakes f s → (y place i : ℕ) (c : Cell) → OfPiece f s x y place i c → {v : ℤ} (m : ℤ) → v ≡ infeasible
+      → OnPicked f (valueOf f w cells) (markOf f w cells) price c v m
+  no-start short y place i c p m e =
+      inl (λ k r. let t = running c (p .state) (p .starts) (r .2) in omega (arith, t .0, short), e)
+
+  -- where the cell stands that k blocks lead to
+  leads-to : (c : Cell) → c .state ≡ s → c .starts ≡ x → (k : ℕ)
+      → index f (onCell f c k) ≡ lineOf f s x + ((c .ons - f .peron) * row f + (c .blocks - k * f .perblock))
+  unfolding index
+  leads-to c es ex k = rw (es, ex) (omega arith)
+
+  module _ (leads : afterOn f s < states f) (takes : startTakes f s ≤ x) where
+    -- what an output brings, and where it leads
+    on-is : (c : Cell) → c .state ≡ s → c .starts ≡ x → (k at : ℕ) → f .pmin ≤ k
+        → (c .ons - f .peron) * row f + (c .blocks - k * f .perblock) ≡ at
+        → (onStored f (valueOf f w cells) c price k ≡ getD cells (lineOf f s x + at) (pos 0) +ℤ brings (laddered f price s) k)
+        × (markOf f w cells (onCell f c k) ≡ getD cells (w + (lineOf f s x + at)) (pos 0))
+    on-is c es ex k at lo e =
+        let place = leads-to c es ex k ∙ ap (λ (j : ℕ). lineOf f s x + j) e in (
+          ap₂ (λ (j : ℕ) (b : ℤ). getD cells j (pos 0) +ℤ b) place
+              (ap (λ (t : ℕ). net f price (startPays f t) k) es ∙ sym (ladder-brings f price (startPays f s) k lo)),
+          ap (λ (j : ℕ). getD cells (w + j) (pos 0)) place,
+        )
+
+    less-on : (c : Cell) → f .peron ≤ c .ons → (c .ons - f .peron) * row f + f .peron * row f ≡ c .ons * row f
+    less-on c h =
+        let e : c .ons - f .peron + f .peron ≡ c .ons = omega arith in
+        sym (add-mul (c .ons - f .peron) (f .peron) (row f)) ∙ ap (λ (n : ℕ). n * row f) e
+
+    -- MWh not limited
+    pub flat-on : f .perblock ≡ 0 → (place i : ℕ) (c : Cell) → OfPiece f s x 0 place i c → {v m : ℤ}
+        → FlatAt cells w (lineOf f s x) (f .peron * row f) place (betterEnd (laddered f price s)) i v m
+        → OnPicked f (valueOf f w cells) (markOf f w cells) price c v m
+    flat-on none place i c p {v} {m} a = by (ltb (place + i) (f .peron * row f)) refl
+      where
+        at : c .ons * row f + c .blocks ≡ place + i
+        at = let z = zero-mul (row f) in omega (arith, p .at, z)
+
+        by : (t : Bool) → ltb (place + i) (f .peron * row f) ≡ t → OnPicked f (valueOf f w cells) (markOf f w cells) price c v m
+        by true e =
+            let short = ltb-true (place + i) (f .peron * row f) e in
+            inl (
+              λ k r.
+                  let t = running c (p .state) (p .starts) (r .2) in
+                  let m : f .peron * row f ≤ c .ons * row f = mul-le-mul-right (row f) (t .1) in
+                  omega (arith, m, at, short),
+              a .none short,
+            )
+        by false e =
+            let enough = ltb-false (place + i) (f .peron * row f) e in
+            let few = in-row f (c .blocks) (p .inside .blocks) in
+            let ons : f .peron ≤ c .ons = enough-on enough few (ltb (c .ons) (f .peron)) refl in
+            let spent : (k : ℕ) → c .blocks - k * f .perblock ≡ c .blocks = λ k. let z : k * f .perblock ≡ 0 = rw none (mul-zero k) in omega (arith, z) in
+            let source : (k : ℕ) → (c .ons - f .peron) * row f + (c .blocks - k * f .perblock) ≡ place + i - f .peron * row f =
+            λ k. omega (arith, spent k, less-on c ons, at) in
+            inr
+            (rw (a .value enough, a .mark enough)
+            (picked-same (λ k. getD cells (lineOf f s x + (place + i - f .peron * row f)) (pos 0) +ℤ brings (laddered f price s) k)
+            (λ k. getD cells (w + (lineOf f s x + (place + i - f .peron * row f))) (pos 0))
+            (onStored f (valueOf f w cells) c price) (λ k. markOf f w cells (onCell f c k))
+            (λ k h. (h .0, h .1, runs c (p .state) (p .starts) leads takes ons, let z : k * f .perblock ≡ 0 = rw none (mul-zero k) in omega (arith, z)))
+            (λ k h. (h .0, h .1))
+            (λ k h. on-is c (p .state) (p .starts) k (place + i - f .peron * row f) (h .0) (source k))
+            (ends-picked (laddered f price s) (ok .pmax) (getD cells (lineOf f s x + (place + i - f .peron * row f)) (pos 0))
+            (getD cells (w + (lineOf f s x + (place + i - f .peron * row f))) (pos 0)))))
+          where
+            enough-on : f .peron * row f ≤ place + i → c .blocks < row f → (t : Bool) → ltb (c .ons) (f .peron) ≡ t → f .peron ≤ c .ons
+            enough-on enough few true e =
+                let l = ltb-true (c .ons) (f .peron) e in
+                let m : (c .ons + 1) * row f ≤ f .peron * row f = mul-le-mul-right (row f) (omega arith) in
+                absurd (omega (arith, m, enough, few, at, add-mul (c .ons) 1 (row f), one-mul (row f)))
+            enough-on enough few false e = ltb-false (c .ons) (f .peron) e
+
+    -- limited
+    blocks-are : f .perblock ≡ 1 → (y place i : ℕ) (c : Cell) → OfPiece f s x y place i c → c .blocks ≡ place + i
+    blocks-are one y place i c p =
+        let e = p .line one in
+        let m : c .ons * row f ≡ y * row f = ap (λ (n : ℕ). n * row f) e in
+        omega (arith, m, p .at)
+
+    pub lined-none : f .perblock ≡ 1 → (y place i : ℕ) → (y < f .peron) ⊎ (place + i < f .pmin) → (c : Cell) → OfPiece f s x y place i c → {v : ℤ} (m : ℤ)
+        → v ≡ infeasible → OnPicked f (valueOf f w cells) (markOf f w cells) price c v m
+    lined-none one y place i short c p m e =
+        let b = blocks-are one y place i c p in
+        inl (
+          λ k r.
+              let t = running c (p .state) (p .starts) (r .2) in
+              let n : k * f .perblock ≡ k = rw one (mul-one k) in
+              ⊎-elim (λ (h : y < f .peron). omega (arith, h, t .1, p .line one)) (λ (h : place + i < f .pmin). omega (arith, h, n, b, r .0, r .3)) short,
+          e,
+        )
+
+    pub lined-on : f .perblock ≡ 1 → (y place i : ℕ) → f .peron ≤ y → (c : Cell) → OfPiece f s x y place i c → {v m : ℤ}
+        → PickedAt (laddered f price s) cells w (lineOf f s x + (y - f .peron) * row f) (place + i) v m
+        → OnPicked f (valueOf f w cells) (markOf f w cells) price c v m
+    lined-on one y place i ons c p {v} {m} a =
+        let b = blocks-are one y place i c p in
+        let line = p .line one in
+        let have : f .peron ≤ c .ons = omega (arith, ons, line) in
+        let at : (k : ℕ) → k ≤ place + i → (c .ons - f .peron) * row f + (c .blocks - k * f .perblock) ≡ (y - f .peron) * row f + (place + i - k) =
+        λ k h.
+        let n : k * f .perblock ≡ k = rw one (mul-one k) in
+        let e : (c .ons - f .peron) * row f ≡ (y - f .peron) * row f = ap (λ (j : ℕ). (j - f .peron) * row f) line in
+        omega (arith, n, e, b) in
+        let grouped : (k : ℕ) → lineOf f s x + ((y - f .peron) * row f + (place + i - k)) ≡ lineOf f s x + (y - f .peron) * row f + (place + i - k) =
+        λ k. omega arith in
+        inr
+        (picked-same (worth (laddered f price s) cells w (lineOf f s x + (y - f .peron) * row f) (place + i))
+        (markBy (laddered f price s) cells w (lineOf f s x + (y - f .peron) * row f) (place + i))
+        (onStored f (valueOf f w cells) c price) (λ k. markOf f w cells (onCell f c k))
+        (λ k h. (h .0, h .1, runs c (p .state) (p .starts) leads takes have, let n : k * f .perblock ≡ k = rw one (mul-one k) in omega (arith, n, b, h .2)))
+        (λ k h. (h .0, h .1, let n : k * f .perblock ≡ k = rw one (mul-one k) in omega (arith, n, b, h .3)))
+        (λ k h.
+        let r = on-is c (p .state) (p .starts) k ((y - f .peron) * row f + (place + i - k)) (h .0) (at k (h .2)) in
+        rw (grouped k) at r)
+        a)
+
+-- ---- the line stands in the layer
+
+pub line-fits : (f : Figures) (s x : ℕ) → afterOn f s < states f → x ≤ f .starts → lineOf f s x + span f ≤ width f
+line-fits f s x leads starts =
+    let a = section-fits f (afterOn f s) leads in
+    let b = span-fits f (x - startTakes f s) (omega arith) in
+    omega (arith, a, b)
+
+pub row-in-line : (f : Figures) (s x y : ℕ) → afterOn f s < states f → x ≤ f .starts → y ≤ f .ons
+    → lineOf f s x + (y - f .peron) * row f + row f ≤ width f
+row-in-line f s x y leads starts ons =
+    let a = line-fits f s x leads starts in
+    let b = row-fits f (y - f .peron) (omega arith) in
+    omega (arith, a, b)
+
+-- ---- what the lines ask
+
+module _ (f : Figures) (w : ℕ) (cells : List ℤ) (price : ℤ) (s x y place count : ℕ) (a : OnAsked f w cells price s x y place count) where
+  pub steady : Steady (laddered f price s)
+  steady = ladder-steady f price (startPays f s) (a .interval) (pays-most f (a .interval .sound) s)
+
+  -- a stretch of the layer
+  small-from : (from n : ℕ) → from + n ≤ w → Small cells from n
+  small-from from n fits i h = let e : 0 + (from + i) ≡ from + i = omega arith in rw e at (a .small (from + i) (omega arith))
+
+  pub flat-line : f .perblock ≡ 0 → FlatLine cells w (lineOf f s x) place count (betterEnd (laddered f price s))
+  flat-line none =
+      let fits = line-fits f s x (a .leads) (a .starts) in
+      let room : lineOf f s x + (place + count) ≤ w = omega (arith, fits, a .wide, a .flat none .1) in
+      record { values = room; marks = a .marks; small = small-from (lineOf f s x) (place + count) room; gains = end-small (laddered f price s) steady }
+
+  pub lined-piece : f .perblock ≡ 1 → f .pmin ≤ place → Piece (laddered f price s) cells w (lineOf f s x + (y - f .peron) * row f) place count
+  lined-piece one lo =
+      let k = a .lined one in
+      let fits = row-in-line f s x y (a .leads) (a .starts) (k .0) in
+      let room : lineOf f s x + (y - f .peron) * row f + (place + count) ≤ w = omega (arith, fits, a .wide, k .1) in
+      ⊎-elim (λ (h : place + count ≤ f .pmin). absurd (omega (arith, a .some)))
+      (λ (c : WholeChunks f place count).
+      record {
+        steady = steady;
+        before = c .before;
+        begins = c .begins;
+        chunks = c .chunks;
+        most = c .most;
+        fits = c .fits;
+        values = omega (arith, room);
+        marks = a .marks;
+        small = small-from (lineOf f s x + (y - f .peron) * row f) (place + count) room;
+      })
+      (k .2)
