@@ -116,9 +116,9 @@ struct ralwinga_curve ralwinga_curve(struct ralwinga_curve_inputs inputs, const 
 struct ralwinga_assessment ralwinga_assess(struct ralwinga_unit unit, const int64_t *prices, size_t prices_len,
                                            const uint64_t *schedule, size_t schedule_len);
 
-/* The cells of scratch of a case of so many intervals: `needed`, in two layers, and `table`, in the long table, which is faster to plan in.
- * A call lent `table` cells or more uses the long table, else two layers, and refuses with 8 where it is lent fewer than `needed`. The cells used are
- * 0 afterwards and those past them as they were. */
+/* The cells of scratch of a case of so many intervals: `needed`, in two layers, and `table`, in the long table.
+ * A call lent `table` cells or more uses the long table, else two layers, and refuses with 8 where it is lent fewer than `needed`. The long table is
+ * somewhat faster on memory that is there already. The cells used are 0 afterwards and those past them as they were. */
 struct ralwinga_cells ralwinga_cells(struct ralwinga_unit unit, size_t intervals);
 
 /* The best plan into the front of `schedule`. */

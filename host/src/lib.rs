@@ -129,7 +129,7 @@ pub struct Segment {
 pub struct Cells {
     /// Two layers; fewer are refused.
     pub needed: usize,
-    /// The long table, which is faster to plan in.
+    /// The long table, which is somewhat faster on memory that is there already.
     pub table: usize,
 }
 

@@ -2,6 +2,7 @@
 
 mod support;
 
+use std::path::Path;
 use std::process::{Command, Output, Stdio};
 use support::{answer_on, any_case, damage_text, month, paper, proved_program, ralwinga};
 use support::{run_on, run_unread, text_of, Folder, Random, C1};
@@ -159,30 +160,51 @@ fn memory_is_said_and_capped() {
     stops(&answer, 1, "refused,8\n", "--cells allows 167; it fits with 168 cells, or the first 5 of the 6 prices, or starts none, or hours none");
 }
 
+/// What the command makes of a case where the system gives it so many KiB for all it has.
+fn limited(case: &Path, kib: u32) -> Output {
+    let line = format!("ulimit -v {kib}; exec \"$0\" \"$1\"");
+    let mut shell = Command::new("sh");
+    shell.args(["-c", &line, env!("CARGO_BIN_EXE_ralwinga")]);
+    shell.arg(case).output().expect("a shell")
+}
+
 /// Where the system does not give what it says is free, the case is planned in two layers too.
 #[test]
 fn memory_that_is_not_given() {
     let folder = Folder::new("not-given");
+    // 352 cells to a layer: 8.0 MiB the 2,977 of the long table
+    let text = month().replacen(",2,2,none", ",87,none,none", 1);
+    let case = folder.file("month.csv", text);
+    let expected = ralwinga([&case]).output().expect("runs");
+    let said = "ralwinga: 1047904 cells, 8.0 MiB of scratch\n";
+    assert_eq!(String::from_utf8_lossy(&expected.stderr), said);
+    // less and less, until the long table does not go beside the command itself
+    let mut answers = (4..=20).rev().map(|times| limited(&case, 2000 * times));
+    let answer = answers
+        .find(|answer| answer.stderr != expected.stderr)
+        .expect("a limit too low");
+    assert_eq!(answer.stdout, expected.stdout);
+    let again = "month.csv: 704 cells, 5.5 KiB of scratch: two layers, since the long table of 1047904 cells does not fit\n";
+    let both = String::from_utf8_lossy(&answer.stderr).to_string();
+    assert!(both.starts_with(said) && both.ends_with(again), "{both}");
+    assert_eq!(both.lines().count(), 2, "{both}");
+}
+
+/// Two layers that the system does not give.
+#[test]
+fn two_layers_that_are_not_given() {
+    let folder = Folder::new("wide");
     let mut text = C1.lines().take(4).collect::<Vec<_>>().join("\n") + "\n";
-    // 1,152,192 cells to a layer: 8.8 MiB, and 114 MiB the 13 of the long table
+    // 1,152,192 cells to a layer: 8.8 MiB
     text = text.replacen("10,1,2,2,2,0,2,", "1,1,500,96,96,0,96,", 1);
     text = text.replacen(",2,2,none", ",none,none,5000", 1);
     text.push_str(&"9000\n".repeat(12));
     let case = folder.file("wide.csv", &text);
-    let expected = ralwinga([&case]).output().expect("runs");
-    assert_eq!(expected.status.code(), Some(0));
-    let limited = |kib: u32| {
-        let line = format!("ulimit -v {kib}; exec \"$0\" \"$1\"");
-        let mut shell = Command::new("sh");
-        shell.args(["-c", &line, env!("CARGO_BIN_EXE_ralwinga")]);
-        shell.arg(&case).output().expect("a shell")
-    };
-    let answer = limited(100_000);
-    assert_eq!(answer.stdout, expected.stdout);
-    let said = String::from_utf8_lossy(&answer.stderr).to_string();
-    assert_eq!(said.lines().count(), 2, "{said}");
-    assert!(said.ends_with("wide.csv: 2304384 cells, 17.6 MiB of scratch: two layers, since the long table of 14978496 cells does not fit\n"), "{said}");
-    let answer = limited(20_000);
+    let answer = limited(&case, 100_000);
+    assert_eq!(answer.status.code(), Some(0));
+    let said = "ralwinga: 2304384 cells, 17.6 MiB of scratch: two layers, which are faster than the long table of 14978496 cells\n";
+    assert_eq!(String::from_utf8_lossy(&answer.stderr), said);
+    let answer = limited(&case, 20_000);
     assert_eq!(answer.stdout, b"refused,8\n");
     let said = String::from_utf8_lossy(&answer.stderr).to_string();
     assert!(

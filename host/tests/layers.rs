@@ -1,11 +1,13 @@
-//! Two layers of scratch: the worked cases of the request, what is left of the scratch, and the command where the long table does not fit.
+//! Two layers of scratch: the worked cases of the request, what is left of the scratch, and the command where the long table does not fit or is slower.
 
 mod support;
 
-use ralwinga::{cells, plan_into, report_into, value, Case, Cells, Outcome, Refusal, Unit};
+use ralwinga::reader::read_case;
+use ralwinga::{cells, listing, plan_into, report_into, value};
+use ralwinga::{Case, Cells, Outcome, Refusal, Report, Unit};
 use std::path::PathBuf;
 use support::{answer_on, c1, month, paper, proved_program, ralwinga, run_on};
-use support::{Folder, Lent, C1};
+use support::{Folder, Lent, Random, C1};
 
 const PLAN: [u64; 6] = [0, 20, 20, 10, 20, 20];
 
@@ -158,11 +160,86 @@ fn a_day_in_the_program() {
     assert_eq!(program.stdout, expected.stdout);
 }
 
-/// A month with two hours: two layers of 9 × 3 × 4 cells.
+/// The report and the plan of a case from so many cells, which are 0 afterwards, and some more, which are as they were.
+fn reported(unit: Unit, prices: &[i64], used: usize, beyond: usize) -> (Report, Vec<u64>) {
+    let (mut scratch, after) = dirty(used, beyond);
+    let mut schedule = Lent::new(vec![9; prices.len()], 88);
+    let report = report_into(unit, prices, scratch.slice(), schedule.slice()).expect("a plan");
+    scratch.holds(&after);
+    let plan = schedule.slice().to_vec();
+    schedule.holds(&plan);
+    let (mut scratch, after) = dirty(used, beyond);
+    assert_eq!(value(unit, prices, scratch.slice()), Ok(report.outcomes));
+    scratch.holds(&after);
+    (report, plan)
+}
+
+/// Months under each limitation: two layers, with cells past them or none, answer as the long table does.
+#[test]
+fn months_in_both_sizes() {
+    let mut random = Random::new(17);
+    for (starts, hours, mwh) in [
+        (Some(30), None, None),
+        (None, Some(200), None),
+        (None, None, Some(1000)),
+        (Some(5), Some(40), None),
+    ] {
+        let unit = Unit {
+            starts,
+            hours,
+            mwh,
+            ..c1().unit
+        };
+        let prices: Vec<i64> = (0..2976).map(|_| random.between(-1000, 9000)).collect();
+        let Cells { needed, table } = cells(unit, prices.len()).expect("a case in order");
+        let expected = reported(unit, &prices, table, 5);
+        assert!(expected.0.profit > 0);
+        for beyond in [0, 5, table - needed - 1] {
+            assert_eq!(reported(unit, &prices, needed, beyond), expected);
+        }
+    }
+}
+
+/// A month with 200 hours is planned in two layers of 4 × 801 cells, whether its long table fits or not.
+#[test]
+fn a_month_that_is_faster_in_two_layers() {
+    let text = month().replacen(",2,2,none", ",none,200,none", 1);
+    let Case { unit, prices } = read_case(text.as_bytes()).expect("a case in order");
+    let (report, plan) = reported(unit, &prices, 9_538_308, 0);
+    let expected = listing(&unit, &plan, report.profit, report.outcomes);
+    for (words, why) in [
+        (
+            &["-"][..],
+            "which are faster than the long table of 9538308 cells",
+        ),
+        (
+            &["--cells", "9538308", "-"],
+            "which are faster than the long table of 9538308 cells",
+        ),
+        (
+            &["--cells", "9538307", "-"],
+            "since the long table of 9538308 cells does not fit",
+        ),
+        (
+            &["--cells", "6408", "-"],
+            "since the long table of 9538308 cells does not fit",
+        ),
+    ] {
+        let answer = answer_on(words, text.as_bytes());
+        assert_eq!(answer.stdout, expected, "{words:?}");
+        let said = String::from_utf8_lossy(&answer.stderr).to_string();
+        let two_layers = "ralwinga: 6408 cells, 50.1 KiB of scratch: two layers";
+        assert_eq!(said, format!("{two_layers}, {why}\n"), "{words:?}");
+    }
+}
+
+/// A month with two hours, whose long table is faster where it fits: two layers of 9 × 3 × 4 cells.
 #[test]
 fn a_month_in_two_layers() {
     let text = month();
     let expected = answer_on(&["-"], text.as_bytes());
+    let said = String::from_utf8_lossy(&expected.stderr).to_string();
+    assert_eq!(said, "ralwinga: 321516 cells, 2.5 MiB of scratch\n");
     let answer = answer_on(&["--cells", "216", "-"], text.as_bytes());
     assert_eq!(answer.stdout, expected.stdout);
     let said = String::from_utf8_lossy(&answer.stderr).to_string();
@@ -171,7 +248,7 @@ fn a_month_in_two_layers() {
     assert_eq!(answer.stdout, b"refused,8\n");
 }
 
-/// Of many cases each goes the way that fits.
+/// Of many cases each goes the faster way that fits.
 #[test]
 fn many_cases() {
     let folder = Folder::new("layers");
@@ -198,4 +275,64 @@ fn many_cases() {
     let refused = String::from_utf8(refused).expect("text");
     assert_eq!(refused.matches(",8,0,none,none,none\n").count(), 2);
     assert_eq!(said.matches(": the case needs 168 cells, ").count(), 2);
+}
+
+/// Of months some go by two layers since these are faster, and some since the long table does not fit.
+#[test]
+fn many_months() {
+    let folder = Folder::new("layers-of-months");
+    let with_hours = |hours: &str| {
+        let limited = format!(",none,{hours},none");
+        let text = month().replacen(",2,2,none", &limited, 1);
+        folder.file(&format!("{hours}.csv"), text)
+    };
+    // long tables of 107,172, 1,917,188 and 9,538,308 cells
+    let files = ["2", "40", "200"].map(with_hours);
+    let run = |words: &[&str]| {
+        let words = [&["plan", "--jobs", "1"], words].concat();
+        let answer = ralwinga(words).args(&files).output().expect("runs");
+        let said = String::from_utf8(answer.stderr).expect("text");
+        let (_, layers) = said.split_once(" of scratch").expect("a size");
+        (answer.stdout, layers.to_string())
+    };
+    let (table, said) = run(&[]);
+    assert_eq!(
+        said,
+        ": 2 in two layers, which are faster than their long tables\n"
+    );
+    for (most, why) in [
+        ("2000000", ": 1 in two layers, since its long table does not fit, and 1 in two layers, which are faster than its long table\n"),
+        ("1917187", ": 2 in two layers, since their long tables do not fit\n"),
+        ("6408", ": 3 in two layers, since their long tables do not fit\n"),
+    ] {
+        let (same, said) = run(&["--cells", most]);
+        assert_eq!((same == table, said.as_str()), (true, why), "{most}");
+    }
+}
+
+/// One thread's cells are handed out once: from sixteen cases on the long tables are faster.
+#[test]
+fn many_months_to_a_thread() {
+    let folder = Folder::new("layers-of-many-months");
+    let text = month().replacen(",2,2,none", ",none,40,none", 1);
+    let files: Vec<_> = (0..16)
+        .map(|case| folder.file(&format!("{case}.csv"), text.clone()))
+        .collect();
+    let run = |jobs: &str, cases: usize| {
+        let mut command = ralwinga(vec!["plan", "--jobs", jobs]);
+        let answer = command.args(&files[..cases]).output().expect("runs");
+        let said = String::from_utf8(answer.stderr).expect("text");
+        let rows = String::from_utf8(answer.stdout).expect("text");
+        let first = rows.lines().nth(1).expect("a row").to_string();
+        (first, said)
+    };
+    let (row, said) = run("1", 16);
+    assert!(said.starts_with("ralwinga: 16 cases, 1 at a time, at most 1917188 cells"));
+    assert!(!said.contains("two layers"), "{said}");
+    for (jobs, cases) in [("1", 15), ("2", 16)] {
+        let (same, said) = run(jobs, cases);
+        assert_eq!(same, row);
+        let layered = format!(": {cases} in two layers, which are faster than their long tables\n");
+        assert!(said.ends_with(&layered), "{said}");
+    }
 }

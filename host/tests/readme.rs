@@ -167,7 +167,7 @@ fn the_cells_of_a_month() {
         };
         let sizes = cells(limited, 2976).expect("a case in order");
         let (layers, table) = (sized(sizes.needed), sized(sizes.table));
-        let row = |line: &&str| line.contains(&layers) && line.ends_with(&table);
+        let row = |line: &&str| line.contains(&layers) && line.contains(&table);
         assert_eq!(README.lines().filter(row).count(), 1, "{layers} {table}");
     }
 }

@@ -8,7 +8,7 @@ use support::{month, ralwinga, Folder};
 
 /// A month whose cells take some tenths of a second.
 fn long_month() -> String {
-    month().replacen(",5000,2,2,none", ",5000,30,40,none", 1)
+    month().replacen(",5000,2,2,none", ",5000,30,200,none", 1)
 }
 
 /// What the command writes to a terminal.
@@ -36,18 +36,18 @@ fn a_long_case() {
     let answer = ralwinga([file]).output().expect("runs");
     let said = String::from_utf8(answer.stderr).expect("text");
     assert!(
-        said.ends_with(" MiB of scratch\n") && said.lines().count() == 1,
+        said.contains(" MiB of scratch: two layers, ") && said.lines().count() == 1,
         "{said}"
     );
 }
 
-/// A month with four hours, whose two layers are worked out for about a second: it is not shown as done when each layer was so once.
+/// A month whose two layers are worked out for about a second: it is not shown as done when each layer was so once.
 #[test]
 fn a_case_in_two_layers() {
     let folder = Folder::new("terminal-layers");
-    let text = month().replacen(",5000,2,2,none", ",5000,2,4,none", 1);
+    let text = month().replacen(",5000,2,2,none", ",5000,60,200,none", 1);
     let file = folder.file("month.csv", text);
-    let shown = on_a_terminal("--cells 1000", std::slice::from_ref(&file));
+    let shown = on_a_terminal("--cells 400000", std::slice::from_ref(&file));
     assert!(shown.contains(": two layers, since "), "{shown}");
     assert!(shown.contains("%, about "), "{shown}");
     let shares: Vec<u32> = shown

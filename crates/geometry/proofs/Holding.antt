@@ -19,11 +19,11 @@ use Rattle.geometry.specs.Layers.{infeasible, swing, Holds}
 
 -- ---- the sentinel in parts
 
-up-infeasible : up infeasible ≡ 0
+pub up-infeasible : up infeasible ≡ 0
 unfolding up
 up-infeasible = refl
 
-dn-infeasible : dn infeasible ≡ 2 ^ 62
+pub dn-infeasible : dn infeasible ≡ 2 ^ 62
 unfolding dn
 dn-infeasible = refl
 

@@ -1,15 +1,15 @@
 -- The places of the cells: each below its layer's width, and every number below that is some cell's.
 use mathlib.Core.Path.{_≡_, refl, sym, ap, _∙_}
 use mathlib.Core.Bool.{Bool, true, false}
-use Prim.Native.Nat.{ℕ, zero, suc, _+_, _-_, _*_, _≤_, _<_}
-use native.Mathlib.Nat.{mul-le-mul-right}
+use Prim.Native.Nat.{ℕ, zero, suc, _+_, _-_, _*_, _/_, _%_, _≤_, _<_}
+use native.Mathlib.Nat.{mul-le-mul-right, mul-add-div-right, mul-add-mod-self-right, div-eq-of-lt, mod-eq-of-lt}
 use native.Mathlib.Omega.{arith}
 use borrow.Author.Tests.{ltb-true, ltb-false}
 use lib.Dec.{ltb}
 use Rattle.optimality.specs.declared.Figures.{Figures}
 use Rattle.optimality.specs.declared.Cell.{Cell}
 use Rattle.optimality.specs.Cells.{InTable, cell, states}
-use Rattle.geometry.specs.Geometry.{row, span, section, width, index}
+use Rattle.geometry.specs.Geometry.{row, span, section, width, index, cellOf}
 
 -- ---- digits
 
@@ -33,6 +33,13 @@ digits (suc n) m i h = by (λ l. digits n m (i - m) l) (ltb i m) refl
     by : (i - m < n * m → Digits n m (i - m)) → (t : Bool) → ltb i m ≡ t → Digits (suc n) m i
     by rest true e = record { high = 0; low = i; high-lt = omega arith; low-lt = ltb-true i m e; is = omega arith }
     by rest false e = let l = ltb-false i m e in next l (rest (omega arith))
+
+-- the digits of a number made of two
+high-digit : (m q r : ℕ) → r < m → (q * m + r) / m ≡ q
+high-digit m q r h = let z = div-eq-of-lt h in omega (arith, mul-add-div-right {m = m} (omega arith) q r, z)
+
+low-digit : (m q r : ℕ) → r < m → (q * m + r) % m ≡ r
+low-digit m q r h = mul-add-mod-self-right q m r ∙ mod-eq-of-lt h
 
 -- ---- a cell's place in its row, its span, its state and its layer
 
@@ -122,3 +129,22 @@ module _ (f : Figures) where
         inside = record { state = s .high-lt; starts = omega (arith, x .high-lt); ons = omega (arith, y .high-lt); blocks = omega (arith, y .low-lt) };
         is = sym (s .is ∙ ap (λ (t : ℕ). s .high * section f + t) (x .is ∙ ap (λ (t : ℕ). x .high * span f + t) (y .is)));
       }
+
+  -- a cell is the one at its place
+  pub cell-there : (c : Cell) → InTable f c → cellOf f (index f c) ≡ c
+  unfolding index cellOf
+  cell-there c h =
+      let line = c .ons * row f + c .blocks in
+      let column = c .starts * span f + line in
+      let blocks = in-row (c .blocks) (h .blocks) in
+      let ons = in-span (c .ons) (c .blocks) (h .ons) (h .blocks) in
+      let starts = in-section (c .starts) (c .ons) (c .blocks) (h .starts) (h .ons) (h .blocks) in
+      let here : cell (c .state) (c .starts) (c .ons) (c .blocks) ≡ c = refl in
+      rw (
+        high-digit (section f) (c .state) column starts,
+        low-digit (section f) (c .state) column starts,
+        high-digit (span f) (c .starts) line ons,
+        low-digit (span f) (c .starts) line ons,
+        high-digit (row f) (c .ons) (c .blocks) blocks,
+        low-digit (row f) (c .ons) (c .blocks) blocks,
+      ) here

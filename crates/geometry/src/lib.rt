@@ -68,6 +68,24 @@ pub fn index(f: Figures, c: Cell) -> usize
     c.state * section + (c.starts * span + (c.ons * row + c.blocks))
 }
 
+// The cell that stands at a place.
+pub fn cell_of(f: Figures, i: usize) -> Cell
+    requires { ⌜ Sound f ⌝ }
+    ensures { λ r. ⌜ r ≡ geometry.cellOf f i ⌝ }
+{
+    let row = row_cells(f);
+    let span = span_cells(f);
+    let section = section_cells(f);
+    let column = i % section;
+    let line = column % span;
+    Cell {
+        state: i / section,
+        starts: column / span,
+        ons: line / row,
+        blocks: line % row,
+    }
+}
+
 // The best profit that a cell's number stands for.
 pub fn told(number: i64) -> BestProfit
     ensures { λ r. ⌜ r ≡ layers.told number ⌝ }

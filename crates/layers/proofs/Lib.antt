@@ -1,5 +1,5 @@
 -- From stores (Stretches, Segments) over rows (Carrying, Sweeping, Ladders, Windows, Passes) and a layer (Raising, Turning, Making) to the table
--- (Filling, Lending).
+-- (Filling, Lending). Between: some of the quarters.
 pub mod Stretches
 pub mod Segments
 pub mod Raising
@@ -11,4 +11,5 @@ pub mod Windows
 pub mod Passes
 pub mod Making
 pub mod Filling
+pub mod Between
 mod Lending

@@ -1,9 +1,9 @@
 -- What a fill asks of its last layer, and what it makes of the layers before it.
 use mathlib.Core.Path.{_≡_}
 use mathlib.Core.List.{List, []}
-use Prim.Native.Nat.{ℕ, _*_}
+use Prim.Native.Nat.{ℕ, _-_, _*_}
 use lib.IntN.{ℤ}
-use lib.ListN.{length, drop}
+use lib.ListN.{length, take, drop}
 use Rattle.commitment.specs.declared.BestProfit.{BestProfit}
 use Rattle.optimality.specs.declared.Figures.{Figures}
 use Rattle.optimality.specs.declared.Cell.{Cell}
@@ -26,6 +26,14 @@ Beyond n was cells = drop n cells ≡ drop n was
 abbrev pub FilledBy : Figures → List Quarter → List ℤ → List ℤ → Type 0
 FilledBy f quarters was cells = (ends : Cell → BestProfit) → Layer f ends [] (storedAt f was (length quarters * width f)) → Filled f ends quarters cells
 
+-- the quarters of prices from an interval of the horizon on
+abbrev pub quartersOn : Hours → ℕ → List ℤ → List Quarter
+quartersOn hours first prices = quartersFrom (opens hours) first prices
+
 -- the quarters of prices over a horizon
 abbrev pub quartersIn : Hours → List ℤ → List Quarter
-quartersIn hours prices = quartersFrom (opens hours) 0 prices
+quartersIn hours prices = quartersOn hours 0 prices
+
+-- those from one on to another
+abbrev pub between : List Quarter → ℕ → ℕ → List Quarter
+between quarters from to = take (to - from) (drop from quarters)

@@ -19,10 +19,11 @@ ghost use lib.IntN.{pos};
 ghost use lib.ListN.{length, drop, replicate};
 ghost use Rattle.optimality.specs.Machine.{anywhere, quarter};
 ghost use Rattle.layers.specs.Turns.{Interval};
-ghost use Rattle.layers.specs.Filling.{Ended, FilledBy, quartersIn, Beyond};
+ghost use Rattle.layers.specs.Filling.{Ended, FilledBy, quartersIn, quartersOn, Beyond};
 ghost use Rattle.layers.specs.Stretches.{Behind, LayerMade};
 ghost use Rattle.geometry.specs.Geometry.{width};
 ghost use Rattle.geometry.specs.Layers.{Filled, Room};
+ghost use Rattle.commitment.specs.Bounds.{mostIntervals};
 ghost use Rattle.commitment.specs.Ranges.{Priced};
 ghost use Rattle.commitment.specs.Windows.{Clocked};
 
@@ -33,14 +34,15 @@ pub fn fill_all(scratch: &mut [i64], w: usize, f: Figures, prices: &[i64], hours
     ensures { λ _. ⌜ Beyond ((length (now (prices .entry)) + 1) * w) (now (scratch .entry)) (now (scratch .exit)) ⌝ }
 {
     rows::put(scratch, prices.len() * w, w, 0);
-    fill(scratch, w, f, prices, hours);
+    fill(scratch, w, f, prices, hours, 0);
 }
 
-// The layers before the last, which is there and says where a plan may end.
-pub fn fill(scratch: &mut [i64], w: usize, f: Figures, prices: &[i64], hours: Hours)
+// The layers before the last, which is there and says where a plan may end. The prices are those of the horizon from interval `first` on.
+pub fn fill(scratch: &mut [i64], w: usize, f: Figures, prices: &[i64], hours: Hours, first: usize)
     requires { ⌜ (Room f (length (now prices)) (length (now scratch))) × (w ≡ width f) × (Priced (now prices)) × (Clocked hours) ⌝ }
     requires { ⌜ Ended f (now scratch) (length (now prices) * width f) ⌝ }
-    ensures { λ _. ⌜ FilledBy f (quartersIn hours (now (prices .entry))) (now (scratch .entry)) (now (scratch .exit)) ⌝ }
+    requires { ⌜ first + length (now prices) ≤ mostIntervals ⌝ }
+    ensures { λ _. ⌜ FilledBy f (quartersOn hours first (now (prices .entry))) (now (scratch .entry)) (now (scratch .exit)) ⌝ }
     ensures { λ _. ⌜ Beyond (length (now (prices .entry)) * w) (now (scratch .entry)) (now (scratch .exit)) ⌝ }
 {
     let mut t = prices.len();
@@ -48,7 +50,14 @@ pub fn fill(scratch: &mut [i64], w: usize, f: Figures, prices: &[i64], hours: Ho
     while 0 < t {
         t -= 1;
         at -= w;
-        fill_layer(scratch, at, w, f, prices[t], windows::opens_in(hours, t));
+        fill_layer(
+            scratch,
+            at,
+            w,
+            f,
+            prices[t],
+            windows::opens_in(hours, first + t),
+        );
     }
 }
 

@@ -144,6 +144,7 @@ module _ (l : Ladder) where
                   same = a .apart .same;
                   values = λ j h o. a .apart .values j h (narrower j count few o);
                   marks = λ j h o. a .apart .marks j h (narrower j count few o);
+                  beyond = a .apart .beyond;
                 };
           }
         where
@@ -162,6 +163,7 @@ module _ (l : Ladder) where
                   same = d .apart .same ∙ a .apart .same;
                   values = λ j h o. d .apart .values j h (below j o) ∙ a .apart .values j h (narrower j count few o);
                   marks = λ j h o. d .apart .marks j h (below j o) ∙ a .apart .marks j h (narrower j count few o);
+                  beyond = λ j h. d .apart .beyond j h ∙ a .apart .beyond j h;
                 };
           }
         where

@@ -19,9 +19,9 @@ use Rattle.integers.proofs.Order.{ltZ-dec}
 use Rattle.optimality.specs.declared.Cell.{Cell}
 use Rattle.optimality.specs.declared.Figures.{Figures}
 use Rattle.optimality.specs.Cells.{Sound, states, afterOn, startTakes, startPays, mayRun, onCell}
-use Rattle.geometry.specs.Geometry.{row, span, width, index}
+use Rattle.geometry.specs.Geometry.{row, span, section, width, index}
 use Rattle.geometry.specs.Layers.{infeasible}
-use Rattle.geometry.proofs.Places.{in-row, row-fits, span-fits, section-fits}
+use Rattle.geometry.proofs.Places.{in-row, in-section, row-fits, span-fits, section-fits, numbered}
 use Rattle.layers.specs.declared.rows.Ladder.{Ladder}
 use Rattle.layers.specs.Ladders.{brings, betterEnd, Steady}
 use Rattle.layers.specs.Turns.{net, onStored}
@@ -30,7 +30,7 @@ use Rattle.layers.proofs.Turning.{pays-most}
 use Rattle.layers.specs.Stretches.{Small}
 use Rattle.marks.specs.Picking.{Picked}
 use Rattle.marks.specs.Images.{worth, markBy, PickedAt, Piece}
-use Rattle.marks.specs.Lines.{FlatAt, valueOf, markOf, OnPicked, OfPiece, lineOf, laddered, FlatLine, OnAsked, WholeChunks}
+use Rattle.marks.specs.Lines.{FlatAt, valueOf, markOf, columnOf, OnPicked, OfPiece, lineOf, laddered, FlatLine, OnAsked, WholeChunks}
 use Rattle.marks.proofs.Picking.{picked-same}
 
 -- ---- outputs that lead to the same cell: the lowest or the highest is the first of the best
@@ -268,21 +268,79 @@ row-in-line f s x y leads starts ons =
     let b = row-fits f (y - f .peron) (omega arith) in
     omega (arith, a, b)
 
+-- ---- a place is one line and one column
+
+pub same-place : (n a b r t : ℕ) → r < n → t < n → a * n + r ≡ b * n + t → (a ≡ b) × (r ≡ t)
+same-place n a b r t hr ht e = by (ltb a b) refl (ltb b a) refl
+  where
+    by : (p : Bool) → ltb a b ≡ p → (q : Bool) → ltb b a ≡ q → (a ≡ b) × (r ≡ t)
+    by true i q j =
+        let l = ltb-true a b i in
+        let m : (a + 1) * n ≤ b * n = mul-le-mul-right n (omega arith) in
+        absurd (omega (arith, m, add-mul a 1 n, one-mul n))
+    by false i true j =
+        let l = ltb-true b a j in
+        let m : (b + 1) * n ≤ a * n = mul-le-mul-right n (omega arith) in
+        absurd (omega (arith, m, add-mul b 1 n, one-mul n))
+    by false i false j =
+        let l = ltb-false a b i in
+        let g = ltb-false b a j in
+        let same : a ≡ b = omega arith in
+        let m : a * n ≡ b * n = ap (λ (k : ℕ). k * n) same in
+        (same, omega (arith, m))
+
 -- ---- what the lines ask
 
 module _ (f : Figures) (w : ℕ) (cells : List ℤ) (price : ℤ) (s x y place count : ℕ) (a : OnAsked f w cells price s x y place count) where
   pub steady : Steady (laddered f price s)
   steady = ladder-steady f price (startPays f s) (a .interval) (pays-most f (a .interval .sound) s)
 
-  -- a stretch of the layer
-  small-from : (from n : ℕ) → from + n ≤ w → Small cells from n
-  small-from from n fits i h = let e : 0 + (from + i) ≡ from + i = omega arith in rw e at (a .small (from + i) (omega arith))
+  index-is : (c : Cell) → c .state * section f + columnOf f c ≡ index f c
+  unfolding index
+  index-is c = refl
+
+  -- a stretch of the columns that are read, in the state that the interval leads to
+  small-from : (off n : ℕ) → off + n ≤ x * span f + (y * row f + (place + count)) → off + n ≤ section f → Small cells (afterOn f s * section f + off) n
+  small-from off n bound inside i h =
+      let here = section-fits f (afterOn f s) (a .leads) in
+      let c = numbered f (afterOn f s * section f + off + i) (omega (arith, here)) in
+      let e : c .of .state * section f + columnOf f (c .of) ≡ afterOn f s * section f + (off + i) = index-is (c .of) ∙ (omega (arith, c .is)) in
+      let u = same-place (section f) (c .of .state) (afterOn f s) (columnOf f (c .of)) (off + i)
+      (in-section f (c .of .starts) (c .of .ons) (c .of .blocks) (c .inside .starts) (c .inside .ons) (c .inside .blocks)) (omega arith) e in
+      rw (← c .is) (a .small (c .of) (c .inside) (u .0) (omega (arith, u .1)))
+
+  spans : (x - startTakes f s) * span f ≤ x * span f
+  spans = mul-le-mul-right (span f) (omega arith)
+
+  flat-small : f .perblock ≡ 0 → Small cells (lineOf f s x) (place + count)
+  flat-small none =
+      let fit = span-fits f (x - startTakes f s) (omega (arith, a .starts)) in
+      let k = a .flat none in
+      λ i h.
+      let e : lineOf f s x + i ≡ afterOn f s * section f + ((x - startTakes f s) * span f + i) = omega arith in
+      let z : afterOn f s * section f + 0 + ((x - startTakes f s) * span f + i) ≡ afterOn f s * section f + ((x - startTakes f s) * span f + i) = omega arith in
+      rw e
+      (rw z at (small-from 0 ((x - startTakes f s) * span f + (place + count)) (omega (arith, spans)) (omega (arith, fit, k .1))
+      ((x - startTakes f s) * span f + i) (omega arith)))
+
+  lined-small : f .perblock ≡ 1 → Small cells (lineOf f s x + (y - f .peron) * row f) (place + count)
+  lined-small one =
+      let k = a .lined one in
+      let rows : (y - f .peron) * row f ≤ y * row f = mul-le-mul-right (row f) (omega arith) in
+      let fit = span-fits f (x - startTakes f s) (omega (arith, a .starts)) in
+      let in-span = row-fits f (y - f .peron) (omega (arith, k .0)) in
+      λ i h.
+      let off = (x - startTakes f s) * span f + (y - f .peron) * row f in
+      let e : lineOf f s x + (y - f .peron) * row f + i ≡ afterOn f s * section f + (off + i) = omega arith in
+      let z : afterOn f s * section f + 0 + (off + i) ≡ afterOn f s * section f + (off + i) = omega arith in
+      rw e
+      (rw z at (small-from 0 (off + (place + count)) (omega (arith, spans, rows)) (omega (arith, fit, in-span, k .1)) (off + i) (omega arith)))
 
   pub flat-line : f .perblock ≡ 0 → FlatLine cells w (lineOf f s x) place count (betterEnd (laddered f price s))
   flat-line none =
       let fits = line-fits f s x (a .leads) (a .starts) in
       let room : lineOf f s x + (place + count) ≤ w = omega (arith, fits, a .wide, a .flat none .1) in
-      record { values = room; marks = a .marks; small = small-from (lineOf f s x) (place + count) room; gains = end-small (laddered f price s) steady }
+      record { values = room; marks = a .marks; small = flat-small none; gains = end-small (laddered f price s) steady }
 
   pub lined-piece : f .perblock ≡ 1 → f .pmin ≤ place → Piece (laddered f price s) cells w (lineOf f s x + (y - f .peron) * row f) place count
   lined-piece one lo =
@@ -300,6 +358,6 @@ module _ (f : Figures) (w : ℕ) (cells : List ℤ) (price : ℤ) (s x y place c
         fits = c .fits;
         values = omega (arith, room);
         marks = a .marks;
-        small = small-from (lineOf f s x + (y - f .peron) * row f) (place + count) room;
+        small = lined-small one;
       })
       (k .2)

@@ -20,8 +20,8 @@ use Rattle.layers.specs.Turns.{offStored}
 use Rattle.layers.specs.Stretches.{Copied, Apart}
 use Rattle.marks.specs.Pairs.{Pairs, JoinedFrom}
 use Rattle.marks.specs.Images.{piece, Imaged}
-use Rattle.marks.specs.Lines.{OfPiece}
-use Rattle.marks.specs.Turning.{MovedAt, OffHere, OnHere, TurnHere, columnOf}
+use Rattle.marks.specs.Lines.{columnOf, OfPiece}
+use Rattle.marks.specs.Turning.{MovedAt, OffHere, OnHere, TurnHere}
 
 -- two copies, of the values and of the marks
 pub moved : (was mid now : List ℤ) (w to from count : ℕ) → to + count ≤ from → from + count ≤ w → length now ≡ length was
@@ -34,6 +34,7 @@ moved was mid now w to from count before fits same values marks =
             same = same;
             values = λ j h o. marks .apart j (inl (omega arith)) ∙ values .apart j (in-values j h o);
             marks = λ j h o. marks .apart (w + j) (in-marks j o) ∙ values .apart (w + j) (inr (omega arith));
+            beyond = λ j h. marks .apart j (inr (omega arith)) ∙ values .apart j (inr (omega arith));
           };
     }
   where
@@ -85,6 +86,7 @@ module _ (f : Figures) (w : ℕ) (was now : List ℤ) (s column count : ℕ) whe
               same = same;
               values = λ j h o. apart j o;
               marks = λ j h o. apart (w + j) (inr (omega arith));
+              beyond = λ j h. apart j (inr (omega arith));
             };
       }
 
@@ -137,5 +139,6 @@ turned-here f q w was mid now empty ran s x y place column to count e on off joi
             same = joined .apart .same ∙ off .apart .same;
             values = λ j h o. joined .apart .values j h o ∙ off .apart .values j h o;
             marks = λ j h o. joined .apart .marks j h o ∙ off .apart .marks j h o;
+            beyond = λ j h. joined .apart .beyond j h ∙ off .apart .beyond j h;
           };
     }

@@ -17,7 +17,7 @@ use Rattle.marks.specs.Pairs.{Pairs, Joined, putPair, joinPair}
 
 pub pairs-none : (behind : ℕ) (Stands : ℕ → ℤ → ℤ → Type 0) (was : List ℤ) (to : ℕ) → Pairs behind Stands was was to 0
 pairs-none behind Stands was to =
-    record { inside = λ i h. absurd (omega arith); apart = record { same = refl; values = λ j h o. refl; marks = λ j h o. refl } }
+    record { inside = λ i h. absurd (omega arith); apart = record { same = refl; values = λ j h o. refl; marks = λ j h o. refl; beyond = λ j h. refl } }
 
 module _ (behind : ℕ) (was : List ℤ) (at : ℕ) (v m : ℤ) (inside : at < behind) (room : behind + behind ≤ length was) where
   abbrev pub both-set : List ℤ
@@ -37,6 +37,10 @@ module _ (behind : ℕ) (was : List ℤ) (at : ℕ) (v m : ℤ) (inside : at < b
   mark-elsewhere j other =
       getD-set-other (set was at v) (behind + at) (behind + j) m (pos 0) (λ e. other (omega arith))
       ∙ getD-set-other was at (behind + j) v (pos 0) (λ e. omega arith)
+
+  pub beyond-both : (j : ℕ) → behind + behind ≤ j → getD both-set j (pos 0) ≡ getD was j (pos 0)
+  beyond-both j h =
+      getD-set-other (set was at v) (behind + at) j m (pos 0) (λ e. omega arith) ∙ getD-set-other was at j v (pos 0) (λ e. omega arith)
 
   pub both-long : length both-set ≡ length was
   both-long = length-set (set was at v) (behind + at) m ∙ length-set was at v
@@ -60,6 +64,7 @@ pairs-next behind Stands was out to i v m fits room a this =
             same = both-long behind out (to + i) v m fits room ∙ a .apart .same;
             values = λ j h o. value-elsewhere behind out (to + i) v m fits room j h (λ e. apart-from j o e) ∙ a .apart .values j h (wider j o);
             marks = λ j h o. mark-elsewhere behind out (to + i) v m fits room j (λ e. apart-from j o e) ∙ a .apart .marks j h (wider j o);
+            beyond = λ j h. beyond-both behind out (to + i) v m fits room j h ∙ a .apart .beyond j h;
           };
     }
   where
@@ -82,7 +87,7 @@ imaged Stands was out count a =
 module _ (cells : List ℤ) (w from count : ℕ) (gain fall : ℤ) (was : List ℤ) (to : ℕ) where
   pub descended-none : Descended cells w from count gain fall was was to 0
   descended-none =
-      record { inside = λ j lo hi. absurd (omega arith); apart = record { same = refl; values = λ j h o. refl; marks = λ j h o. refl } }
+      record { inside = λ j lo hi. absurd (omega arith); apart = record { same = refl; values = λ j h o. refl; marks = λ j h o. refl; beyond = λ j h. refl } }
 
   pub descended-next : (out : List ℤ) (i : ℕ) (v m : ℤ) → i < count → to + count ≤ piece → piece + piece ≤ length was
       → Descended cells w from count gain fall was out to i → DownPicked cells w from count gain fall i v m
@@ -103,6 +108,7 @@ module _ (cells : List ℤ) (w from count : ℕ) (gain fall : ℤ) (was : List �
               same = both-long piece out (to + j) v′ m′ at room ∙ d .apart .same;
               values = λ k h o. value-elsewhere piece out (to + j) v′ m′ at room k h (λ e. not-here k o e) ∙ d .apart .values k h (wider k o);
               marks = λ k h o. mark-elsewhere piece out (to + j) v′ m′ at room k (λ e. not-here k o e) ∙ d .apart .marks k h (wider k o);
+              beyond = λ k h. beyond-both piece out (to + j) v′ m′ at room k h ∙ d .apart .beyond k h;
             };
       }
     where

@@ -3,7 +3,7 @@ use mathlib.Core.Path.{_≡_}
 use mathlib.Core.Bool.{true}
 use mathlib.Core.List.{List}
 use mathlib.Core.Logic.{_⊎_}
-use Prim.Native.Nat.{ℕ, _+_, _-_, _*_, _≤_, _<_}
+use Prim.Native.Nat.{ℕ, _+_, _-_, _*_, _^_, _≤_, _<_}
 use lib.IntN.{ℤ, pos, natAbs, _+ℤ_}
 use lib.ListN.{length, getD}
 use Rattle.optimality.specs.declared.Cell.{Cell}
@@ -39,6 +39,10 @@ module _ (f : Figures) (w : ℕ) (cells : List ℤ) where
 
   abbrev pub markOf : Cell → ℤ
   markOf c = getD cells (w + index f c) (pos 0)
+
+-- by its column, the place of a cell among those of its state
+abbrev pub columnOf : Figures → Cell → ℕ
+columnOf f c = c .starts * span f + (c .ons * row f + c .blocks)
 
 -- the outputs on that a cell allows
 abbrev pub Runs : Figures → Cell → ℕ → Type 0
@@ -82,7 +86,8 @@ pub record OnAsked (f : Figures) (w : ℕ) (cells : List ℤ) (price : ℤ) (s x
   pub interval : Interval f price
   pub wide : w ≡ width f
   pub marks : w + w ≤ length cells
-  pub small : Small cells 0 w
+  pub small : (c : Cell) → InTable f c → c .state ≡ afterOn f s → columnOf f c < x * span f + (y * row f + (place + count))
+      → natAbs (valueOf f w cells c) ≤ 2 ^ 62
   pub state : s < states f
   pub leads : afterOn f s < states f
   pub starts : x ≤ f .starts

@@ -13,6 +13,7 @@ pub record PairsApart (behind : ℕ) (was now : List ℤ) (to count : ℕ) : Typ
   pub same : length now ≡ length was
   pub values : (j : ℕ) → j < behind → (j < to) ⊎ (to + count ≤ j) → getD now j (pos 0) ≡ getD was j (pos 0)
   pub marks : (j : ℕ) → j < behind → (j < to) ⊎ (to + count ≤ j) → getD now (behind + j) (pos 0) ≡ getD was (behind + j) (pos 0)
+  pub beyond : (j : ℕ) → behind + behind ≤ j → getD now j (pos 0) ≡ getD was j (pos 0)
 
 -- what stands from `to` on, for so many places
 pub record Pairs (behind : ℕ) (Stands : ℕ → ℤ → ℤ → Type 0) (was now : List ℤ) (to count : ℕ) : Type 0 where

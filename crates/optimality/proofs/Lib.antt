@@ -1,5 +1,5 @@
 -- Optimal: what the best of a case is. Better, Machine, Quarters, Values, Turns: any machine, step by step.
--- Rival, Commit, Outputs, Best: the case as a machine.
+-- Rival, Commit, Outputs, Best: the case as a machine. Split: a best plan cut in two. Shift: budgets that are not touched.
 -- Simulate, Left, Cells, Opening: the machine whose state is a cell. Runs, Valuing: smaller limitations and the outcomes. Ranges: what the checks say.
 pub mod Better
 pub mod Machine
@@ -10,6 +10,7 @@ pub mod Ranges
 pub mod Outputs
 pub mod Best
 pub mod Split
+pub mod Shift
 pub mod Simulate
 pub mod Left
 pub mod Cells

@@ -30,6 +30,11 @@ ladder-ascending zero first block h = tt
 ladder-ascending (suc count) first block h =
     (λ n i. omega (arith, ladder-from count (first + block) block n h i), ladder-ascending count (first + block) block h)
 
+-- behind 0
+pub ladder-after-zero : (count first block : ℕ) → 1 ≤ block → 1 ≤ first → Ascending (0 ∷ ladder block first count)
+ladder-after-zero count first block h some =
+    (λ n i. omega (arith, ladder-from count first block n h i), ladder-ascending count first block h)
+
 ladder-has : (count first block j : ℕ) → j < count → List·Memᴰ (first + j * block) (ladder block first count)
 ladder-has zero first block j h = absurd (omega arith)
 ladder-has (suc count) first block zero h = List·Memᴰ·head {x = first} (omega arith)
@@ -67,10 +72,7 @@ module _ (u : UnitRecord) (ok : Ranged u) where
   count = suc (u .generator .pmax) - u .generator .pmin
 
   pub outputs-ascending : Ascending (outputs (u .generator))
-  outputs-ascending = (
-    λ n i. omega (arith, ladder-from count first block n (ok .block) i, mul-le-mul-right block (ok .pmin), ok .block),
-    ladder-ascending count first block (ok .block),
-  )
+  outputs-ascending = ladder-after-zero count first block (ok .block) (omega (arith, mul-le-mul-right block (ok .pmin), ok .block))
 
   -- an output but 0 that is tried is so many blocks
   pub blocks-of : (m : ℕ) → List·Memᴰ (suc m) (outputs (u .generator)) → (k : ℕ) × (suc m ≡ k * block) × (u .generator .pmin ≤ k) × (k ≤ u .generator .pmax)

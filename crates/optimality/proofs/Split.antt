@@ -44,7 +44,7 @@ same-end (m ∷ s) (k ∷ t) a n = ap (λ (b : Bool). ltb m k || (eqb m k && b))
 plan-parts : {s t : List ℕ} {p q : ℤ} → plan s p ≡ plan t q → (s ≡ t) × (p ≡ q)
 plan-parts e = (cc, cc)
 
-go-parts : {State : Type 0} {g h : ℤ} {x y : State} → _≡_ {A = Step State} (go g x) (go h y) → (g ≡ h) × (x ≡ y)
+pub go-parts : {State : Type 0} {g h : ℤ} {x y : State} → _≡_ {A = Step State} (go g x) (go h y) → (g ≡ h) × (x ≡ y)
 go-parts e = (cc, cc)
 
 no-step : {State : Type 0} {g : ℤ} {x : State} → _≡_ {A = Step State} stop (go g x) → ⊥

@@ -54,6 +54,7 @@ ladder-split block first (suc a) b =
 
 pub record OffTurn (f : Figures) (ends : Cell → BestProfit) (q : Quarter) (quarters : List Quarter) (c : Cell) : Type 0 where
   pub leads : afterOff f (c .state) < states f
+  pub steps : inQuarter (cellStep f) c q 0 ≡ go (pos 0) (offCell f c)
   pub is : planAt f ends (q ∷ quarters) c ≡ after 0 (pos 0) (planAt f ends quarters (offCell f c))
 
 pub record OnTurn (f : Figures) (ends : Cell → BestProfit) (q : Quarter) (quarters : List Quarter) (c : Cell) (k : ℕ) : Type 0 where
@@ -61,6 +62,7 @@ pub record OnTurn (f : Figures) (ends : Cell → BestProfit) (q : Quarter) (quar
   pub starts : startTakes f (c .state) ≤ c .starts
   pub ons : f .peron ≤ c .ons
   pub blocks : k * f .perblock ≤ c .blocks
+  pub steps : inQuarter (cellStep f) c q (k * f .block) ≡ go (gain f (q .price) k -ℤ pos (startPays f (c .state))) (onCell f c k)
   pub is : planAt f ends (q ∷ quarters) c
       ≡ after (k * f .block) (gain f (q .price) k -ℤ pos (startPays f (c .state))) (planAt f ends quarters (onCell f c k))
 
@@ -205,7 +207,7 @@ module _ (f : Figures) (ok : Sound f) (ends : Cell → BestProfit) where
     pub off-turn : offValue f rest c ≡ Profit best → OffTurn f ends q quarters c
     off-turn h =
         let t = leads-on (ltb (afterOff f (c .state)) (states f)) (pos 0) (offCell f c) rest best h in
-        record { leads = ltb-true (afterOff f (c .state)) (states f) t; is = plan-off h ∙ (rw t) }
+        record { leads = ltb-true (afterOff f (c .state)) (states f) t; steps = rw t; is = plan-off h ∙ (rw t) }
 
     -- where off does not, the first number of blocks that reaches it is the plan's
     pub on-turn : q .opens ≡ true → (offValue f rest c ≡ Profit best → ⊥) → (k : ℕ) → f .pmin ≤ k → k ≤ f .pmax
@@ -222,5 +224,6 @@ module _ (f : Figures) (ok : Sound f) (ends : Cell → BestProfit) where
           starts = leb-true (startTakes f (c .state)) (c .starts) (start .1);
           ons = leb-true (f .peron) (c .ons) (run .1);
           blocks = leb-true (k * f .perblock) (c .blocks) (all .1);
+          steps = open-blocks c q k opened (omega (arith, ok .pmin)) ∙ (rw t);
           is = plan-on opened off k lo hi short h ∙ (rw t);
         }

@@ -1,7 +1,7 @@
 -- Two layers of scratch, for one interval: its own at the front, and the one behind it.
 use mathlib.Core.Path.{_≡_}
-use mathlib.Core.List.{List}
-use Prim.Native.Nat.{ℕ, suc, _+_, _≤_}
+use mathlib.Core.List.{List, []}
+use Prim.Native.Nat.{ℕ, _+_, _≤_, _<_}
 use lib.IntN.{ℤ}
 use lib.ListN.{length, drop}
 use Rattle.commitment.specs.declared.BestProfit.{BestProfit}
@@ -12,9 +12,10 @@ use Rattle.commitment.specs.Windows.{Clocked}
 use Rattle.optimality.specs.declared.Cell.{Cell}
 use Rattle.optimality.specs.declared.Figures.{Figures}
 use Rattle.optimality.specs.Machine.{Quarter}
-use Rattle.optimality.specs.Cells.{InTable}
+use Rattle.optimality.specs.Cells.{Sound, InTable}
 use Rattle.geometry.specs.Geometry.{width}
-use Rattle.geometry.specs.Layers.{Layer, Room, storedAt, inFront}
+use Rattle.geometry.specs.Layers.{Room, Layer, storedAt, inFront}
+use Rattle.layers.specs.Filling.{Ended}
 use Rattle.layers.specs.Turns.{quarterStored}
 
 -- what is lent: room for one interval, whatever the number of prices, and the hours in which the unit may run
@@ -25,10 +26,21 @@ pub record Lent (f : Figures) (w : ℕ) (prices cells : List ℤ) (hours : Hours
   pub priced : Priced prices
   pub clocked : Clocked hours
 
--- the front holds the best profits over the quarters after the t-th, the layer behind it those over the quarters after the next
-pub record Rolled (f : Figures) (ends : Cell → BestProfit) (quarters : List Quarter) (t : ℕ) (cells : List ℤ) : Type 0 where
-  pub front : Layer f ends (drop t quarters) (inFront f cells)
-  pub behind : Layer f ends (drop (suc t) quarters) (storedAt f cells (width f))
+-- so many intervals to roll through, the layer after the last of them standing behind
+pub record RollAsked (f : Figures) (w : ℕ) (prices cells : List ℤ) (hours : Hours) (from to : ℕ) : Type 0 where
+  pub sound : Sound f
+  pub wide : w ≡ width f
+  pub fits : w + w ≤ length cells
+  pub priced : Priced prices
+  pub clocked : Clocked hours
+  pub short : length prices ≤ mostIntervals
+  pub some : from < to
+  pub inside : to ≤ length prices
+  pub ended : Ended f cells (width f)
+
+-- whatever that layer said, the front is the layer before these quarters
+abbrev pub RolledBy : Figures → List Quarter → List ℤ → List ℤ → Type 0
+RolledBy f quarters was cells = (ends : Cell → BestProfit) → Layer f ends [] (storedAt f was (width f)) → Layer f ends quarters (inFront f cells)
 
 -- every cell of the layer behind is made from what stood there, and nothing beyond the two is touched
 pub record Earlier (f : Figures) (q : Quarter) (was cells : List ℤ) : Type 0 where

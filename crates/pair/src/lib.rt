@@ -1,38 +1,50 @@
-// The table in two layers of scratch (specification 14): the front and the one behind it hold one interval at a time. The layers are rolled through
-// from the last interval back. For each output of the plan they are rolled through again, as far as its interval.
+// Best profits in two layers of scratch (specification 14): the front and the one behind it hold one interval at a time, and are rolled through from
+// the last interval back. Valuing needs no more; for plans crate `halving` rolls through the later half of a task.
 
 use commitment::windows;
 use commitment::windows::Hours;
 use layers::rows;
 use layers::states;
-use optimality::Cell;
 use optimality::Figures;
-use table::reading;
 ghost use mathlib.Core.Path.{_≡_};
 ghost use mathlib.Core.List.{_++_};
-ghost use Prim.Native.Nat.{_+_, _≤_, _<_};
+ghost use Prim.Native.Nat.{_+_, _≤_};
 ghost use lib.IntN.{pos};
 ghost use lib.ListN.{length, drop, replicate};
-ghost use Rattle.commitment.specs.declared.BestProfit.the-variants.{Nothing};
-ghost use Rattle.commitment.specs.Best.{scheduleOf};
-ghost use Rattle.commitment.specs.Tries.{triesOver};
 ghost use Rattle.optimality.specs.Machine.{anywhere, quarter};
-ghost use Rattle.optimality.specs.Cells.{InTable, planAt, valueAt};
 ghost use Rattle.geometry.specs.Geometry.{width};
+ghost use Rattle.geometry.specs.Layers.{Layer, inFront};
 ghost use Rattle.layers.specs.Turns.{Interval};
-ghost use Rattle.layers.specs.Filling.{quartersIn, Beyond};
+ghost use Rattle.layers.specs.Filling.{quartersIn, between, Beyond};
 ghost use Rattle.layers.specs.Stretches.{Behind};
-ghost use Rattle.pair.specs.Rolling.{Lent, Rolled, Earlier};
+ghost use Rattle.pair.specs.Rolling.{Lent, RollAsked, RolledBy, Earlier};
 
-// The layer of interval `at` at the front, and behind it the layer after it.
-pub fn roll(scratch: &mut [i64], w: usize, f: Figures, prices: &[i64], hours: Hours, at: usize)
-    requires { ⌜ (Lent f w (now prices) (now scratch) hours) × (at < length (now prices)) ⌝ }
-    ensures { λ _. ⌜ Rolled f anywhere (quartersIn hours (now (prices .entry))) at (now (scratch .exit)) ⌝ }
+// The first layer of a whole case at the front. After its last interval a plan may end in any cell.
+pub fn roll_all(scratch: &mut [i64], w: usize, f: Figures, prices: &[i64], hours: Hours)
+    requires { ⌜ (Lent f w (now prices) (now scratch) hours) × (1 ≤ length (now prices)) ⌝ }
+    ensures { λ _. ⌜ Layer f anywhere (quartersIn hours (now (prices .entry))) (inFront f (now (scratch .exit))) ⌝ }
     ensures { λ _. ⌜ Beyond (w + w) (now (scratch .entry)) (now (scratch .exit)) ⌝ }
 {
-    rows::put(scratch, w, w, 0);
-    let mut t = prices.len() - 1;
-    while at < t {
+    rows::put(&mut *scratch, w, w, 0);
+    roll(scratch, w, f, prices, hours, 0, prices.len());
+}
+
+// The layer of an interval at the front, by the layer after the last one, which stands behind and says where a plan may end.
+pub fn roll(
+    scratch: &mut [i64],
+    w: usize,
+    f: Figures,
+    prices: &[i64],
+    hours: Hours,
+    from: usize,
+    to: usize,
+)
+    requires { ⌜ RollAsked f w (now prices) (now scratch) hours from to ⌝ }
+    ensures { λ _. ⌜ RolledBy f (between (quartersIn hours (now (prices .entry))) from to) (now (scratch .entry)) (now (scratch .exit)) ⌝ }
+    ensures { λ _. ⌜ Beyond (w + w) (now (scratch .entry)) (now (scratch .exit)) ⌝ }
+{
+    let mut t = to - 1;
+    while from < t {
         earlier(scratch, w, f, prices[t], windows::opens_in(hours, t));
         t -= 1;
     }
@@ -46,41 +58,6 @@ fn earlier(scratch: &mut [i64], w: usize, f: Figures, price: i64, opens: bool)
 {
     states::fill_layer(scratch, w, f, price, opens);
     rows::copy(scratch, w, 0, w);
-}
-
-// The best plan from a cell that has one, in the front of the schedule, and how many outputs were tried for it.
-pub fn plan_from(
-    scratch: &mut [i64],
-    w: usize,
-    f: Figures,
-    prices: &[i64],
-    hours: Hours,
-    from: Cell,
-    schedule: &mut [u64],
-) -> usize
-    requires { ⌜ (Lent f w (now prices) (now scratch) hours) × (InTable f from) × (length (now prices) ≤ length (now schedule)) ⌝ }
-    requires { ⌜ (valueAt f anywhere (quartersIn hours (now prices)) from ≡ Nothing → ⊥) ⌝ }
-    ensures { λ r. ⌜ r ≡ triesOver (f .block) (f .pmin) (scheduleOf (planAt f anywhere (quartersIn hours (now (prices .entry))) from)) ⌝ }
-    ensures { λ _. ⌜ now (schedule .exit)
-        ≡ scheduleOf (planAt f anywhere (quartersIn hours (now (prices .entry))) from) ++ drop (length (now (prices .entry))) (now (schedule .entry)) ⌝ }
-    ensures { λ _. ⌜ Beyond (w + w) (now (scratch .entry)) (now (scratch .exit)) ⌝ }
-{
-    let n = prices.len();
-    let mut c = from;
-    let mut tries = 0;
-    let mut t = 0;
-    while t < n {
-        roll(scratch, w, f, prices, hours, t);
-        let i = geometry::index(f, c);
-        let best = scratch[i];
-        let found = reading::choose(scratch, w, f, prices[t], c, best);
-        let k = found.blocks;
-        tries += found.tries;
-        schedule[t] = (k * f.block) as u64;
-        c = reading::moved(f, c, k);
-        t += 1;
-    }
-    tries
 }
 
 // The two layers back to 0.

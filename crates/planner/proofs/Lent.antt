@@ -2,7 +2,7 @@
 use mathlib.Core.Path.{_≡_, sym, ap, _∙_}
 use mathlib.Core.Bool.{Bool, true}
 use mathlib.Core.List.{List, [], _∷_, _++_}
-use Prim.Native.Nat.{ℕ, _+_, _*_, _≤_, _<_}
+use Prim.Native.Nat.{ℕ, zero, suc, _+_, _*_, _≤_, _<_}
 use native.Mathlib.Omega.{arith}
 use borrow.Author.Tests.{leb-true, le-leb, lt-leb}
 use lib.Dec.{leb}
@@ -28,10 +28,10 @@ use Rattle.optimality.proofs.Opening.{figures-sound}
 use Rattle.optimality.proofs.Quarters.{quarters-same}
 use Rattle.optimality.proofs.Ranges.{ranged}
 use Rattle.geometry.specs.Geometry.{width}
-use Rattle.geometry.specs.Layers.{Room, Filled}
+use Rattle.geometry.specs.Layers.{Room, Filled, Layer, inFront}
 use Rattle.geometry.proofs.Widths.{width-is}
 use Rattle.layers.specs.Filling.{quartersIn}
-use Rattle.pair.specs.Rolling.{Rolled}
+use Rattle.halving.specs.Tasks.{CaseAsked}
 use Rattle.planner.specs.Planning.{slicesChecks, lentChecks, lentChecked, scheduleChecks, scheduleChecked, planChecked, scratchAfter}
 use Rattle.planner.specs.Tables.{Told, Worked, Paired}
 use Rattle.planner.specs.Valuing.{valueLentChecks, valueLent, valueChecked}
@@ -146,13 +146,54 @@ paired u prices cells h f is w wide hours of =
           };
     }
 
--- the first layer, rolled to the front, tells
-pub rolled-told : (u : UnitRecord) (f : Figures) (w : ℕ) (hours : Hours) (prices cells rolled : List ℤ) → Paired u f w hours prices cells
-    → length rolled ≡ length cells → Rolled f anywhere (quartersIn hours prices) 0 rolled → Told u prices rolled
-rolled-told u f w hours prices cells rolled p same r =
+-- the first layer, brought to the front, tells
+pub front-told : (u : UnitRecord) (f : Figures) (w : ℕ) (hours : Hours) (prices cells front : List ℤ) → Paired u f w hours prices cells
+    → length front ≡ length cells → Layer f anywhere (quartersIn hours prices) (inFront f front) → Told u prices front
+front-told u f w hours prices cells front p same layer =
     let fits = p .lent .room .fits in
-    told-in u prices rolled (p .order) (rw (← p .figures) (omega (arith, fits, same)))
-    (rw (p .figures, quarters-are u prices (p .order .short) hours (p .opened)) at (r .front))
+    told-in u prices front (p .order) (rw (← p .figures) (omega (arith, fits, same)))
+    (rw (p .figures, quarters-are u prices (p .order .short) hours (p .opened)) at layer)
+
+-- and so they are lent on
+pub paired-on : (u : UnitRecord) (f : Figures) (w : ℕ) (hours : Hours) (prices cells front : List ℤ) → Paired u f w hours prices cells
+    → length front ≡ length cells → Paired u f w hours prices front
+paired-on u f w hours prices cells front p same =
+    let l = p .lent in
+    record {
+      order = p .order;
+      some = p .some;
+      figures = p .figures;
+      opened = p .opened;
+      lent = record { room = rw same (l .room); wide = l .wide; short = l .short; priced = l .priced; clocked = l .clocked };
+    }
+
+-- a pass over the whole case
+pub case-asked : (u : UnitRecord) (f : Figures) (w : ℕ) (hours : Hours) (prices cells : List ℤ) → Paired u f w hours prices cells
+    → CaseAsked f prices hours w (length cells)
+case-asked u f w hours prices cells p =
+    let l = p .lent in
+    let fits = l .room .fits in
+    record {
+      asked =
+          record {
+            sound = l .room .sound;
+            priced = l .priced;
+            clocked = l .clocked;
+            ordered = omega arith;
+            inside = omega arith;
+            short = l .short;
+            ends = tt;
+          };
+      some = p .some;
+      wide = l .wide;
+      fits = omega (arith, fits, l .wide);
+    }
+
+-- where the long table does not fit and two layers do, there are two intervals
+pub two-intervals : (u : UnitRecord) (n cells : ℕ) → cellsNeeded u n ≤ cells → cells < cellsLong u n → 2 ≤ n
+two-intervals u zero cells fits short = absurd (omega (arith, fits, short))
+two-intervals u (suc zero) cells fits short = absurd (omega (arith, fits, short))
+two-intervals u (suc (suc n)) cells fits short = omega arith
 
 -- ---- which of the two is used
 

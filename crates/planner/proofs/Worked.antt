@@ -134,7 +134,7 @@ module _ (u : UnitRecord) (prices cells : List ℤ) (w : Worked u prices cells) 
 
   -- where there is a schedule, the plan can be read off from the opening cell
   pub opening-plans : (profitOf (best u prices) ≡ Nothing → ⊥)
-      → PlanFrom (figuresOf u (length prices)) prices cells (openingCell u (length prices)) (quartersOf u prices)
+      → PlanFrom (figuresOf u (length prices)) anywhere prices cells (openingCell u (length prices)) (quartersOf u prices)
   opening-plans some =
       record {
         priced = quarters-priced (opensIn (u .permit)) 0 prices;

@@ -18,6 +18,7 @@ use Rattle.optimality.specs.Cells.{figuresOf, quartersOf, InTable, valueAt}
 use Rattle.geometry.specs.Geometry.{width}
 use Rattle.geometry.specs.Layers.{told, inFront, Filled}
 use Rattle.pair.specs.Rolling.{Lent}
+use Rattle.halving.specs.Tasks.{FirstPass}
 
 -- a profit, 0 where there is none, and the most that the difference of two leaves room for
 abbrev pub amount : BestProfit → ℤ
@@ -54,3 +55,9 @@ pub record Paired (u : UnitRecord) (f : Figures) (w : ℕ) (hours : Hours) (pric
   pub figures : f ≡ figuresOf u (length prices)
   pub opened : HoursOf (u .permit) hours
   pub lent : Lent f w prices cells hours
+
+-- with the first pass done over two intervals or more
+pub record Begun (u : UnitRecord) (f : Figures) (w : ℕ) (hours : Hours) (prices cells : List ℤ) : Type 0 where
+  pub two : Paired u f w hours prices cells
+  pub many : 2 ≤ length prices
+  pub first : FirstPass f prices hours w cells

@@ -1,5 +1,5 @@
-// Two layers of scratch, of a case that passed its checks: the first layer is rolled to the front and read, the plan is worked out, and the two are
-// cleared.
+// Two layers of scratch, of a case that passed its checks and whose long table does not fit: the first layer is brought to the front and read, the plan
+// is worked out by halves, and the two are cleared.
 
 use crate::Report;
 use crate::Reported;
@@ -14,18 +14,18 @@ use commitment::windows::Hours;
 use optimality::Figures;
 ghost use mathlib.Core.Path.{_≡_};
 ghost use mathlib.Core.Bool.{true};
-ghost use Prim.Native.Nat.{_+_, _≤_};
+ghost use Prim.Native.Nat.{_+_, _≤_, _<_};
 ghost use lib.ListN.{length};
 ghost use Rattle.commitment.specs.declared.Checked.the-variants.{Passed};
 ghost use Rattle.commitment.specs.declared.BestProfit.the-variants.{Nothing};
 ghost use Rattle.commitment.specs.Best.{best, profitOf};
 ghost use Rattle.commitment.specs.Tries.{planTries};
-ghost use Rattle.commitment.specs.Cells.{cellsNeeded};
+ghost use Rattle.commitment.specs.Cells.{cellsNeeded, cellsLong};
 ghost use Rattle.commitment.specs.Valuing.{outcomesOf};
 ghost use Rattle.layers.specs.Filling.{Beyond};
 ghost use Rattle.planner.specs.Planning.{lentChecked, scheduleChecked, scheduleAfter, scratchAfter};
 ghost use Rattle.planner.specs.Reporting.{reportedBy};
-ghost use Rattle.planner.specs.Tables.{Told, Paired};
+ghost use Rattle.planner.specs.Tables.{Told, Begun};
 ghost use Rattle.planner.specs.Valuing.{valuedBy};
 
 pub fn report_case(
@@ -35,6 +35,7 @@ pub fn report_case(
     schedule: &mut [u64],
 ) -> Reported
     requires { ⌜ (lentChecked unit (now prices) true (length (now scratch)) ≡ Passed) × (length (now prices) ≤ length (now schedule)) ⌝ }
+    requires { ⌜ length (now scratch) < cellsLong unit (length (now prices)) ⌝ }
     ensures { λ r. ⌜ r ≡ reportedBy (scheduleChecked unit (now (prices .entry))) (best unit (now (prices .entry))) (outcomesOf unit (now (prices .entry))) ⌝ }
     ensures { λ _. ⌜ now (schedule .exit)
         ≡ scheduleAfter (scheduleChecked unit (now (prices .entry))) (best unit (now (prices .entry))) (now (schedule .entry)) ⌝ }
@@ -44,7 +45,7 @@ pub fn report_case(
     let w = geometry::layer_cells(f);
     let permit = unit.permit;
     let hours = windows::hours_of(permit);
-    pair::roll(&mut *scratch, w, f, prices, hours, 0);
+    halving::first_pass(&mut *scratch, w, f, prices, hours);
     let answer = read_report(unit, f, w, hours, prices, &mut *scratch, schedule);
     pair::clear(scratch, w);
     answer
@@ -59,7 +60,7 @@ pub fn value_case(unit: UnitRecord, prices: &[i64], scratch: &mut [i64]) -> Valu
     let w = geometry::layer_cells(f);
     let permit = unit.permit;
     let hours = windows::hours_of(permit);
-    pair::roll(&mut *scratch, w, f, prices, hours, 0);
+    pair::roll_all(&mut *scratch, w, f, prices, hours);
     let answer = tables::read_outcomes(unit, f, prices, &scratch[..]);
     pair::clear(scratch, w);
     answer
@@ -75,7 +76,7 @@ fn read_report(
     scratch: &mut [i64],
     schedule: &mut [u64],
 ) -> Reported
-    requires { ⌜ (Told unit (now prices) (now scratch)) × (Paired unit f w hours (now prices) (now scratch)) ⌝ }
+    requires { ⌜ (Told unit (now prices) (now scratch)) × (Begun unit f w hours (now prices) (now scratch)) ⌝ }
     requires { ⌜ length (now prices) ≤ length (now schedule) ⌝ }
     ensures { λ r. ⌜ r ≡ reportedBy (scheduleChecked unit (now (prices .entry))) (best unit (now (prices .entry))) (outcomesOf unit (now (prices .entry))) ⌝ }
     ensures { λ _. ⌜ now (schedule .exit)
@@ -107,7 +108,7 @@ fn work_plan(
     scratch: &mut [i64],
     schedule: &mut [u64],
 ) -> usize
-    requires { ⌜ (Told unit (now prices) (now scratch)) × (Paired unit f w hours (now prices) (now scratch)) ⌝ }
+    requires { ⌜ (Told unit (now prices) (now scratch)) × (Begun unit f w hours (now prices) (now scratch)) ⌝ }
     requires { ⌜ length (now prices) ≤ length (now schedule) ⌝ }
     requires { ⌜ (profitOf (best unit (now prices)) ≡ Nothing → ⊥) ⌝ }
     ensures { λ r. ⌜ r ≡ planTries unit (now (prices .entry)) ⌝ }
@@ -115,5 +116,5 @@ fn work_plan(
     ensures { λ _. ⌜ Beyond (w + w) (now (scratch .entry)) (now (scratch .exit)) ⌝ }
 {
     let from = budgets::opening_cell(unit, prices.len());
-    pair::plan_from(scratch, w, f, prices, hours, from, schedule)
+    halving::plan_from(scratch, w, f, prices, hours, from, schedule)
 }

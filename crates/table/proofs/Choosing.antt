@@ -16,8 +16,8 @@ use Rattle.lists.proofs.Conjunctions.{both}
 use Rattle.optimality.specs.declared.Figures.{Figures}
 use Rattle.optimality.specs.declared.Cell.{Cell}
 use Rattle.commitment.specs.declared.BestProfit.the-variants.{Profit}
-use Rattle.optimality.specs.Machine.{Quarter, after}
-use Rattle.optimality.specs.Cells.{Sound, InTable, startPays, gain, mayRun, onCell, rungs, planAt, valueAt, offValue, onValue}
+use Rattle.optimality.specs.Machine.{Quarter, go, inQuarter, after}
+use Rattle.optimality.specs.Cells.{Sound, InTable, startPays, gain, mayRun, onCell, rungs, cellStep, planAt, valueAt, offValue, onValue}
 use Rattle.optimality.proofs.Values.{no-earning}
 use Rattle.optimality.proofs.Turns.{off-turn, on-turn, some-turn, off-in-table, on-in-table}
 use Rattle.geometry.specs.Layers.{swing, Layer}
@@ -92,6 +92,7 @@ pub record Chosen (f : Figures) (ends : Cell → BestProfit) (q : Quarter) (quar
   pub allowed : Allowed f c k
   pub most : k ≤ f .pmax
   pub earns : ℤ
+  pub steps : inQuarter (cellStep f) c q (k * f .block) ≡ go earns (nextCell f c k)
   pub is : planAt f ends (q ∷ quarters) c ≡ after (k * f .block) earns (planAt f ends quarters (nextCell f c k))
 
 module _ (f : Figures) (ok : Sound f) (q : Quarter) (small : natAbs (q .price) ≤ mostPrice) (ends : Cell → BestProfit) (quarters : List Quarter)
@@ -114,6 +115,7 @@ module _ (f : Figures) (ok : Sound f) (q : Quarter) (small : natAbs (q .price) �
         allowed = λ nay. absurd (nay refl);
         most = omega arith;
         earns = pos 0;
+        steps = ap (inQuarter (cellStep f) c q) (zero-mul (f .block)) ∙ t .steps;
         is = t .is ∙ ap (λ (m : ℕ). after m (pos 0) (planAt f ends quarters (nextCell f c 0))) (sym (zero-mul (f .block)));
       }
 
@@ -189,6 +191,7 @@ module _ (f : Figures) (ok : Sound f) (q : Quarter) (small : natAbs (q .price) �
               allowed = λ nay. (t .starts, t .ons, t .blocks);
               most = r .high;
               earns = gain f (q .price) (r .at) -ℤ pos (startPays f (c .state));
+              steps = rw n (t .steps);
               is = rw n (t .is);
             }
 

@@ -18,7 +18,7 @@ use Rattle.optimality.specs.declared.Figures.{Figures}
 use Rattle.optimality.specs.declared.Cell.{Cell}
 use Rattle.commitment.specs.declared.BestProfit.{BestProfit}
 use Rattle.commitment.specs.declared.BestProfit.the-variants.{Nothing, Profit}
-use Rattle.optimality.specs.Machine.{Quarter, after, anywhere}
+use Rattle.optimality.specs.Machine.{Quarter, ended, after}
 use Rattle.optimality.specs.Cells.{Sound, InTable, planAt, valueAt}
 use Rattle.optimality.proofs.Values.{no-earning}
 use Rattle.optimality.proofs.Turns.{plan-value}
@@ -34,7 +34,8 @@ use Rattle.table.proofs.Choosing.{Chosen, chosen-is, must-reach}
 
 -- ---- quarters of these prices
 
-module _ (f : Figures) (prices cells : List ℤ) (from : Cell) (quarters : List Quarter) (p : PlanFrom f prices cells from quarters) where
+module _ (f : Figures) (ends : Cell → BestProfit) (prices cells : List ℤ) (from : Cell) (quarters : List Quarter)
+    (p : PlanFrom f ends prices cells from quarters) where
   pub as-many : length quarters ≡ length prices
   as-many = sym (length-map quarters (λ (q : Quarter). q .price)) ∙ ap (λ (ps : List ℤ). length ps) (p .priced)
 
@@ -98,7 +99,7 @@ pub written-none : (f : Figures) (ends : Cell → BestProfit) (quarters : List Q
 written-none f ends quarters from old inside some = record { inside = inside; some = some; whole = refl; kept = refl; same = refl }
 
 -- a plan with one interval in front
-one-more : (f : Figures) (ends : Cell → BestProfit) (q : Quarter) (rest : List Quarter) (c next : Cell) (m : ℕ) (g : ℤ)
+pub one-more : (f : Figures) (ends : Cell → BestProfit) (q : Quarter) (rest : List Quarter) (c next : Cell) (m : ℕ) (g : ℤ)
     → planAt f ends (q ∷ rest) c ≡ after m g (planAt f ends rest next)
     → (valueAt f ends (q ∷ rest) c ≡ Nothing → ⊥)
     → (scheduleOf (planAt f ends (q ∷ rest) c) ≡ m ∷ scheduleOf (planAt f ends rest next)) × (valueAt f ends rest next ≡ Nothing → ⊥)
@@ -142,14 +143,19 @@ tries-next block pmin now t k block-some room so-far one =
     let e = ap (triesOver block pmin) (take-next now t (k * block) room) ∙ tries-append block pmin (take t now) ((k * block) ∷ []) in
     omega (arith, e, so-far, one, tries-in-blocks block pmin k block-some)
 
+-- however a plan ends, no output is left
+none-left : (v : BestProfit) → scheduleOf (ended v) ≡ []
+none-left Nothing = refl
+none-left (Profit p) = refl
+
 -- all are
-module _ (f : Figures) (quarters : List Quarter) (from : Cell) (old now : List ℕ) (t : ℕ) (c : Cell) (e : t ≡ length quarters)
-    (w : Written f anywhere quarters from old now t c) where
-  pub front-all : take t now ≡ scheduleOf (planAt f anywhere quarters from)
+module _ (f : Figures) (ends : Cell → BestProfit) (quarters : List Quarter) (from : Cell) (old now : List ℕ) (t : ℕ) (c : Cell) (e : t ≡ length quarters)
+    (w : Written f ends quarters from old now t c) where
+  pub front-all : take t now ≡ scheduleOf (planAt f ends quarters from)
   unfolding planAt
   front-all =
       let d : drop t quarters ≡ [] = drop-of-length-le quarters {i = t} (omega arith) in
-      sym (append-nil (take t now)) ∙ (rw d at (w .whole))
+      sym (append-nil (take t now)) ∙ (rw (d, none-left (ends c)) at (w .whole))
 
-  pub written-all : now ≡ scheduleOf (planAt f anywhere quarters from) ++ drop (length quarters) old
+  pub written-all : now ≡ scheduleOf (planAt f ends quarters from) ++ drop (length quarters) old
   written-all = kept-whole now old t (w .kept) ∙ ap₂ (λ (xs : List ℕ) (j : ℕ). xs ++ drop j old) front-all e

@@ -7,13 +7,14 @@ use lib.Dec.{leb}
 use lib.IntN.{ℤ, pos, _+ℤ_}
 use lib.ListN.{length, getD, drop}
 use lib.Signed.{ltZ}
+use Rattle.commitment.specs.declared.BestProfit.{BestProfit}
 use Rattle.commitment.specs.declared.BestProfit.the-variants.{Nothing}
 use Rattle.commitment.specs.Best.{scheduleOf}
 use Rattle.commitment.specs.Tries.{triesOver}
 use Rattle.geometry.specs.Layers.{Filled}
 use Rattle.optimality.specs.declared.Figures.{Figures}
 use Rattle.optimality.specs.declared.Cell.{Cell}
-use Rattle.optimality.specs.Machine.{Quarter, anywhere}
+use Rattle.optimality.specs.Machine.{Quarter}
 use Rattle.optimality.specs.Cells.{startTakes, mayRun, offCell, onCell, rungs, planAt, valueAt}
 use Rattle.layers.specs.Turns.{net, offStored, roomFor, onStored}
 
@@ -53,15 +54,15 @@ abbrev pub nextCell : Figures → Cell → ℕ → Cell
 nextCell f c zero = offCell f c
 nextCell f c (suc k) = onCell f c (suc k)
 
--- a table that is filled for quarters of these prices, whichever of them are open, and a cell that has a plan
-pub record PlanFrom (f : Figures) (prices cells : List ℤ) (from : Cell) (quarters : List Quarter) : Type 0 where
+-- a table that is filled for quarters of these prices, whichever of them are open, for plans that end as `ends` says, and a cell that has a plan
+pub record PlanFrom (f : Figures) (ends : Cell → BestProfit) (prices cells : List ℤ) (from : Cell) (quarters : List Quarter) : Type 0 where
   pub priced : map (λ (q : Quarter). q .price) quarters ≡ prices
-  pub filled : Filled f anywhere quarters cells
-  pub some : valueAt f anywhere quarters from ≡ Nothing → ⊥
+  pub filled : Filled f ends quarters cells
+  pub some : valueAt f ends quarters from ≡ Nothing → ⊥
 
 -- the best plan from a cell stands in the schedule's front, and the rest is as it was; so many outputs were tried in all
 abbrev pub ReadOff : Figures → List ℤ → List ℤ → Cell → List ℕ → List ℕ → ℕ → Type 0
 ReadOff f prices cells from was schedule tries =
-    (quarters : List Quarter) → PlanFrom f prices cells from quarters
-    → (schedule ≡ scheduleOf (planAt f anywhere quarters from) ++ drop (length quarters) was)
-    × (tries ≡ triesOver (f .block) (f .pmin) (scheduleOf (planAt f anywhere quarters from)))
+    (ends : Cell → BestProfit) (quarters : List Quarter) → PlanFrom f ends prices cells from quarters
+    → (schedule ≡ scheduleOf (planAt f ends quarters from) ++ drop (length quarters) was)
+    × (tries ≡ triesOver (f .block) (f .pmin) (scheduleOf (planAt f ends quarters from)))

@@ -7,13 +7,14 @@ use commitment::BestProfit;
 use optimality::Cell;
 use optimality::Figures;
 ghost use mathlib.Core.Path.{_≡_};
-ghost use Prim.Native.Nat.{_≤_};
+ghost use Prim.Native.Nat.{_+_, _*_, _≤_};
 ghost use lib.ListN.{length};
 ghost use mathlib.Core.List.{List};
 ghost use Rattle.optimality.specs.Machine.{Quarter};
 ghost use Rattle.optimality.specs.Cells.{InTable, Sound};
 ghost use Rattle.geometry.specs.Geometry.{width};
 ghost use Rattle.geometry.specs.Layers.{Room, told, inFront};
+ghost use Rattle.commitment.specs.Bounds.{mostBlocks};
 ghost use Rattle.commitment.specs.Ranges.{Priced};
 ghost use Rattle.table.specs.Reading.{PlanFrom, ReadOff};
 
@@ -36,10 +37,11 @@ pub fn read_off(
     schedule: &mut [u64],
 ) -> usize
     requires { ⌜ (Room f (length (now prices)) (length (now scratch))) × (w ≡ width f) × (Priced (now prices)) ⌝ }
-    requires { ⌜ ((quarters : List Quarter) × PlanFrom f (now prices) (now scratch) from quarters) ⌝ }
+    requires { ⌜ ((ends : Cell → BestProfit) × (quarters : List Quarter) × PlanFrom f ends (now prices) (now scratch) from quarters) ⌝ }
     requires { ⌜ InTable f from ⌝ }
     requires { ⌜ length (now prices) ≤ length (now schedule) ⌝ }
     ensures { λ r. ⌜ ReadOff f (now (prices .entry)) (now (scratch .entry)) from (now (schedule .entry)) (now (schedule .exit)) r ⌝ }
+    ensures { λ r. ⌜ r ≤ length (now (prices .entry)) * (mostBlocks + 1) ⌝ }
 {
     let n = prices.len();
     let mut at = 0;

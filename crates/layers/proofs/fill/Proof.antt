@@ -2,7 +2,6 @@
 use mathlib.Core.Path.{_≡_, sym}
 use mathlib.Core.List.{List, []}
 use Prim.Native.Nat.{ℕ, suc, _+_, _-_, _*_, _≤_, _<_}
-use native.Mathlib.Nat.{zero-add}
 use native.Mathlib.Omega.{arith}
 use lib.IntN.{ℤ, pos, natAbs}
 use lib.ListN.{length, getD, drop, length-drop}
@@ -16,26 +15,26 @@ use Rattle.geometry.specs.Layers.{storedAt, Layer}
 use Rattle.optimality.specs.Machine.{Quarter, quarter}
 use Rattle.optimality.proofs.Quarters.{noQuarter, quarters-length, quarter-at}
 use Rattle.commitment.specs.Windows.{opens}
-use Rattle.layers.specs.Filling.{quartersIn}
+use Rattle.layers.specs.Filling.{quartersOn}
 use Rattle.layers.proofs.Filling.{PricedOver, FilledFrom, layer-small, filled-last, filled-next, filled-done, filled-beyond, next-layer}
 use Rattle.layers.proofs.fill.Statement.{statement}
 use Rattle.layers.proofs.fill.Tie as tie
 
 abbrev Inv-loop : tie.InvT-loop
-Inv-loop scratch₀ w f prices hours t₀ at₀ scratch t at =
+Inv-loop scratch₀ w f prices hours first t₀ at₀ scratch t at =
     (t ≤ length prices) × (at ≡ t * width f)
-    × ((ends : Cell → BestProfit) → Layer f ends [] (storedAt f scratch₀ (length (quartersIn hours prices) * width f))
-    → FilledFrom f ends (quartersIn hours prices) scratch₀ scratch t)
+    × ((ends : Cell → BestProfit) → Layer f ends [] (storedAt f scratch₀ (length (quartersOn hours first prices) * width f))
+    → FilledFrom f ends (quartersOn hours first prices) scratch₀ scratch t)
 
 abbrev μ-loop : tie.MeasureT-loop
-μ-loop scratch₀ w f prices hours t₀ at₀ scratch t at = t
+μ-loop scratch₀ w f prices hours first t₀ at₀ scratch t at = t
 
 -- the quarters, as many as there are prices
 abbrev quartersAt : tie.Start Inv-loop μ-loop → List Quarter
-quartersAt c = quartersIn (c .args .hours) (c .args .prices .now)
+quartersAt c = quartersOn (c .args .hours) (c .args .first) (c .args .prices .now)
 
 as-many : (c : tie.Start Inv-loop μ-loop) → length (quartersAt c) ≡ length (c .args .prices .now)
-as-many c = quarters-length (opens (c .args .hours)) 0 (c .args .prices .now)
+as-many c = quarters-length (opens (c .args .hours)) (c .args .first) (c .args .prices .now)
 
 loop-holds : tie.Need-loop-holds Inv-loop μ-loop
 loop-holds c =
@@ -45,8 +44,8 @@ loop-holds c =
 -- by the ends that the last layer is known to have
 filled : (c : tie.At-loop Inv-loop μ-loop) →
     let a = c .before .args in
-    FilledFrom (a .f) (c .before .pre .1 .ends) (quartersAt (c .before)) (a .scratch .now) (c .loop .scratch) (c .loop .t)
-filled c = c .loop .inv .2 (c .before .pre .1 .ends) (rw (as-many (c .before)) (c .before .pre .1 .last))
+    FilledFrom (a .f) (c .before .pre .1 .0 .ends) (quartersAt (c .before)) (a .scratch .now) (c .loop .scratch) (c .loop .t)
+filled c = c .loop .inv .2 (c .before .pre .1 .0 .ends) (rw (as-many (c .before)) (c .before .pre .1 .0 .last))
 
 -- what a turn finds
 record Turn (f : Figures) (w : ℕ) (prices s : List ℤ) (at t : ℕ) : Type 0 where
@@ -82,18 +81,23 @@ here c =
 quarter-is : (c : tie.In-loop Inv-loop μ-loop) →
     let o = c .before .before in
     let t = c .before .loop .t - 1 in
-    getD (quartersAt o) t noQuarter ≡ quarter (getD (o .args .prices .now) t (pos 0)) (opens (o .args .hours) t)
+    getD (quartersAt o) t noQuarter ≡ quarter (getD (o .args .prices .now) t (pos 0)) (opens (o .args .hours) (o .args .first + t))
 quarter-is c =
     let o = c .before .before in
     let t = c .before .loop .t - 1 in
     let inside : t < length (o .args .prices .now) = omega (arith, c .loop-test .taken, c .before .loop .inv .0) in
-    rw (zero-add t) at (quarter-at (opens (o .args .hours)) 0 (o .args .prices .now) t inside)
+    quarter-at (opens (o .args .hours)) (o .args .first) (o .args .prices .now) t inside
+
+add-opens-in : tie.Need-add-opens-in Inv-loop μ-loop
+add-opens-in c =
+    let at-loop = c .before .before .before in
+    omega (arith, c .before .before .loop-test .taken, at-loop .loop .inv .0, at-loop .before .pre .1 .1)
 
 opens-in-requires : tie.Need-opens-in-requires Inv-loop μ-loop
 opens-in-requires c κs =
     let at-loop = c .before .before .before in
     let o = at-loop .before in
-    (omega (arith, c .before .before .loop-test .taken, at-loop .loop .inv .0, o .pre .0 .0 .short), o .pre .0 .3)
+    (omega (arith, c .before .before .loop-test .taken, at-loop .loop .inv .0, o .pre .1 .1), o .pre .0 .3)
 
 fill-layer-requires : tie.Need-fill-layer-requires Inv-loop μ-loop
 fill-layer-requires c κs =
@@ -110,7 +114,7 @@ fill-layer-requires c κs =
         fits = omega (arith, t .low, t .fits);
         small =
             rw (t .next, o .pre .0 .1)
-            (layer-small (a .f) (o .pre .1 .ends) (drop (l .t) (quartersAt o)) (l .scratch) (l .t * width (a .f))
+            (layer-small (a .f) (o .pre .1 .0 .ends) (drop (l .t) (quartersAt o)) (l .scratch) (l .t * width (a .f))
             (omega (arith, length-drop (l .t) (quartersAt o), as-many o, o .pre .0 .0 .short))
             (filled at-loop .layers (l .t) (omega arith) (omega (arith, l .inv .0, as-many o))));
       },
@@ -121,7 +125,7 @@ priced-over : (c : tie.Start Inv-loop μ-loop) → PricedOver (quartersAt c)
 priced-over c i h =
     let a = c .args in
     let inside : i < length (a .prices .now) = omega (arith, h, as-many c) in
-    rw (quarter-at (opens (a .hours)) 0 (a .prices .now) i inside) (c .pre .0 .2 i inside)
+    rw (quarter-at (opens (a .hours)) (a .first) (a .prices .now) i inside) (c .pre .0 .2 i inside)
 
 loop-again : tie.Need-loop-again Inv-loop μ-loop
 loop-again c =
@@ -155,7 +159,7 @@ returns c =
     let z : l .t ≡ 0 = omega (arith, c .loop-test .left) in (
       (λ ends last. filled-done (a .f) ends (quartersAt o) (a .scratch .now) (l .scratch) (rw z at (l .inv .2 ends last))),
       rw (o .pre .0 .1, ← as-many o)
-          (filled-beyond (a .f) (o .pre .1 .ends) (quartersAt o) (a .scratch .now) (l .scratch) (rw z at (filled (c .before)))),
+          (filled-beyond (a .f) (o .pre .1 .0 .ends) (quartersAt o) (a .scratch .now) (l .scratch) (rw z at (filled (c .before)))),
     )
 
 pub fill-spec : {M : Type 1} → statement M
@@ -163,5 +167,5 @@ fill-spec =
     tie.close
     (tie.spec Inv-loop μ-loop (λ c. let room = c .pre .0 .0 .fits in let e = c .pre .0 .1 in rw e (omega arith)) loop-holds
     (λ c. omega arith) (λ c. omega (arith, here c .low)) (λ c. omega (arith, c .before .loop-test .taken, c .before .before .loop .inv .0))
-    (λ c. omega (arith, c .before .loop-test .taken, c .before .before .loop .inv .0)) opens-in-requires fill-layer-requires
+    (λ c. omega (arith, c .before .loop-test .taken, c .before .before .loop .inv .0)) add-opens-in opens-in-requires fill-layer-requires
     (λ c. omega (arith, c .before .before .before .before .before .loop-test .taken)) loop-again (λ c. filled (c .before) .same) returns)

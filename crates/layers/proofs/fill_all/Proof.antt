@@ -33,10 +33,13 @@ fill-requires c κs =
     let o = put .before .before in
     let a = o .args in (
       (rw (put .put .kept .0) (o .pre .0), o .pre .1, o .pre .2, o .pre .3),
-      record {
-        ends = anywhere;
-        last = rw (put-is put) (ends-anywhere (a .f) (a .scratch .now) (length (a .prices .now) * width (a .f)) (fits o));
-      },
+      (
+        record {
+          ends = anywhere;
+          last = rw (put-is put) (ends-anywhere (a .f) (a .scratch .now) (length (a .prices .now) * width (a .f)) (fits o));
+        },
+        omega (arith, o .pre .0 .short),
+      ),
     )
 
 -- what lies behind the last layer

@@ -1,5 +1,5 @@
--- The invariant: whichever quarters are open, t outputs are written, the rest of the plan is that of the cell reached, layer t stands at `at`, and the
--- outputs tried number as the t outputs take. The intervals left fall.
+-- The invariant: whichever quarters are open and wherever plans may end, t outputs are written, the rest of the plan is that of the cell reached, layer t
+-- stands at `at`, and the outputs tried number as the t outputs take. The intervals left fall.
 use mathlib.Core.Path.{_≡_, refl, ap, _∙_}
 use mathlib.Core.List.{List}
 use Prim.Native.Nat.{ℕ, suc, _+_, _-_, _*_, _≤_, _<_}
@@ -9,7 +9,7 @@ use lib.IntN.{ℤ, pos, natAbs}
 use lib.ListN.{length, getD, take, drop, length-drop}
 use mir.Syntax.{w64}
 use mir.Val.{toZ, ofZ}
-use Rattle.optimality.specs.Machine.{anywhere}
+use Rattle.commitment.specs.declared.BestProfit.{BestProfit}
 use Rattle.commitment.specs.Bounds.{mostPrice, mostIntervals, mostBlocks}
 use Rattle.commitment.specs.Tries.{triesOver}
 use Rattle.commitment.proofs.Tries.{tries-most}
@@ -35,17 +35,18 @@ abbrev Inv-loop : tie.InvT-loop
 Inv-loop scratch w f prices schedule₀ n at₀ c₀ tries₀ t₀ schedule at c tries t =
     (t ≤ length prices) × (at ≡ t * width f)
     × (tries ≡ triesOver (f .block) (f .pmin) (take t schedule)) × (tries ≤ t * (mostBlocks + 1))
-    × ((quarters : List Quarter) → PlanFrom f prices scratch c₀ quarters → Written f anywhere quarters c₀ schedule₀ schedule t c)
+    × ((ends : Cell → BestProfit) (quarters : List Quarter) → PlanFrom f ends prices scratch c₀ quarters
+    → Written f ends quarters c₀ schedule₀ schedule t c)
 
 abbrev μ-loop : tie.MeasureT-loop
 μ-loop scratch w f prices schedule₀ n at₀ c₀ tries₀ t₀ schedule at c tries t = length prices - t
 
--- by the quarters that the table is known to be filled for
+-- by the ends and the quarters that the table is known to be filled for
 written : (c : tie.At-loop Inv-loop μ-loop) →
     let o = c .before .before in
     let l = c .loop in
-    Written (o .args .f) anywhere (o .pre .1 .0 .0) (o .args .from) (o .args .schedule .now) (l .schedule) (l .t) (l .c)
-written c = let given = c .before .before .pre .1 .0 in c .loop .inv .4 (given .0) (given .1)
+    Written (o .args .f) (o .pre .1 .0 .0) (o .pre .1 .0 .1) (o .args .from) (o .args .schedule .now) (l .schedule) (l .t) (l .c)
+written c = let given = c .before .before .pre .1 .0 in c .loop .inv .4 (given .0) (given .1) (given .2)
 
 -- what a turn finds
 record Turn (f : Figures) (w : ℕ) (prices cells : List ℤ) (from : Cell) (at t : ℕ) (c : Cell) : Type 0 where
@@ -54,8 +55,8 @@ record Turn (f : Figures) (w : ℕ) (prices cells : List ℤ) (from : Cell) (at 
   next : at + w ≡ suc t * width f
   small : Small cells (at + w) (width f)
   price : natAbs (getD prices t (pos 0)) ≤ mostPrice
-  read : (quarters : List Quarter) → PlanFrom f prices cells from quarters
-      → ReadTurn f anywhere (getD quarters t noQuarter) (drop (suc t) quarters) (storedAt f cells (at + w)) c (getD cells (at + index f c) (pos 0))
+  read : (ends : Cell → BestProfit) (quarters : List Quarter) → PlanFrom f ends prices cells from quarters
+      → ReadTurn f ends (getD quarters t noQuarter) (drop (suc t) quarters) (storedAt f cells (at + w)) c (getD cells (at + index f c) (pos 0))
 
 here : (c : tie.In-loop Inv-loop μ-loop) →
     let a = c .before .before .before .args in
@@ -69,22 +70,22 @@ here c =
     let room = o .pre .0 .0 in
     let e = o .pre .0 .1 in
     let given = o .pre .1 .0 in
-    let many : length (given .0) ≡ length (a .prices .now) = as-many (a .f) (a .prices .now) (a .scratch .now) (a .from) (given .0) (given .1) in
+    let many : length (given .1) ≡ length (a .prices .now) = as-many (a .f) (given .0) (a .prices .now) (a .scratch .now) (a .from) (given .1) (given .2) in
     let d : (l .t + 2) * width (a .f) ≤ (length (a .prices .now) + 1) * width (a .f) = mul-le-mul-right (width (a .f)) (omega (arith, lt)) in
     let next : l .at + a .w ≡ suc (l .t) * width (a .f) = omega (arith, e, l .inv .1) in
-    let few : length (drop (suc (l .t)) (given .0)) ≤ mostIntervals = omega (arith, length-drop (suc (l .t)) (given .0), many, room .short) in
+    let few : length (drop (suc (l .t)) (given .1)) ≤ mostIntervals = omega (arith, length-drop (suc (l .t)) (given .1), many, room .short) in
     record {
       number = omega (arith, e, index-lt (a .f) (l .c) (written (c .before) .inside));
       two = omega (arith, e, l .inv .1, d, room .fits);
       next = next;
-      small = rw next (layer-small (a .f) anywhere (drop (suc (l .t)) (given .0)) (a .scratch .now) (suc (l .t) * width (a .f)) few
-          (given .1 .filled .layers (suc (l .t)) (omega (arith, lt, many))));
+      small = rw next (layer-small (a .f) (given .0) (drop (suc (l .t)) (given .1)) (a .scratch .now) (suc (l .t) * width (a .f)) few
+          (given .2 .filled .layers (suc (l .t)) (omega (arith, lt, many))));
       price = o .pre .0 .2 (l .t) lt;
-      read = λ quarters p.
-          let n = as-many (a .f) (a .prices .now) (a .scratch .now) (a .from) quarters p in
-          let so-far = l .inv .4 quarters p in
-          rw (next, l .inv .1) (read-turn (a .f) anywhere quarters (a .scratch .now) (l .t) (l .c) (room .sound)
-          (priced-over (a .f) (a .prices .now) (a .scratch .now) (a .from) quarters p (o .pre .0 .2))
+      read = λ ends quarters p.
+          let n = as-many (a .f) ends (a .prices .now) (a .scratch .now) (a .from) quarters p in
+          let so-far = l .inv .4 ends quarters p in
+          rw (next, l .inv .1) (read-turn (a .f) ends quarters (a .scratch .now) (l .t) (l .c) (room .sound)
+          (priced-over (a .f) ends (a .prices .now) (a .scratch .now) (a .from) quarters p (o .pre .0 .2))
           (omega (arith, n, room .short)) (p .filled) (omega (arith, n, lt)) (so-far .inside) (so-far .some));
     }
 
@@ -110,23 +111,23 @@ plans : (c : tie.After-choose Inv-loop μ-loop) →
     let at-loop = c .before .before .before .before .before in
     let a = at-loop .before .before .args in
     let l = at-loop .loop in
-    (quarters : List Quarter) → PlanFrom (a .f) (a .prices .now) (a .scratch .now) (a .from) quarters
-    → Chosen (a .f) anywhere (getD quarters (l .t) noQuarter) (drop (suc (l .t)) quarters) (l .c) (c .choose .result .blocks)
-plans c quarters p =
+    (ends : Cell → BestProfit) (quarters : List Quarter) → PlanFrom (a .f) ends (a .prices .now) (a .scratch .now) (a .from) quarters
+    → Chosen (a .f) ends (getD quarters (l .t) noQuarter) (drop (suc (l .t)) quarters) (l .c) (c .choose .result .blocks)
+plans c ends quarters p =
     let at-loop = c .before .before .before .before .before in
     let a = at-loop .before .before .args in
     let e = rw (price-is (c .before), best-is (c .before .before)) at (c .choose .ensures .0) in
-    rw (e, ← same-price (a .f) (a .prices .now) (a .scratch .now) (a .from) quarters p (at-loop .loop .t))
-    (here (c .before .before .before .before) .read quarters p .choice)
+    rw (e, ← same-price (a .f) ends (a .prices .now) (a .scratch .now) (a .from) quarters p (at-loop .loop .t))
+    (here (c .before .before .before .before) .read ends quarters p .choice)
 
--- by the quarters that are known
+-- by the ends and the quarters that are known
 plan-is : (c : tie.After-choose Inv-loop μ-loop) →
     let at-loop = c .before .before .before .before .before in
     let o = at-loop .before .before in
-    let quarters = o .pre .1 .0 .0 in
+    let quarters = o .pre .1 .0 .1 in
     let l = at-loop .loop in
-    Chosen (o .args .f) anywhere (getD quarters (l .t) noQuarter) (drop (suc (l .t)) quarters) (l .c) (c .choose .result .blocks)
-plan-is c = let given = c .before .before .before .before .before .before .before .pre .1 .0 in plans c (given .0) (given .1)
+    Chosen (o .args .f) (o .pre .1 .0 .0) (getD quarters (l .t) noQuarter) (drop (suc (l .t)) quarters) (l .c) (c .choose .result .blocks)
+plan-is c = let given = c .before .before .before .before .before .before .before .pre .1 .0 in plans c (given .0) (given .1) (given .2)
 
 -- the place of the output in the schedule
 written-in : (c : tie.In-loop Inv-loop μ-loop) → c .before .loop .t < length (c .before .loop .schedule)
@@ -136,7 +137,7 @@ loop-holds : tie.Need-loop-holds Inv-loop μ-loop
 loop-holds c =
     let o = c .before in
     let a = o .args in
-    (omega arith, omega arith, refl, omega arith, λ quarters p. written-none (a .f) anywhere quarters (a .from) (a .schedule .now) (o .pre .1 .1 .0) (p .some))
+    (omega arith, omega arith, refl, omega arith, λ ends quarters p. written-none (a .f) ends quarters (a .from) (a .schedule .now) (o .pre .1 .1 .0) (p .some))
 
 choose-requires : tie.Need-choose-requires Inv-loop μ-loop
 choose-requires c κs =
@@ -151,7 +152,8 @@ choose-requires c κs =
         written (turn .before) .inside,
         record { fits = omega (arith, t .two, o .pre .0 .1); small = t .small },
       ),
-      rw (same-price (a .f) (a .prices .now) (a .scratch .now) (a .from) (given .0) (given .1) (turn .before .loop .t)) at (t .read (given .0) (given .1) .on),
+      rw (same-price (a .f) (given .0) (a .prices .now) (a .scratch .now) (a .from) (given .1) (given .2) (turn .before .loop .t)) at
+          (t .read (given .0) (given .1) (given .2) .on),
     )
 
 -- the tries of one output
@@ -197,25 +199,27 @@ loop-again c =
       tries-next (a .f .block) (a .f .pmin) (l .schedule) (l .t) k (turn .before .before .before .pre .0 .0 .sound .block) (written-in turn)
           (l .inv .2) (chosen .choose .ensures .1),
       omega (arith, l .inv .3, one-most chosen),
-      λ quarters p.
-          written-next (a .f) anywhere quarters (a .from) (a .schedule .now) (l .schedule) (l .t) (l .c) k
-          (omega (arith, lt, as-many (a .f) (a .prices .now) (a .scratch .now) (a .from) quarters p))
+      λ ends quarters p.
+          written-next (a .f) ends quarters (a .from) (a .schedule .now) (l .schedule) (l .t) (l .c) k
+          (omega (arith, lt, as-many (a .f) ends (a .prices .now) (a .scratch .now) (a .from) quarters p))
           (written-in turn)
-          (l .inv .4 quarters p)
-          (plans chosen quarters p),
+          (l .inv .4 ends quarters p)
+          (plans chosen ends quarters p),
     )
 
 returns : tie.Need-returns Inv-loop μ-loop
 returns c =
     let a = c .before .before .before .args in
-    let l = c .before .loop in
-    λ quarters p.
-    let n = as-many (a .f) (a .prices .now) (a .scratch .now) (a .from) quarters p in
-    let e : l .t ≡ length quarters = omega (arith, n, l .inv .0, c .loop-test .left) in
-    let w = l .inv .4 quarters p in (
-      written-all (a .f) quarters (a .from) (a .schedule .now) (l .schedule) (l .t) (l .c) e w,
-      l .inv .2
-          ∙ ap (triesOver (a .f .block) (a .f .pmin)) (front-all (a .f) quarters (a .from) (a .schedule .now) (l .schedule) (l .t) (l .c) e w),
+    let l = c .before .loop in (
+      λ ends quarters p.
+          let n = as-many (a .f) ends (a .prices .now) (a .scratch .now) (a .from) quarters p in
+          let e : l .t ≡ length quarters = omega (arith, n, l .inv .0, c .loop-test .left) in
+          let w = l .inv .4 ends quarters p in (
+            written-all (a .f) ends quarters (a .from) (a .schedule .now) (l .schedule) (l .t) (l .c) e w,
+            l .inv .2
+                ∙ ap (triesOver (a .f .block) (a .f .pmin)) (front-all (a .f) ends quarters (a .from) (a .schedule .now) (l .schedule) (l .t) (l .c) e w),
+          ),
+      omega (arith, l .inv .0, l .inv .3),
     )
 
 pub read-off-spec : {M : Type 1} → statement M

@@ -77,7 +77,7 @@ pub struct ExplainWords {
 /// What concerns a case wherever it is planned.
 #[derive(Args)]
 pub struct CaseOptions {
-    /// At most N cells of 8 bytes for a case, which is planned in two layers where its long table does not fit [default: what free memory holds]
+    /// At most N cells of 8 bytes for a case, which is planned in two layers where its long table does not fit or is slower [default: what free memory holds]
     #[arg(long, value_name = "N")]
     pub cells: Option<usize>,
     /// Draw prices and output to FILE (one case)

@@ -101,13 +101,14 @@ fn listing_name(case: &Path) -> PathBuf {
 
 /// The entries in the order of the cases, worked out as many at a time as there are cores and as memory allows.
 fn planned(
-    prepared: Vec<Result<Prepared, Stop>>,
+    mut prepared: Vec<Result<Prepared, Stop>>,
     listings: &[Option<PathBuf>],
     jobs: Option<usize>,
 ) -> Result<Vec<Entry>, Stop> {
+    let threads = jobs.unwrap_or_else(cores);
+    take_tables(&mut prepared, threads, free_cells());
     let ready: Vec<&Prepared> = prepared.iter().flatten().collect();
     let needs: Vec<usize> = ready.iter().map(|case| case.scratch(case.way)).collect();
-    let threads = jobs.unwrap_or_else(cores);
     let jobs = side_by_side(&needs, threads, free_cells());
     say(format!(
         "{}, {jobs} at a time, at most {}{}",
@@ -129,13 +130,49 @@ fn planned(
     Ok(pool.install(|| cases.map(entry).collect()))
 }
 
-/// How many of the cases are planned in two layers, where any are.
+/// From so many cases to a thread on the memory of the long tables is paid for: it is handed out once, and then they are the faster way.
+const MANY: usize = 16;
+
+/// The long tables, where each thread plans many cases in the same cells and has its own at the same time as the others.
+fn take_tables(prepared: &mut [Result<Prepared, Stop>], threads: usize, free: usize) {
+    let ready = prepared.iter_mut().flatten();
+    let mut cases: Vec<&mut Prepared> = ready.filter(|case| case.table_fits()).collect();
+    let tables: Vec<usize> = cases.iter().map(|case| case.cells.table).collect();
+    if cases.len() >= MANY * threads && at_once(&tables, threads) <= free {
+        for case in &mut cases {
+            case.way = Way::LongTable;
+        }
+    }
+}
+
+/// How many of the cases are planned in two layers, and why, where any are.
 fn in_two_layers(ready: &[&Prepared]) -> String {
-    let shorter = ready.iter().filter(|case| case.way == Way::TwoLayers);
-    match shorter.count() {
-        0 => String::new(),
-        1 => ": 1 in two layers, since its long table does not fit".to_string(),
-        cases => format!(": {cases} in two layers, since their long tables do not fit"),
+    let layered = ready.iter().filter(|case| case.way == Way::TwoLayers);
+    let cases = layered.clone().count();
+    let faster = layered.filter(|case| case.table_fits()).count();
+    let unfit = layered_since(
+        cases - faster,
+        "since its long table does not fit",
+        "since their long tables do not fit",
+    );
+    let faster = layered_since(
+        faster,
+        "which are faster than its long table",
+        "which are faster than their long tables",
+    );
+    let said: Vec<String> = unfit.into_iter().chain(faster).collect();
+    match said.as_slice() {
+        [] => String::new(),
+        said => format!(": {}", said.join(", and ")),
+    }
+}
+
+/// So many cases in two layers for a reason, which is said of one or of more.
+fn layered_since(cases: usize, of_one: &str, of_more: &str) -> Option<String> {
+    match cases {
+        0 => None,
+        1 => Some(format!("1 in two layers, {of_one}")),
+        _ => Some(format!("{cases} in two layers, {of_more}")),
     }
 }
 

@@ -108,13 +108,14 @@ pub fn scratch_of(cells: usize) -> String {
     }
 }
 
-/// Two layers of a case, and why not the long table.
-pub fn two_layers_of(cells: Cells) -> String {
-    format!(
-        "{}: two layers, since the long table of {} cells does not fit",
-        scratch_of(cells.needed),
-        cells.table
-    )
+/// Two layers of a case that may have so many cells, and why not the long table.
+pub fn two_layers_of(cells: Cells, most: usize) -> String {
+    let (scratch, table) = (scratch_of(cells.needed), cells.table);
+    if table <= most {
+        format!("{scratch}: two layers, which are faster than the long table of {table} cells")
+    } else {
+        format!("{scratch}: two layers, since the long table of {table} cells does not fit")
+    }
 }
 
 /// The need, what there is, and what would make the case fit.

@@ -24,6 +24,8 @@ pub struct Prepared {
     pub file: PathBuf,
     pub case: Case,
     pub cells: Cells,
+    /// The cells that it may have.
+    most: usize,
     pub way: Way,
 }
 
@@ -47,6 +49,7 @@ impl Prepared {
             file,
             case,
             cells,
+            most: cap.cells,
             way,
         })
     }
@@ -61,11 +64,16 @@ impl Prepared {
         way.work(self.cells, self.case.prices.len())
     }
 
+    /// Whether its long table fits in what it may have, taken or not.
+    pub fn table_fits(&self) -> bool {
+        self.cells.table <= self.most
+    }
+
     /// The scratch that it takes, and which way that is where it is not the long table.
     pub fn said_of_scratch(&self) -> String {
         match self.way {
             Way::LongTable => scratch_of(self.cells.table),
-            Way::TwoLayers => two_layers_of(self.cells),
+            Way::TwoLayers => two_layers_of(self.cells, self.most),
         }
     }
 
@@ -96,7 +104,7 @@ impl Prepared {
                 .ok_or_else(|| no_way(&self.file, &self.case, self.cells, cap))?;
             progress.goes(self, way, other);
             way = other;
-            let (file, said) = (shown(&self.file), two_layers_of(self.cells));
+            let (file, said) = (shown(&self.file), two_layers_of(self.cells, cap.cells));
             say(format!("{file}: {said}"));
         }
         Ok(way)

@@ -1,6 +1,6 @@
 -- None where no on-interval or too few blocks are left; else by the row that an interval on leads to.
 use mathlib.Core.Path.{_≡_, refl}
-use mathlib.Core.Bool.{Bool, true, false, _||_, true≢false}
+use mathlib.Core.Bool.{Bool, true, false, _||_}
 use mathlib.Core.Logic.{_⊎_, ⊎-elim, inl, inr}
 use Prim.Native.Nat.{ℕ, _+_, _-_, _*_, _≤_, _<_}
 use native.Mathlib.Omega.{arith}
@@ -9,6 +9,7 @@ use lib.Dec.{ltb}
 use borrow.Author.Needs.{needs}
 use Rattle.geometry.specs.Geometry.{row}
 use Rattle.marks.specs.Lines.{OnAsked, Behind, WholeChunks, lineOf}
+use Rattle.marks.proofs.Choice.{neither}
 use Rattle.marks.proofs.Leading.{lined-none, lined-on, lined-piece, row-in-line}
 use Rattle.marks.proofs.lines.lined_image.Statement.{statement}
 use Rattle.marks.proofs.lines.lined_image.Tie as tie
@@ -28,10 +29,6 @@ lowest c = rw (behind c .ladder-is)
 either : (a b : Bool) → (a || b) ≡ true → (a ≡ true) ⊎ (b ≡ true)
 either true b e = inl refl
 either false b e = inr e
-
-neither : (a b : Bool) → (a || b) ≡ false → (a ≡ false) × (b ≡ false)
-neither true b e = absurd (true≢false e)
-neither false b e = (refl, e)
 
 -- short of an on-interval, or of blocks at every place
 short : (c : tie.Then1) →

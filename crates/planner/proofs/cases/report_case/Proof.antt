@@ -59,5 +59,6 @@ returns-2 c =
 pub report-case-spec : {M : Type 1} → statement M
 report-case-spec =
     tie.close
-    (tie.spec long-fits-requires report-case-requires (λ c. search needs) (λ c. search needs) returns (λ c κs. search needs) (λ c. search needs)
-    (λ c. search needs) returns-2)
+    (tie.spec long-fits-requires report-case-requires (λ c. search needs) (λ c. search needs) returns
+    (λ c κs. let else = c .before .before in (else .before .before .before .pre, short else))
+    (λ c. search needs) (λ c. search needs) returns-2)

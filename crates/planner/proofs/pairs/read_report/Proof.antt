@@ -26,10 +26,10 @@ abbrev schedule : tie.Start → Plan → List ℕ
 schedule c b = scheduleAfter (unless (hasSchedule b) NoSchedule Passed) b (c .args .schedule .now)
 
 whole-profit-requires : tie.Need-whole-profit-requires
-whole-profit-requires c κs = let s = c .before .before in (s .pre .0 .0, s .pre .0 .1 .figures)
+whole-profit-requires c κs = let s = c .before .before in (s .pre .0 .0, s .pre .0 .1 .two .figures)
 
 outcomes-in-requires : tie.Need-outcomes-in-requires
-outcomes-in-requires c κs = let s = c .before .before .before .before .before .before .before in (s .pre .0 .0, s .pre .0 .1 .figures)
+outcomes-in-requires c κs = let s = c .before .before .before .before .before .before .before in (s .pre .0 .0, s .pre .0 .1 .two .figures)
 
 work-plan-requires : tie.Need-work-plan-requires
 work-plan-requires c κs =
@@ -56,7 +56,7 @@ returns-2 c =
     let a = s .args in
     let told = profit .profit .given in
     let some = some-plan (best (a .unit) (a .prices .now)) (told .0 .0) (sym (found .whole-profit .ensures) ∙ told .1) in
-    let order = s .pre .0 .1 .order in
+    let order = s .pre .0 .1 .two .order in
     let long = plan-length (a .unit) (order .ranges) (order .shape) (a .prices .now) (some .0) (told .0 .0) (some .1) in
     let value = plain-fits {x = told .0 .0} (record { sfits = known .known-told .given .0 .1 }) in (
       same-report (sym long) value (looked .outcomes-in .ensures) ∙ ap (answer s) (sym (some .1)),

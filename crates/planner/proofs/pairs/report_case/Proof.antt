@@ -1,18 +1,18 @@
--- The first layer is rolled to the front and read, the plan is worked out, and the two layers are cleared.
+-- The first layer is brought to the front and read, the plan is worked out, and the two layers are cleared.
 use mathlib.Core.Path.{_≡_, ap, _∙_}
 use mathlib.Core.Bool.{true}
 use Prim.Native.Nat.{ℕ, _+_, _*_, _≤_}
 use native.Mathlib.Omega.{arith}
 use lib.ListN.{length}
 use Rattle.commitment.specs.Cells.{cellsNeeded}
-use Rattle.planner.specs.Tables.{Told, Paired}
-use Rattle.planner.proofs.Lent.{Lent, lent, lent-sound, permitted, layer-is, paired, rolled-told, cleared}
+use Rattle.planner.specs.Tables.{Told, Paired, Begun}
+use Rattle.planner.proofs.Lent.{Lent, lent, lent-sound, permitted, layer-is, paired, front-told, paired-on, case-asked, two-intervals, cleared}
 use borrow.Author.Needs.{needs}
 use Rattle.planner.proofs.pairs.report_case.Statement.{statement}
 use Rattle.planner.proofs.pairs.report_case.Tie as tie
 
 passed : (c : tie.Start) → Lent (c .args .unit) (c .args .prices .now) true (length (c .args .scratch .now))
-passed c = lent (c .args .unit) (c .args .prices .now) true (length (c .args .scratch .now)) (c .pre .0)
+passed c = lent (c .args .unit) (c .args .prices .now) true (length (c .args .scratch .now)) (c .pre .0 .0)
 
 figures-of-requires : tie.Need-figures-of-requires
 figures-of-requires c κs = passed (c .before) .case .order
@@ -58,52 +58,59 @@ used c =
     let twice : w .result + w .result ≡ 2 * w .result = omega arith in
     twice ∙ ap (λ (k : ℕ). 2 * k) one
 
-roll-requires : tie.Need-roll-requires
-roll-requires c κs = let t = two (c .before) in (t .lent, t .some)
+first-pass-requires : tie.Need-first-pass-requires
+first-pass-requires c κs =
+    let hours = c .before in
+    let layer = hours .before in
+    let a = layer .before .before .before .args in
+    case-asked (a .unit) (layer .before .figures-of .result) (layer .layer-cells .result) (hours .hours-of .result) (a .prices .now) (a .scratch .now)
+    (two hours)
 
-told : (c : tie.After-roll) →
+told : (c : tie.After-first-pass) →
     let a = c .before .before .before .before .before .before .args in
-    Told (a .unit) (a .prices .now) (c .roll .last .0)
+    Told (a .unit) (a .prices .now) (c .first-pass .last .0)
 told c =
     let hours = c .before .before in
     let layer = hours .before in
     let a = layer .before .before .before .args in
-    rolled-told (a .unit) (layer .before .figures-of .result) (layer .layer-cells .result) (hours .hours-of .result) (a .prices .now) (a .scratch .now)
-    (c .roll .last .0) (two hours) (c .roll .kept .0) (c .roll .ensures .0)
+    front-told (a .unit) (layer .before .figures-of .result) (layer .layer-cells .result) (hours .hours-of .result) (a .prices .now) (a .scratch .now)
+    (c .first-pass .last .0) (two hours) (c .first-pass .kept .0) (c .first-pass .ensures .0 .layer)
 
--- the two layers as they are rolled
-two-rolled : (c : tie.After-roll) →
+-- the two layers after the pass
+begun : (c : tie.After-first-pass) →
     let hours = c .before .before in
     let layer = hours .before in
     let a = layer .before .before .before .args in
-    Paired (a .unit) (layer .before .figures-of .result) (layer .layer-cells .result) (hours .hours-of .result) (a .prices .now) (c .roll .last .0)
-two-rolled c =
-    let t = two (c .before .before) in
-    let l = t .lent in
+    Begun (a .unit) (layer .before .figures-of .result) (layer .layer-cells .result) (hours .hours-of .result) (a .prices .now) (c .first-pass .last .0)
+begun c =
+    let hours = c .before .before in
+    let layer = hours .before in
+    let s = layer .before .before .before in
+    let a = s .args in
     record {
-      order = t .order;
-      some = t .some;
-      figures = t .figures;
-      opened = t .opened;
-      lent = record { room = rw (c .roll .kept .0) (l .room); wide = l .wide; short = l .short; priced = l .priced; clocked = l .clocked };
+      two =
+          paired-on (a .unit) (layer .before .figures-of .result) (layer .layer-cells .result) (hours .hours-of .result) (a .prices .now) (a .scratch .now)
+          (c .first-pass .last .0) (two hours) (c .first-pass .kept .0);
+      many = two-intervals (a .unit) (length (a .prices .now)) (length (a .scratch .now)) (passed s .cells) (s .pre .1);
+      first = c .first-pass .ensures .0;
     }
 
 read-report-requires : tie.Need-read-report-requires
 read-report-requires c κs =
-    let rolled = c .before .before .before in
-    ((told rolled, two-rolled rolled), rolled .before .before .before .before .before .before .pre .1)
+    let made = c .before .before .before in
+    ((told made, begun made), made .before .before .before .before .before .before .pre .0 .1)
 
 clear-requires : tie.Need-clear-requires
 clear-requires c κs =
     let read = c .before .before .before .before in
-    let rolled = read .before .before .before .before in
-    omega (arith, read .read-report .kept .1 .1 .1 .1 .1 .0, rolled .roll .kept .0, fits (rolled .before .before))
+    let made = read .before .before .before .before in
+    omega (arith, read .read-report .kept .1 .1 .1 .1 .1 .0, made .first-pass .kept .0, fits (made .before .before))
 
 returns : tie.Need-returns
 returns c =
     let read = c .before .before .before .before .before .before in
-    let rolled = read .before .before .before .before in
-    let hours = rolled .before .before in
+    let made = read .before .before .before .before in
+    let hours = made .before .before in
     let s = hours .before .before .before .before in
     let w = hours .before .layer-cells .result in
     let r = read .read-report .ensures in (
@@ -111,12 +118,12 @@ returns c =
       (
         r .1 .0,
         c .before .clear .ensures
-            ∙ cleared (w + w) _ (s .args .scratch .now) (read .read-report .last .1 .1 .1 .1 .1 .0) (used hours) (r .1 .1 ∙ rolled .roll .ensures .1),
+            ∙ cleared (w + w) _ (s .args .scratch .now) (read .read-report .last .1 .1 .1 .1 .1 .0) (used hours) (r .1 .1 ∙ made .first-pass .ensures .1),
       ),
     )
 
 pub report-case-spec : {M : Type 1} → statement M
 report-case-spec =
     tie.close
-    (tie.spec figures-of-requires layer-cells-requires hours-of-requires roll-requires read-report-requires clear-requires
+    (tie.spec figures-of-requires layer-cells-requires hours-of-requires first-pass-requires read-report-requires clear-requires
     (λ c. search needs) (λ c. search needs) returns)

@@ -6,7 +6,7 @@ use native.Mathlib.Omega.{arith}
 use lib.ListN.{length}
 use Rattle.commitment.specs.Cells.{cellsNeeded}
 use Rattle.planner.specs.Tables.{Told, Paired}
-use Rattle.planner.proofs.Lent.{Lent, lent, lent-sound, permitted, layer-is, paired, rolled-told, cleared}
+use Rattle.planner.proofs.Lent.{Lent, lent, lent-sound, permitted, layer-is, paired, front-told, cleared}
 use borrow.Author.Needs.{needs}
 use Rattle.planner.proofs.pairs.value_case.Statement.{statement}
 use Rattle.planner.proofs.pairs.value_case.Tie as tie
@@ -58,18 +58,18 @@ used c =
     let twice : w .result + w .result ≡ 2 * w .result = omega arith in
     twice ∙ ap (λ (k : ℕ). 2 * k) one
 
-roll-requires : tie.Need-roll-requires
-roll-requires c κs = let t = two (c .before) in (t .lent, t .some)
+roll-all-requires : tie.Need-roll-all-requires
+roll-all-requires c κs = let t = two (c .before) in (t .lent, t .some)
 
-told : (c : tie.After-roll) →
+told : (c : tie.After-roll-all) →
     let a = c .before .before .before .before .before .args in
-    Told (a .unit) (a .prices .now) (c .roll .last .0)
+    Told (a .unit) (a .prices .now) (c .roll-all .last .0)
 told c =
     let hours = c .before .before in
     let layer = hours .before in
     let a = layer .before .before .args in
-    rolled-told (a .unit) (layer .before .figures-of .result) (layer .layer-cells .result) (hours .hours-of .result) (a .prices .now) (a .scratch .now)
-    (c .roll .last .0) (two hours) (c .roll .kept .0) (c .roll .ensures .0)
+    front-told (a .unit) (layer .before .figures-of .result) (layer .layer-cells .result) (hours .hours-of .result) (a .prices .now) (a .scratch .now)
+    (c .roll-all .last .0) (two hours) (c .roll-all .kept .0) (c .roll-all .ensures .0)
 
 read-outcomes-requires : tie.Need-read-outcomes-requires
 read-outcomes-requires c κs =
@@ -79,7 +79,7 @@ read-outcomes-requires c κs =
 clear-requires : tie.Need-clear-requires
 clear-requires c κs =
     let rolled = c .before .before .before .before in
-    omega (arith, rolled .roll .kept .0, fits (rolled .before .before))
+    omega (arith, rolled .roll-all .kept .0, fits (rolled .before .before))
 
 returns : tie.Need-returns
 returns c =
@@ -88,11 +88,11 @@ returns c =
     let hours = rolled .before .before in
     let s = hours .before .before .before in
     let w = hours .before .layer-cells .result in
-    let scratch = cleared (w + w) _ (s .args .scratch .now) (rolled .roll .last .0) (used hours) (rolled .roll .ensures .1) in
+    let scratch = cleared (w + w) _ (s .args .scratch .now) (rolled .roll-all .last .0) (used hours) (rolled .roll-all .ensures .1) in
     (read .read-outcomes .ensures, c .before .clear .ensures ∙ scratch)
 
 pub value-case-spec : {M : Type 1} → statement M
 value-case-spec =
     tie.close
-    (tie.spec figures-of-requires layer-cells-requires hours-of-requires roll-requires read-outcomes-requires
+    (tie.spec figures-of-requires layer-cells-requires hours-of-requires roll-all-requires read-outcomes-requires
     clear-requires (λ c. search needs) returns)

@@ -9,7 +9,7 @@ use Rattle.optimality.specs.declared.Figures.{Figures}
 use Rattle.optimality.specs.Machine.{Quarter, anywhere}
 use Rattle.optimality.specs.Cells.{figuresOf, quartersOf, planAt}
 use Rattle.layers.specs.Filling.{quartersIn}
-use Rattle.planner.proofs.Lent.{quarters-are}
+use Rattle.planner.proofs.Lent.{quarters-are, case-asked}
 use Rattle.planner.proofs.Worked.{opening-inside, opening-plan, opening-some, plan-in-front}
 use borrow.Author.Needs.{needs}
 use Rattle.planner.proofs.pairs.work_plan.Statement.{statement}
@@ -18,7 +18,7 @@ use Rattle.planner.proofs.pairs.work_plan.Tie as tie
 -- the quarters are those of the case
 quarters : (c : tie.Start) → let a = c .args in quartersIn (a .hours) (a .prices .now) ≡ quartersOf (a .unit) (a .prices .now)
 quarters c =
-    let p = c .pre .0 .1 in
+    let p = c .pre .0 .1 .two in
     quarters-are (c .args .unit) (c .args .prices .now) (p .order .short) (c .args .hours) (p .opened)
 
 plan-from-requires : tie.Need-plan-from-requires
@@ -27,13 +27,16 @@ plan-from-requires c κs =
     let s = cell .before .before in
     let a = s .args in
     let told = s .pre .0 .0 in
-    let p = s .pre .0 .1 in (
+    let p = s .pre .0 .1 .two in (
       (
-        p .lent,
+        case-asked (a .unit) (a .f) (a .w) (a .hours) (a .prices .now) (a .scratch .now) p,
+        s .pre .0 .1 .first,
         rw (p .figures, cell .opening-cell .ensures) (opening-inside (a .unit) (a .prices .now) (a .scratch .now) told),
-        s .pre .1 .0,
       ),
-      rw (quarters s, p .figures, cell .opening-cell .ensures) (opening-some (a .unit) (a .prices .now) (a .scratch .now) told (s .pre .1 .1)),
+      (
+        (s .pre .0 .1 .many, s .pre .1 .0),
+        rw (quarters s, p .figures, cell .opening-cell .ensures) (opening-some (a .unit) (a .prices .now) (a .scratch .now) told (s .pre .1 .1)),
+      ),
     )
 
 returns : tie.Need-returns
@@ -44,7 +47,7 @@ returns c =
     let s = cell .before .before in
     let a = s .args in
     let told = s .pre .0 .0 in
-    let p = s .pre .0 .1 in
+    let p = s .pre .0 .1 .two in
     let r = made .plan-from .ensures in
     let same : planAt (a .f) anywhere (quartersIn (a .hours) (a .prices .now)) (cell .opening-cell .result) ≡ best (a .unit) (a .prices .now) =
     ap (λ (qs : List Quarter). planAt (a .f) anywhere qs (cell .opening-cell .result)) (quarters s)

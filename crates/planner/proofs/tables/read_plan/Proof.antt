@@ -19,7 +19,7 @@ use Rattle.planner.proofs.tables.read_plan.Tie as tie
 
 plans : (c : tie.After-opening-cell) →
     let a = c .before .before .args in
-    PlanFrom (a .f) (a .prices .now) (a .cells .now) (c .opening-cell .result) (quartersOf (a .unit) (a .prices .now))
+    PlanFrom (a .f) anywhere (a .prices .now) (a .cells .now) (c .opening-cell .result) (quartersOf (a .unit) (a .prices .now))
 plans c =
     let s = c .before .before in
     let a = s .args in
@@ -31,7 +31,7 @@ read-off-requires c κs =
     let a = s .args in
     let inside = opening-inside (a .unit) (a .prices .now) (a .cells .now) (s .pre .0 .told) in (
       (rw (s .pre .1 .0 .0) (room (a .unit) (a .prices .now) (a .cells .now) (s .pre .0)), s .pre .1 .0 .1, s .pre .0 .priced),
-      ((quartersOf (a .unit) (a .prices .now), plans (c .before)), (rw (s .pre .1 .0 .0, c .before .opening-cell .ensures) inside, s .pre .1 .0 .2)),
+      ((anywhere, quartersOf (a .unit) (a .prices .now), plans (c .before)), (rw (s .pre .1 .0 .0, c .before .opening-cell .ensures) inside, s .pre .1 .0 .2)),
     )
 
 returns : tie.Need-returns
@@ -42,7 +42,7 @@ returns c =
     let s = cell .before .before in
     let a = s .args in
     let quarters = quartersOf (a .unit) (a .prices .now) in
-    let off = read .read-off .ensures quarters (plans cell) in
+    let off = read .read-off .ensures .0 anywhere quarters (plans cell) in
     let same : planAt (a .f) anywhere quarters (cell .opening-cell .result) ≡ best (a .unit) (a .prices .now) =
     ap₂ (λ (f : Figures) (x : Cell). planAt f anywhere quarters x) (s .pre .1 .0 .0) (cell .opening-cell .ensures)
     ∙ opening-plan (a .unit) (a .prices .now) (a .cells .now) (s .pre .0 .told) in (

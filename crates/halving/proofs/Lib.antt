@@ -1,0 +1,5 @@
+-- Ends: the layer after the last interval. Parts: some of the quarters, and a part of the schedule. Boxes: a cell's own budgets. Joining: both halves.
+pub mod Ends
+pub mod Parts
+pub mod Boxes
+pub mod Joining

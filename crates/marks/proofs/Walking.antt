@@ -1,0 +1,180 @@
+-- From interval to interval: a cell stands where the cell stands that its plan's first output leads to.
+use mathlib.Core.Path.{_≡_, refl, sym, ap, _∙_}
+use mathlib.Core.List.{List, [], _∷_, _++_}
+use mathlib.Core.Logic.{inl, inr}
+use Prim.Native.Nat.{ℕ, _+_, _-_, _*_, _≤_, _<_}
+use native.Mathlib.Omega.{arith}
+use lib.IntN.{ℤ, pos, natAbs, _+ℤ_, +ℤ-idl}
+use lib.ListN.{length, length-append}
+use lib.Signed.{_≤ℤ_}
+use Rattle.integers.proofs.Linear.{zarith, zsum}
+use Rattle.commitment.specs.declared.BestProfit.{BestProfit}
+use Rattle.commitment.specs.declared.BestProfit.the-variants.{Nothing}
+use Rattle.commitment.specs.Bounds.{mostPrice, mostIntervals}
+use Rattle.commitment.specs.Best.{Plan, nothing, plan, profitOf}
+use Rattle.optimality.specs.declared.Cell.{Cell}
+use Rattle.optimality.specs.declared.Figures.{Figures}
+use Rattle.optimality.specs.Machine.{Quarter, Step, earning, then, inQuarter, walk, after}
+use Rattle.optimality.specs.Cells.{Sound, InTable, offCell, cellStep, planAt, valueAt}
+use Rattle.optimality.proofs.Turns.{plan-value, off-in-table}
+use Rattle.geometry.specs.Geometry.{section, width, index}
+use Rattle.geometry.specs.Layers.{infeasible, Layer}
+use Rattle.geometry.proofs.Holding.{holds-small}
+use Rattle.geometry.proofs.Places.{in-section, index-lt}
+use Rattle.layers.specs.Turns.{Interval, offStored}
+use Rattle.layers.proofs.Filling.{layer-earlier}
+use Rattle.table.specs.Reading.{chosen, nextCell}
+use Rattle.table.proofs.Choosing.{Chosen}
+use Rattle.table.proofs.Plans.{read-layers, one-more}
+use Rattle.marks.specs.Lines.{valueOf, markOf}
+use Rattle.marks.specs.Turning.{Turn}
+use Rattle.marks.specs.Passing.{Columns, Before, OwnNumbers}
+use Rattle.marks.specs.Standing.{Stands, MarkedLayer, Swept, Numbered}
+use Rattle.marks.proofs.Pieces.{off-floored, small-floored}
+use Rattle.marks.proofs.Meaning.{turn-value, turn-mark}
+
+module _ (f : Figures) (ends : Cell → BestProfit) (later : List Quarter) where
+  -- before any interval a plan stands where it begins
+  pub stands-here : (c : Cell) → InTable f c → (valueAt f ends later c ≡ Nothing → ⊥) → Stands f ends [] later c c
+  stands-here c i some = by (planAt f ends later c) refl
+    where
+      by : (p : Plan) → planAt f ends later c ≡ p → Stands f ends [] later c c
+      by nothing e = absurd (some (sym (plan-value f ends later c) ∙ ap profitOf e))
+      by (plan s p) e =
+          record {
+            inside = i;
+            outputs = [];
+            earned = pos 0;
+            leads = refl;
+            rest = s;
+            profit = p;
+            goes-on = e;
+            whole = e ∙ ap (plan s) (sym (+ℤ-idl p));
+          }
+
+  pub stands-next : (q : Quarter) (front : List Quarter) (c : Cell) (k : ℕ) (at : Cell) → Chosen f ends q (front ++ later) c k
+      → Stands f ends front later (nextCell f c k) at → Stands f ends (q ∷ front) later c at
+  stands-next q front c k at choice s =
+      record {
+        inside = s .inside;
+        outputs = (k * f .block) ∷ s .outputs;
+        earned = choice .earns +ℤ s .earned;
+        leads =
+            ap (λ (t : Step Cell). then t (λ y. walk Cell Quarter (inQuarter (cellStep f)) front y (s .outputs))) (choice .steps)
+            ∙ ap (earning (choice .earns)) (s .leads);
+        rest = s .rest;
+        profit = s .profit;
+        goes-on = s .goes-on;
+        whole = choice .is ∙ ap (after (k * f .block) (choice .earns)) (s .whole) ∙ ap (plan ((k * f .block) ∷ (s .outputs ++ s .rest))) sum;
+      }
+    where
+      sum : choice .earns +ℤ (s .earned +ℤ s .profit) ≡ choice .earns +ℤ s .earned +ℤ s .profit
+      sum =
+          omega (
+            zarith,
+            zsum (s .earned) (s .profit),
+            zsum (choice .earns) (s .earned +ℤ s .profit),
+            zsum (choice .earns) (s .earned),
+            zsum (choice .earns +ℤ s .earned) (s .profit),
+          )
+
+  -- ---- a layer, one interval earlier
+
+  module _ (ok : Sound f) (q : Quarter) (priced : natAbs (q .price) ≤ mostPrice) (front : List Quarter) (few : length (front ++ later) < mostIntervals) (w : ℕ)
+      (was now : List ℤ) (given : Cell → ℤ) (m : MarkedLayer f ends front later given (valueOf f w was) (markOf f w was))
+      (turned : Columns f q w was now 0 (section f)) where
+    turn : (c : Cell) → InTable f c → Turn f q (valueOf f w was) (markOf f w was) c (valueOf f w now c) (markOf f w now c)
+    turn c i = turned .done c i (omega arith) (in-section f (c .starts) (c .ons) (c .blocks) (i .starts) (i .ons) (i .blocks))
+
+    floor : (c : Cell) → InTable f c → infeasible ≤ℤ offStored f (valueOf f w was) c
+    floor c i =
+        off-floored f (valueOf f w was) c
+        (λ g.
+        let h = off-in-table f c i g in
+        small-floored (valueOf f w was (offCell f c))
+        (holds-small (length (front ++ later)) (valueAt f ends (front ++ later) (offCell f c)) (valueOf f w was (offCell f c)) (omega (arith, few))
+        (m .layer .holds (offCell f c) h)))
+
+    earlier : Layer f ends (q ∷ (front ++ later)) (valueOf f w now)
+    earlier =
+        layer-earlier f ok ends q priced (front ++ later) few (valueOf f w was) (valueOf f w now) (m .layer)
+        (λ c i. turn-value f ok q (valueOf f w was) (markOf f w was) c (turn c i) (floor c i))
+
+    pub marked-next : MarkedLayer f ends (q ∷ front) later given (valueOf f w now) (markOf f w now)
+    marked-next =
+        record {
+          layer = earlier;
+          marks = λ c i some.
+              let r = read-layers f ends q (front ++ later) (valueOf f w now) (valueOf f w was) c ok priced few earlier (m .layer) i some in
+              let choice = r .choice in
+              let k = chosen f (valueOf f w was) c (q .price) (valueOf f w now c) in
+              let mark = turn-mark f ok q (valueOf f w was) (markOf f w was) c (turn c i) (floor c i) (choice .inside) in
+              let one = one-more f ends q (front ++ later) c (nextCell f c k) (k * f .block) (choice .earns) (choice .is) some in
+              let next = m .marks (nextCell f c k) (choice .inside) (one .1) in
+              record { at = next .at; stands = stands-next q front c k (next .at) choice (next .stands); is = mark ∙ next .is };
+        }
+
+-- ---- several intervals
+
+module _ (f : Figures) (w : ℕ) where
+  pub swept-none : (was : List ℤ) → Swept f w was was []
+  swept-none was =
+      record {
+        same = refl;
+        beyond = λ j h. refl;
+        marked = λ ends later layer few.
+            record { layer = layer; marks = λ c i some. record { at = c; stands = stands-here f ends later c i some; is = refl } };
+      }
+
+  pub swept-next : Sound f → (q : Quarter) → natAbs (q .price) ≤ mostPrice → (was cur now : List ℤ) (front : List Quarter) → Swept f w was cur front
+      → Columns f q w cur now 0 (section f) → Swept f w was now (q ∷ front)
+  swept-next ok q priced was cur now front s turned =
+      record {
+        same = turned .same ∙ s .same;
+        beyond = λ j h. turned .beyond j h ∙ s .beyond j h;
+        marked = λ ends later layer few.
+            let n = length-append front later in
+            marked-next f ends later ok q priced front (omega (arith, n, few)) w cur now (markOf f w was)
+            (s .marked ends later layer (omega (arith, few))) turned;
+      }
+
+  -- what the next interval asks
+  pub before-swept : (was cur : List ℤ) (price : ℤ) (front : List Quarter) → Interval f price → w ≡ width f → w + w ≤ length was → Swept f w was cur front
+      → (ends : Cell → BestProfit) (later : List Quarter) → Layer f ends later (valueOf f w was) → length later + length front ≤ mostIntervals
+      → Before f w cur price (section f)
+  before-swept was cur price front interval wide marks s ends later layer few =
+      record {
+        interval = interval;
+        wide = wide;
+        marks = omega (arith, marks, s .same);
+        small = λ c i h.
+            let n = length-append front later in
+            let m = s .marked ends later layer few in
+            holds-small (length (front ++ later)) (valueAt f ends (front ++ later) c) (valueOf f w cur c) (omega (arith, n, few)) (m .layer .holds c i);
+      }
+
+-- ---- from cells that have their own numbers
+
+module _ (f : Figures) (w : ℕ) (wide : w ≡ width f) (was numbered : List ℤ) (n : OwnNumbers w was numbered w) where
+  -- numbering leaves the values
+  pub value-kept : (ends : Cell → BestProfit) (later : List Quarter) → Layer f ends later (valueOf f w was) → Layer f ends later (valueOf f w numbered)
+  value-kept ends later layer =
+      record { holds = λ c i. rw (n .apart (index f c) (inl (omega (arith, index-lt f c i, wide)))) (layer .holds c i) }
+
+  mark-own : (c : Cell) → InTable f c → markOf f w numbered c ≡ pos (index f c)
+  mark-own c i = n .own (index f c) (omega (arith, index-lt f c i, wide))
+
+  pub numbered-swept : (now : List ℤ) (quarters : List Quarter) → Swept f w numbered now quarters → Numbered f w was now quarters
+  numbered-swept now quarters s =
+      record {
+        same = s .same ∙ n .same;
+        beyond = λ j h. s .beyond j h ∙ n .apart j (inr h);
+        marked = λ ends later layer few.
+            let m = s .marked ends later (value-kept ends later layer) few in
+            record {
+              layer = m .layer;
+              marks = λ c i some.
+                  let k = m .marks c i some in
+                  record { at = k .at; stands = k .stands; is = k .is ∙ mark-own (k .at) (k .stands .inside) };
+            };
+      }
