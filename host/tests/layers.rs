@@ -4,7 +4,7 @@ mod support;
 
 use ralwinga::reader::read_case;
 use ralwinga::{cells, listing, plan_into, report_into, value};
-use ralwinga::{Case, Cells, Outcome, Refusal, Report, Unit};
+use ralwinga::{Case, Cells, Outcome, Refusal, Report, Unit, Window};
 use std::path::PathBuf;
 use support::{answer_on, c1, month, paper, proved_program, ralwinga, run_on};
 use support::{Folder, Lent, Random, C1};
@@ -198,6 +198,62 @@ fn months_in_both_sizes() {
             assert_eq!(reported(unit, &prices, needed, beyond), expected);
         }
     }
+}
+
+/// A case of some days at most, whose prices often tie, with any limitations and permitted hours; its long table has at most 500,000 cells.
+fn some_case(random: &mut Random) -> Option<(Unit, Vec<i64>, Cells)> {
+    let pmin = 1 + random.below(4);
+    let window = Window {
+        year: 2024,
+        month: random.from(&[3, 11]),
+        day: 1 + random.below(9),
+        word: random.below(1 << 24),
+    };
+    let unit = Unit {
+        block: 1 + random.below(6),
+        pmin,
+        pmax: pmin + random.from(&[0, 1, 6, 40]),
+        mot: 1 + random.below(7),
+        mdt: 1 + random.below(7),
+        was: random.below(2),
+        held: 1 + random.below(12),
+        suc: 100 * random.below(90),
+        starts: random.limit(12),
+        hours: random.limit(20),
+        mwh: random.limit(300),
+        window: random.one_in(4).then_some(window),
+        ..c1().unit
+    };
+    let steps = random.from(&[500, 1, 3000]);
+    let prices: Vec<i64> = (0..2 + random.below(250))
+        .map(|_| steps * random.between(-2000 / steps, 9000 / steps))
+        .collect();
+    let cells = cells(unit, prices.len()).ok()?;
+    (cells.table <= 500_000).then_some((unit, prices, cells))
+}
+
+/// Any case: two layers answer as the long table does, a refusal too.
+#[test]
+fn cases_in_both_sizes() {
+    let mut random = Random::new(5);
+    let (mut planned, mut refused) = (0, 0);
+    while planned < 3000 {
+        let Some((unit, prices, Cells { needed, table })) = some_case(&mut random) else {
+            continue;
+        };
+        let beyond = random.below((table - needed) as u64) as usize;
+        let mut plan = vec![0; prices.len()];
+        if report_into(unit, &prices, &mut vec![1; table], &mut plan).is_err() {
+            refused += 1;
+            let answer = report_into(unit, &prices, &mut vec![1; needed], &mut plan);
+            assert_eq!(answer.map_err(|refusal| refusal.number()), Err(9));
+            continue;
+        }
+        planned += 1;
+        let expected = reported(unit, &prices, table, 5);
+        assert_eq!(reported(unit, &prices, needed, beyond), expected);
+    }
+    assert!(refused > 0);
 }
 
 /// A month with 200 hours is planned in two layers of 4 × 801 cells, whether its long table fits or not.
