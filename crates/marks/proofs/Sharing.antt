@@ -1,18 +1,17 @@
 -- The two oldest states that are on lead to the oldest: an interval on gives both the same.
 use mathlib.Core.Path.{_≡_, refl, sym, ap, ap₂, _∙_}
-use mathlib.Core.Bool.{Bool, true, _&&_}
+use mathlib.Core.Bool.{_&&_}
 use mathlib.Core.List.{List}
 use mathlib.Core.Logic.{⊎-elim, inl, inr}
-use Prim.Native.Nat.{ℕ, _+_, _-_, _*_, _≤_, _<_}
+use Prim.Native.Nat.{ℕ, _+_, _-_, _*_, _≤_}
 use native.Mathlib.Omega.{arith}
 use borrow.Author.Tests.{lt-ltb}
 use lib.Dec.{leb, ltb}
-use lib.IntN.{ℤ, pos, _+ℤ_}
-use lib.ListN.{getD}
+use lib.IntN.{ℤ, _+ℤ_}
 use Rattle.optimality.specs.declared.Cell.{Cell}
 use Rattle.optimality.specs.declared.Figures.{Figures}
 use Rattle.optimality.specs.Machine.{Quarter}
-use Rattle.optimality.specs.Cells.{Sound, InTable, cell, states, afterOn, startTakes, startPays, mayRun, onCell}
+use Rattle.optimality.specs.Cells.{Sound, cell, states, afterOn, startTakes, startPays, mayRun, onCell}
 use Rattle.optimality.proofs.Turns.{on-in-table}
 use Rattle.geometry.specs.Geometry.{row, span, section, width}
 use Rattle.geometry.specs.Layers.{infeasible}
