@@ -130,7 +130,7 @@ fn places_of_faults() {
     };
     let text = text_of_inputs(&mut Random::new(43), &given);
     let read = read_figures(text.as_bytes());
-    assert_eq!(read.map(|figures| figures.vec), Ok(5665));
+    assert_eq!(read.map(|figures| figures.vec), Ok(5664));
     for (from, to, number, said) in FAULTS {
         assert!(text.contains(from), "{from}");
         let damaged = text.replacen(from, to, 1);

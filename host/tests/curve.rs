@@ -46,7 +46,7 @@ fn worked_curves() {
         adder: 2500,
     };
     let answer = curve(inputs, &[70, 150, 300], &[14_440, 11_960, 10_909]);
-    assert_eq!(answer, Ok(segments(&[(70, 150, 8215), (150, 300, 8252)])));
+    assert_eq!(answer, Ok(segments(&[(70, 150, 8214), (150, 300, 8252)])));
     // 10 / 3 x 10, a third of a cent over 33
     let answer = curve(gas_alone(10_000), &[1, 4], &[10, 5]);
     assert_eq!(answer, Ok(segments(&[(1, 4, 33)])));
@@ -62,8 +62,11 @@ fn worked_curves() {
 #[test]
 fn fractions_are_rounded_to_the_nearest() {
     let rounded = |(over, under)| Fraction { over, under }.rounded();
-    assert_eq!([(1, 2), (3, 2), (5, 2)].map(rounded), [1, 2, 3]);
-    assert_eq!([(-1, 2), (-3, 2), (-5, 2)].map(rounded), [0, -1, -2]);
+    assert_eq!([(1, 2), (3, 2), (5, 2), (7, 2)].map(rounded), [0, 2, 2, 4]);
+    assert_eq!(
+        [(-1, 2), (-3, 2), (-5, 2), (-7, 2)].map(rounded),
+        [0, -2, -2, -4]
+    );
     assert_eq!([(1, 3), (2, 3), (4, 3), (6, 3)].map(rounded), [0, 1, 1, 2]);
     assert_eq!(
         [(-1, 3), (-2, 3), (-4, 3), (-6, 3)].map(rounded),
@@ -73,13 +76,16 @@ fn fractions_are_rounded_to_the_nearest() {
 
 /// 500 times the difference, over 1000: halves, below 0 too.
 #[test]
-fn halves_go_up() {
+fn halves_go_to_the_even_neighbour() {
     for (rates, price) in [
-        ([1, 1], 1),
+        ([1, 1], 0),
         ([1, 2], 2),
+        ([1, 3], 2),
+        ([1, 4], 4),
         ([3, 1], 0),
-        ([5, 1], -1),
+        ([5, 1], -2),
         ([7, 1], -2),
+        ([9, 1], -4),
         ([2, 1], 0),
         ([4, 1], -1),
     ] {
@@ -261,11 +267,12 @@ fn keeps_its_promises(points: &Points, segments: &[Segment]) {
     }
 }
 
-/// How often something came about that a curve can be wrong in.
+/// How often something came about that a curve can be wrong in. Of halves, those that go down and those that go up.
 #[derive(Debug, Default)]
 struct Kinds {
     below_zero: usize,
-    halves_below_zero: usize,
+    halves: [usize; 2],
+    halves_below_zero: [usize; 2],
     merged: usize,
     /// Under the price to which the one before was raised, and over that one's own.
     raised_twice: usize,
@@ -277,11 +284,15 @@ impl Kinds {
         let own: Vec<i64> = prices.iter().map(|price| price.rounded()).collect();
         let is_raised =
             |i: &usize| own[*i - 1] < own[*i] && own[..*i].iter().max() > Some(&own[*i]);
-        let half_below = prices
-            .iter()
-            .any(|price| price.is_a_half() && price.is_negative());
         self.below_zero += usize::from(segments[0].price < 0);
-        self.halves_below_zero += usize::from(half_below);
+        for (price, own) in prices.iter().zip(&own).filter(|(p, _)| p.is_a_half()) {
+            let halves = if price.is_negative() {
+                &mut self.halves_below_zero
+            } else {
+                &mut self.halves
+            };
+            halves[usize::from(price.is_below(*own))] += 1;
+        }
         self.merged += usize::from(segments.len() < own.len());
         self.raised_twice += usize::from((1..own.len()).any(|i| is_raised(&i)));
     }
@@ -303,13 +314,12 @@ fn random_curves() {
     }
     each_came_up(&seen, &[0, 3, 7, 11]);
     println!("{kinds:?}");
-    let counts = [
-        kinds.below_zero,
-        kinds.halves_below_zero,
-        kinds.merged,
-        kinds.raised_twice,
-    ];
-    assert!(counts.iter().all(|times| *times > 1000), "{kinds:?}");
+    let counts = [kinds.below_zero, kinds.merged, kinds.raised_twice];
+    let halves = kinds.halves.iter().chain(&kinds.halves_below_zero);
+    assert!(
+        counts.iter().chain(halves).all(|times| *times > 1000),
+        "{kinds:?}"
+    );
 }
 
 /// The answer by exact fractions to the text of these points, of which each has a level and a rate.
@@ -414,7 +424,7 @@ const FAULTS: [(&str, &str, u64, &str); 15] = [
 #[test]
 fn places_of_faults() {
     let worked = read_curve(WORKED.as_bytes());
-    assert_eq!(worked, Ok(segments(&[(70, 150, 8215), (150, 300, 8252)])));
+    assert_eq!(worked, Ok(segments(&[(70, 150, 8214), (150, 300, 8252)])));
     for (from, to, number, said) in FAULTS {
         assert!(WORKED.contains(from), "{from}");
         let damaged = WORKED.replacen(from, to, 1);
@@ -514,12 +524,12 @@ fn a_drawing_by_the_command() {
             .expect("runs")
     };
     let answer = run(inputs.as_os_str(), drawing.as_os_str());
-    let table = "from,to,price\n70,150,8215\n150,300,8252\n";
+    let table = "from,to,price\n70,150,8214\n150,300,8252\n";
     assert_eq!(String::from_utf8_lossy(&answer.stdout), table);
     assert!(answer.status.success() && answer.stderr.is_empty());
     let svg = folder.read("unit.svg");
     assert!(svg.starts_with("<svg") && svg.ends_with("</svg>\n"));
-    is_drawn(&segments(&[(70, 150, 8215), (150, 300, 8252)]), &svg);
+    is_drawn(&segments(&[(70, 150, 8214), (150, 300, 8252)]), &svg);
     // what cannot be written is told behind the answer, and what is refused has no drawing
     let answer = run(inputs.as_os_str(), "/no/such/folder/drawing".as_ref());
     assert_eq!(String::from_utf8_lossy(&answer.stdout), table);

@@ -155,7 +155,7 @@ table =
     ∷ row (planBefore (best c9 c1-prices) (outcome (outcomeOf c9 c1-prices Starts) ∷ []))
     (schedule (0 ∷ 0 ∷ 0 ∷ 0 ∷ 0 ∷ 0 ∷ []) ∷ profit (pos 0) ∷ outcome Empty ∷ [])
     -- C10, C11, C12: vec, mlc and suc
-    ∷ row (cents (vecOf (c10-but 280 0 0 0 0 0 0) (80 ∷ []) (9790 ∷ [])) ∷ []) (cents 5665 ∷ [])
+    ∷ row (cents (vecOf (c10-but 280 0 0 0 0 0 0) (80 ∷ []) (9790 ∷ [])) ∷ []) (cents 5664 ∷ [])
     ∷ row (cents (mlcOf (c10-but 280 50 1300 531148 0 0 0)) ∷ []) (cents 648835 ∷ [])
     ∷ row (cents (sucOf (c10-but 0 50 0 0 100 2 30)) ∷ []) (cents 66875 ∷ [])
     ∷ []

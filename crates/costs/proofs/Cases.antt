@@ -1,6 +1,7 @@
--- C10, C11 and C12 of the specification and the tops of all ranges, by the whole answer of `figures`, check and all.
+-- C10, C11 and C12 of the specification, halves and the tops of all ranges, by the whole answer of `figures`, check and all.
 use mathlib.Core.Path.{_≡_, refl}
 use mathlib.Core.List.{[], _∷_}
+use Prim.Native.Nat.{ℕ}
 use Rattle.rounding.specs.Rounding.{rounded}
 use Rattle.commitment.specs.declared.CostInputs.{CostInputs}
 use Rattle.commitment.specs.Bounds.{mostBlocks}
@@ -21,9 +22,38 @@ c11 = c10-but 280 50 1300 531148 0 0 0
 -- C11's vec too: the allowances above minimum load
 pub cases :
     costedVec (answer (c10-but 280 0 0 0 0 0 0)) ∷ costedMlc (answer c11) ∷ costedVec (answer c11) ∷ costedSuc (answer (c10-but 0 50 0 0 100 2 30)) ∷ []
-    ≡ 5665 ∷ 648835 ∷ 6340 ∷ 66875 ∷ []
+    ≡ 5664 ∷ 648835 ∷ 6340 ∷ 66875 ∷ []
 unfolding costed inputsChecked inputsKept segmentsKept rounded
 cases = refl
+
+-- 1 MW at this gas price and grid charge, without segments: a start is half the charge, an hour half the gas price and the charge
+abbrev halves : ℕ → ℕ → CostInputs
+halves gas gmc =
+    record {
+      block = 1;
+      pmin = 1;
+      pmax = 1;
+      gas = gas;
+      transport = 0;
+      allowance = 0;
+      om = 0;
+      gmc = gmc;
+      rate = 0;
+      «min_heat» = 500;
+      fuel = 0;
+      aux = 0;
+      minutes = 60;
+      «start_adder» = 0;
+      «load_adder» = 0;
+    }
+
+-- 10.5 and 52.5, 10.5 and 53.5, 11.5 and 53.5
+pub at-halves :
+    costed (halves 63 21) [] [] ∷ costed (halves 65 21) [] [] ∷ costed (halves 61 23) [] [] ∷ []
+    ≡ Figures (record { vec = 0; suc = 10; mlc = 52 }) ∷ Figures (record { vec = 0; suc = 10; mlc = 54 })
+    ∷ Figures (record { vec = 0; suc = 12; mlc = 54 }) ∷ []
+unfolding costed inputsChecked inputsKept segmentsKept rounded
+at-halves = refl
 
 -- every input at the top of its range, on 500 blocks of 1 MW; it has no segments
 abbrev tops : CostInputs

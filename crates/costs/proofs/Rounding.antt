@@ -1,11 +1,11 @@
--- Each figure given is its fraction rounded once, a half going up.
+-- Each figure given is its fraction rounded once, a half to the even neighbour.
 use mathlib.Core.Path.{_≡_, refl, subst}
 use mathlib.Core.Bool.{true}
 use mathlib.Core.List.{List, [], _∷_}
 use Prim.Native.Nat.{ℕ, _<_}
 use native.Mathlib.Omega.{arith}
 use lib.Dec.{lit<}
-use Rattle.rounding.proofs.Rounding.{rounded-half-up}
+use Rattle.rounding.proofs.Rounding.{rounded-half-even}
 use Rattle.commitment.specs.Bounds.{mostMw}
 use Rattle.commitment.specs.declared.CostInputs.{CostInputs}
 use Rattle.commitment.specs.declared.Checked.{Checked}
@@ -37,7 +37,7 @@ rounded-once k mws heats figures e =
     let a = accepted k mws heats (f .0) in
     subst (RoundedOnce k mws heats) (f .1)
     (record {
-      vec = rounded-half-up (vecFraction k mws heats) (vec-positive k mws heats (a .segments .mws-kept));
-      suc = rounded-half-up (sucFraction k) (suc-worth k .positive);
-      mlc = rounded-half-up (mlcFraction k) (mlc-worth k .positive);
+      vec = rounded-half-even (vecFraction k mws heats) (vec-positive k mws heats (a .segments .mws-kept));
+      suc = rounded-half-even (sucFraction k) (suc-worth k .positive);
+      mlc = rounded-half-even (mlcFraction k) (mlc-worth k .positive);
     })

@@ -31,19 +31,21 @@ pub incremental :
     ≡ pos (9790 * 80) ∷ pos (9858 * 150) ∷ []
 incremental = refl
 
-pub example : finalCurve (inputs 550 280 50 2500) levels rates ≡ segment 70 150 (pos 8215) ∷ segment 150 300 (pos 8252) ∷ []
+pub example : finalCurve (inputs 550 280 50 2500) levels rates ≡ segment 70 150 (pos 8214) ∷ segment 150 300 (pos 8252) ∷ []
 unfolding finalCurve ownPrice roundedℤ maxℤ
 example = refl
 
--- ---- a third of a cent; a price that is compared with one already raised; halves below zero
+-- ---- a third of a cent; a price that is compared with one already raised; 1.5 and 2.5, which merge; −0.5, −1.5 and −2.5
 
 abbrev gasAlone : ℕ → List ℕ → List ℕ → List Segment
 gasAlone gas levels rates = finalCurve (inputs gas 0 0 0) levels rates
 
 pub priced :
     gasAlone 10000 (1 ∷ 4 ∷ []) (10 ∷ 5 ∷ []) ∷ gasAlone 1000 (1 ∷ 2 ∷ 3 ∷ 4 ∷ []) (10000 ∷ 10000 ∷ 8000 ∷ 7500 ∷ [])
-    ∷ gasAlone 500 (1 ∷ 2 ∷ []) (3 ∷ 1 ∷ []) ∷ gasAlone 500 (1 ∷ 2 ∷ []) (5 ∷ 1 ∷ []) ∷ []
-    ≡ (segment 1 4 (pos 33) ∷ []) ∷ (segment 1 4 (pos 10000) ∷ []) ∷ (segment 1 2 (pos 0) ∷ []) ∷ (segment 1 2 (negsuc 0) ∷ []) ∷ []
+    ∷ gasAlone 500 (1 ∷ 2 ∷ 3 ∷ []) (1 ∷ 2 ∷ 3 ∷ []) ∷ gasAlone 500 (1 ∷ 2 ∷ []) (3 ∷ 1 ∷ []) ∷ gasAlone 500 (1 ∷ 2 ∷ []) (5 ∷ 1 ∷ [])
+    ∷ gasAlone 500 (1 ∷ 2 ∷ []) (7 ∷ 1 ∷ []) ∷ []
+    ≡ (segment 1 4 (pos 33) ∷ []) ∷ (segment 1 4 (pos 10000) ∷ []) ∷ (segment 1 3 (pos 2) ∷ []) ∷ (segment 1 2 (pos 0) ∷ [])
+    ∷ (segment 1 2 (negsuc 1) ∷ []) ∷ (segment 1 2 (negsuc 1) ∷ []) ∷ []
 unfolding finalCurve ownPrice roundedℤ maxℤ
 priced = refl
 

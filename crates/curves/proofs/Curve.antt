@@ -14,8 +14,8 @@ use Rattle.lists.proofs.Conjunctions.{both}
 use Rattle.integers.specs.Maximum.{maxℤ}
 use Rattle.integers.proofs.Maximum.{max-is}
 use Rattle.integers.proofs.Order.{ltZ-dec, lt-ltZ, le-ltZ}
-use Rattle.rounding.specs.Rounding.{HalfUp}
-use Rattle.rounding.proofs.Rounding.{rounded-half-upℤ}
+use Rattle.rounding.specs.Rounding.{HalfEven}
+use Rattle.rounding.proofs.Rounding.{rounded-half-evenℤ}
 use Rattle.curves.specs.declared.CurveInputs.{CurveInputs}
 use Rattle.curves.specs.declared.Segment.{Segment}
 use Rattle.curves.specs.Ranges.{risingFrom, rising}
@@ -24,13 +24,13 @@ use Rattle.curves.specs.Passes.{curveFrom}
 use Rattle.curves.specs.Laws.{RisesFrom, Rises, lastFrom, firstLevel, lastLevel, Covers, asked, GreatestFrom, Greatest}
 use Rattle.curves.proofs.Steps.{max-up, max-stay, closes, longer}
 
--- ---- an own price is its fraction rounded once, a half going up
+-- ---- an own price is its fraction rounded once, a half to the even neighbour
 
-pub own-half-up :
+pub own-half-even :
     (k : CurveInputs) (level rate level′ rate′ : ℕ) → level < level′ →
-    HalfUp (ownPrice k level rate level′ rate′) (priceFraction k level rate level′ rate′)
+    HalfEven (ownPrice k level rate level′ rate′) (priceFraction k level rate level′ rate′)
 unfolding ownPrice
-own-half-up k level rate level′ rate′ h = rounded-half-upℤ (priceFraction k level rate level′ rate′) (omega arith)
+own-half-even k level rate level′ rate′ h = rounded-half-evenℤ (priceFraction k level rate level′ rate′) (omega arith)
 
 -- ---- what holds of both ways holds
 

@@ -1,8 +1,8 @@
-// The larger and the smaller of two, and a natural number as a signed one. The laws of ℤ stand in proofs/.
+// The larger and the smaller of two, a natural number as a signed one, and how large a signed one is. The laws of ℤ stand in proofs/.
 
 ghost use mathlib.Core.Path.{_≡_};
 ghost use Prim.Native.Nat.{_<_, _^_, min};
-ghost use lib.IntN.{pos};
+ghost use lib.IntN.{pos, natAbs};
 ghost use Rattle.integers.specs.Maximum.{maxℤ};
 
 // The larger of two, the first where they are equal.
@@ -24,4 +24,14 @@ pub fn signed(x: u64) -> i64
     ensures { λ r. ⌜ r ≡ pos x ⌝ }
 {
     x as i64
+}
+
+// How large a number is, whatever its sign.
+pub fn magnitude(value: i64) -> u64
+    ensures { λ r. ⌜ r ≡ natAbs value ⌝ }
+{
+    if value < 0 {
+        return (-(value + 1)) as u64 + 1;
+    }
+    value as u64
 }

@@ -6,7 +6,6 @@ use commitment::Outcomes;
 ghost use mathlib.Core.Path.{_≡_};
 ghost use mathlib.Core.Bool.{true};
 ghost use Prim.Native.Nat.{_+_, _≤_, _<_};
-ghost use lib.IntN.{natAbs};
 ghost use lib.ListN.{length};
 ghost use mathlib.Core.List.{[], _∷_, _++_};
 ghost use Rattle.calendar.specs.Words.{pastWords};
@@ -141,24 +140,15 @@ fn put_text(out: &mut [u8], at: usize, text: &[u8]) -> usize
     at + i
 }
 
-fn magnitude(value: i64) -> u64
-    ensures { λ r. ⌜ r ≡ natAbs value ⌝ }
-{
-    if value < 0 {
-        return (-(value + 1)) as u64 + 1;
-    }
-    value as u64
-}
-
 fn put_signed(out: &mut [u8], at: usize, value: i64) -> usize
     requires { ⌜ at + length (signedNumber value) ≤ length (now out) ⌝ }
     ensures { λ r. ⌜ Put (now (out .entry)) at (signedNumber value) r (now (out .exit)) ⌝ }
 {
     if value < 0 {
         let next = put_byte(&mut *out, at, 45);
-        return put_number(out, next, magnitude(value));
+        return put_number(out, next, integers::magnitude(value));
     }
-    put_number(out, at, magnitude(value))
+    put_number(out, at, integers::magnitude(value))
 }
 
 fn put_outcome(out: &mut [u8], at: usize, outcome: Outcome) -> usize
@@ -278,7 +268,7 @@ fn number_length(n: u64) -> usize
 fn signed_length(value: i64) -> usize
     ensures { λ r. ⌜ r ≡ length (signedNumber value) ⌝ }
 {
-    let digits = number_length(magnitude(value));
+    let digits = number_length(integers::magnitude(value));
     if value < 0 {
         return digits + 1;
     }

@@ -5,7 +5,7 @@ use Prim.Native.Nat.{ℕ, _*_}
 use native.Mathlib.Nat.{mul-one}
 use lib.IntN.{pos}
 use Rattle.rounding.specs.Fractions.{Fraction, _over_, _plus_, _times_, whole, signed}
-use Rattle.rounding.specs.Rounding.{HalfUp}
+use Rattle.rounding.specs.Rounding.{HalfEven}
 use Rattle.commitment.specs.declared.CostInputs.{CostInputs}
 use Rattle.commitment.specs.Figures.{pminMw, fuelPrice, allowanceCost, allowanceAtMinimum, mlcFraction}
 use Rattle.costs.specs.declared.CostFigures.{CostFigures}
@@ -28,6 +28,6 @@ module _ (k : CostInputs) (one : pminMw k ≡ 1) where
       one-mw
 
   pub one-mw-as-printed :
-      (mws heats : List ℕ) (figures : CostFigures) → costed k mws heats ≡ Figures figures → HalfUp (pos (figures .mlc)) (signed (mlcPrinted k))
+      (mws heats : List ℕ) (figures : CostFigures) → costed k mws heats ≡ Figures figures → HalfEven (pos (figures .mlc)) (signed (mlcPrinted k))
   one-mw-as-printed mws heats figures e =
-      subst (λ (f : Fraction). HalfUp (pos (figures .mlc)) (signed f)) fraction-as-printed (rounded-once k mws heats figures e .mlc)
+      subst (λ (f : Fraction). HalfEven (pos (figures .mlc)) (signed f)) fraction-as-printed (rounded-once k mws heats figures e .mlc)

@@ -5,7 +5,7 @@ use mathlib.Core.Logic.{_↔_}
 use Prim.Native.Nat.{ℕ, _<_}
 use lib.IntN.{ℤ}
 use lib.ListN.{length}
-use Rattle.rounding.specs.Rounding.{HalfUp}
+use Rattle.rounding.specs.Rounding.{HalfEven}
 use Rattle.commitment.specs.declared.Cause.{Cause}
 use Rattle.commitment.specs.Causes.{numberOf}
 use Rattle.curves.specs.declared.CurveInputs.{CurveInputs}
@@ -63,12 +63,12 @@ module _ (k : CurveInputs) (levels rates froms tos : List ℕ) (prices : List �
     answers.list-filled k levels rates _ e priceOf prices,
   )
 
--- ---- a segment's own price is rounded once, a half going up, below zero too, and so within half a cent of its fraction
+-- ---- a segment's own price is rounded once: within half a cent of its fraction, below zero too, and even where it is half a cent from it
 
-pub own-half-up :
+pub own-half-even :
     (k : CurveInputs) (level rate level′ rate′ : ℕ) → level < level′ →
-    HalfUp (ownPrice k level rate level′ rate′) (priceFraction k level rate level′ rate′)
-own-half-up = curve.own-half-up
+    HalfEven (ownPrice k level rate level′ rate′) (priceFraction k level rate level′ rate′)
+own-half-even = curve.own-half-even
 
 -- ---- the final curve rises strictly and covers the same levels
 

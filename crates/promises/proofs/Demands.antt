@@ -16,8 +16,9 @@ use Rattle.commitment.specs.declared.Limitation.{Limitation}
 use Rattle.commitment.specs.declared.Outcome.the-variants.{Never}
 use Rattle.commitment.specs.declared.Outcomes.{Outcomes}
 use Rattle.commitment.specs.declared.UnitRecord.{UnitRecord}
-use Rattle.rounding.specs.Fractions.{signed}
-use Rattle.rounding.specs.Rounding.{HalfUp}
+use Rattle.rounding.specs.Fractions.{SignedFraction, signed}
+use Rattle.rounding.specs.Rounding.{HalfEven, HalfWay, evenOf}
+use Rattle.rounding.proofs.Neighbours as neighbours
 use Rattle.commitment.specs.Causes.{numberOf}
 use Rattle.commitment.specs.Figures.{pminMw}
 use Rattle.commitment.specs.Order.{earlier}
@@ -255,16 +256,25 @@ pub passed-exactly : (u : UnitRecord) (prices : List ℤ) (s : List ℕ) (p : �
     ↔ ((caseChecked u (pricesKept prices) (length prices) ≡ Passed) × Rival u prices s × (profit u prices s ≡ p))
 passed-exactly = passed.passed-exactly
 
--- The cost figures are formulas (1) to (3), rounded once, a half going up.
+-- The cost figures are formulas (1) to (3), rounded once: none is further than half a cent from its fraction, and where it is half a cent from it, it is
+-- even.
 
 pub rounded-once : (k : CostInputs) (mws heats : List ℕ) (figures : CostFigures) → costed k mws heats ≡ costing.Figures figures
     → RoundedOnce k mws heats figures
 rounded-once = rounding.rounded-once
 
+-- One whole number alone is so: of the two that a half stands between, the even one, of figures as of prices.
+
+pub rounded-to-one : (f : SignedFraction) (x y : ℤ) → HalfEven x f → HalfEven y f → x ≡ y
+rounded-to-one = neighbours.alone
+
+pub half-to-even : (f : SignedFraction) (below : ℤ) → HalfWay below f → (whole : ℤ) → HalfEven whole f → whole ≡ evenOf below
+half-to-even = neighbours.half-way
+
 -- The allowances of (3) are multiplied by Pmin MW; a unit of 1 MW has the mlc of the formula as printed.
 
 pub one-mw-as-printed : (k : CostInputs) → pminMw k ≡ 1 → (mws heats : List ℕ) (figures : CostFigures) → costed k mws heats ≡ costing.Figures figures
-    → HalfUp (pos (figures .mlc)) (signed (mlcPrinted k))
+    → HalfEven (pos (figures .mlc)) (signed (mlcPrinted k))
 one-mw-as-printed = appendix.one-mw-as-printed
 
 -- ---- Demand 3. No rival earns more than the plan, and none that earns as much is earlier. The plan is the first n entries

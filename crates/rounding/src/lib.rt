@@ -6,6 +6,7 @@ ghost use lib.IntN.{pos};
 ghost use lib.Signed.{quotZ, remZ};
 ghost use Rattle.rounding.specs.Fractions.{_over_, _overℤ_};
 ghost use Rattle.rounding.specs.Rounding as roundings;
+ghost use Rattle.rounding.specs.Rounding.{goesUp, floorOf, restOf, roundedℤ};
 ghost use Rattle.rounding.specs.Sizes.{Sizes};
 
 // The nearest whole number. Any numerator will do, since no number is doubled.
@@ -15,7 +16,7 @@ pub fn rounded(num: u64, den: u64) -> u64
 {
     let quotient = num / den;
     let rest = num % den;
-    if goes_up(rest, den) {
+    if goes_up(quotient, rest, den) {
         return quotient + 1;
     }
     quotient
@@ -24,11 +25,11 @@ pub fn rounded(num: u64, den: u64) -> u64
 // The nearest whole number, below zero too.
 pub fn rounded_signed(num: i64, den: u64) -> i64
     requires { ⌜ Sizes num den ⌝ }
-    ensures { λ r. ⌜ r ≡ roundings.roundedℤ (num overℤ den) ⌝ }
+    ensures { λ r. ⌜ r ≡ roundedℤ (num overℤ den) ⌝ }
 {
     let quotient = floor_of(num, den);
     let rest = rest_of(num, den);
-    if goes_up(rest, den) {
+    if goes_up(integers::magnitude(quotient), rest, den) {
         return quotient + 1;
     }
     quotient
@@ -37,7 +38,7 @@ pub fn rounded_signed(num: i64, den: u64) -> i64
 // The quotient rounded down; the language's own goes toward zero.
 fn floor_of(num: i64, den: u64) -> i64
     requires { ⌜ Sizes num den ⌝ }
-    ensures { λ r. ⌜ r ≡ roundings.floorOf num den ⌝ }
+    ensures { λ r. ⌜ r ≡ floorOf num den ⌝ }
 {
     let quotient = toward_zero(num, den);
     if left_over(num, den) < 0 {
@@ -49,7 +50,7 @@ fn floor_of(num: i64, den: u64) -> i64
 // What is left over the quotient rounded down.
 fn rest_of(num: i64, den: u64) -> u64
     requires { ⌜ Sizes num den ⌝ }
-    ensures { λ r. ⌜ r ≡ roundings.restOf num den ⌝ }
+    ensures { λ r. ⌜ r ≡ restOf num den ⌝ }
 {
     let rest = left_over(num, den);
     if rest < 0 {
@@ -73,10 +74,11 @@ fn left_over(num: i64, den: u64) -> i64
     num % integers::signed(den)
 }
 
-// Whether the rest of a division takes its quotient to the next whole number.
-fn goes_up(rest: u64, den: u64) -> bool
+// Whether the rest of a division takes its quotient, which is so large, to the next whole number.
+fn goes_up(quotient: u64, rest: u64, den: u64) -> bool
     requires { ⌜ rest < den ⌝ }
-    ensures { λ r. ⌜ r ≡ roundings.goesUp rest den ⌝ }
+    ensures { λ r. ⌜ r ≡ goesUp quotient rest den ⌝ }
 {
-    den - rest <= rest
+    let missing = den - rest;
+    (missing < rest) | ((missing == rest) & (quotient % 2 != 0))
 }

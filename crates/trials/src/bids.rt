@@ -1,8 +1,8 @@
 // Bid curves: the first two segments of the sources' heat rate example, whose prices are found by counting cents up, too; a price that is rounded,
-// segments that merge, and each cause for which there is no curve.
+// segments that merge, halves above and below zero, and each cause for which there is no curve.
 
+use crate::printing::cells;
 use crate::printing::line;
-use crate::printing::row;
 use crate::printing::text;
 use curves::CurveInputs;
 use curves::Curved;
@@ -29,8 +29,17 @@ pub fn try_bids() {
         &[1, 2, 3, 4],
         &[10000, 10000, 8000, 7500],
     );
+    try_halves(at_gas(500));
     try_refusals(inputs, &levels, &rates);
     text(b"\n");
+}
+
+// 1.5 and 2.5, which are one segment then, and 3.5; the same below zero.
+fn try_halves(inputs: CurveInputs) {
+    try_points(b"halves", inputs, &[1, 2, 3, 4], &[1, 2, 3, 4]);
+    try_points(b"half below zero", inputs, &[1, 2], &[5, 1]);
+    try_points(b"half below zero", inputs, &[1, 2], &[7, 1]);
+    try_points(b"half below zero", inputs, &[1, 2], &[9, 1]);
 }
 
 // A gas price too high, levels that do not rise, and a rate too few.
@@ -67,32 +76,42 @@ fn print_segment(name: &[u8], i: usize, froms: &[u64], tos: &[u64], prices: &[i6
         if i < tos.len() {
             if i < prices.len() {
                 text(name);
-                row(&[froms[i], tos[i], cents(prices[i])]);
+                cells(&[froms[i], tos[i]]);
+                print_price(prices[i]);
             }
         }
     }
 }
 
-// The prices tried are not below zero.
-fn cents(price: i64) -> u64 {
+// With its sign, and a line end.
+fn print_price(price: i64) {
+    let size = integers::magnitude(price);
     if price < 0 {
-        return 0;
+        line(b",-", size);
+    } else {
+        line(b",", size);
     }
-    price as u64
 }
 
-// The price of heat over so many MW at the bid of the example, a half going up: how often twice a cent goes into twice the price and half a cent.
+// The price of heat over so many MW at the bid of the example. Cents are counted up by two, so that the count is even, and what is left is nearest to
+// none, one or two: half a cent goes to none, one and a half to two.
 fn counted_up(heat: u64, mw: u64) -> u64
     requires { ⌜ (heat ≤ 25000000) × ((1 ≤ mw) × (mw ≤ 500)) ⌝ }
 {
     let cent = mw * 1000;
-    let mut left = 2 * (heat * 550 + (280 + 50 + 2500) * cent) + cent;
+    let mut left = heat * 550 + (280 + 50 + 2500) * cent;
     let mut cents = 0;
     while 2 * cent <= left {
         left -= 2 * cent;
-        cents += 1;
+        cents += 2;
     }
-    cents
+    if 2 * left <= cent {
+        return cents;
+    }
+    if 2 * left < 3 * cent {
+        return cents + 1;
+    }
+    cents + 2
 }
 
 // The bid of the example: gas, om, gmc and the adder.

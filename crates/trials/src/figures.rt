@@ -1,4 +1,4 @@
-// The cost figures: C10 to C12, a unit of 1 MW, the tops of all ranges, and each cause for which there are no figures.
+// The cost figures: C10 to C12, a unit of 1 MW, figures at a half, the tops of all ranges, and each cause for which there are no figures.
 
 use crate::printing::line;
 use crate::printing::row;
@@ -11,6 +11,7 @@ pub fn try_figures() {
     let mws = [80];
     let heats = [9790];
     try_gas_unit(&mws, &heats);
+    try_halves();
     try_refusals(&mws, &heats);
     text(b"\n");
 }
@@ -22,6 +23,13 @@ fn try_gas_unit(mws: &[u64], heats: &[u64]) {
     try_inputs(b"c12", with_start(unit), mws, heats);
     try_inputs(b"c11 at 1 mw", of_one_mw(with_allowances(unit)), mws, heats);
     try_inputs(b"tops", tops(), &[], &[]);
+}
+
+// A start of 10.5, minimum load of 52.5 and 53.5; then 11.5 and 52.5.
+fn try_halves() {
+    try_inputs(b"halves", at_halves(63, 21), &[], &[]);
+    try_inputs(b"halves", at_halves(65, 21), &[], &[]);
+    try_inputs(b"halves", at_halves(59, 23), &[], &[]);
 }
 
 // A heat rate too high, pmin over pmax, 80 MW of segments for 90, and more heat rates than segments.
@@ -85,6 +93,18 @@ fn of_one_mw(unit: CostInputs) -> CostInputs {
     inputs.block = 1;
     inputs.pmin = 1;
     inputs.pmax = 81;
+    inputs
+}
+
+// 1 MW: a start costs half the grid charge, minimum load the charge and half the gas price.
+fn at_halves(gas: u64, gmc: u64) -> CostInputs {
+    let mut inputs = of_one_mw(gas_unit());
+    inputs.pmax = 1;
+    inputs.gas = gas;
+    inputs.om = 0;
+    inputs.gmc = gmc;
+    inputs.min_heat = 500;
+    inputs.minutes = 60;
     inputs
 }
 

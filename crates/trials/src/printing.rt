@@ -15,11 +15,16 @@ pub fn text(words: &[u8]) {
 
 // Each number after a comma, and a line end.
 pub fn row(numbers: &[u64]) {
+    cells(numbers);
+    text(b"\n");
+}
+
+// Each number after a comma.
+pub fn cells(numbers: &[u64]) {
     let mut i = 0;
     while i < numbers.len() {
         text(b",");
         io::print_decimal(STDOUT_FILENO, numbers[i]);
         i += 1;
     }
-    text(b"\n");
 }

@@ -70,11 +70,18 @@ impl Fraction {
         self.over < 0
     }
 
-    /// The nearest whole number, the greater of two that are as near.
+    pub fn is_below(self, whole: i64) -> bool {
+        self.over < i128::from(whole) * self.under
+    }
+
+    /// The nearest whole number, the even one of two that are as near.
     pub fn rounded(self) -> i64 {
         let below = self.floor();
-        let rest_twice = 2 * (self.over - below * self.under);
-        let nearest = below + i128::from(rest_twice >= self.under);
+        let distance = |whole: i128| (whole * self.under - self.over).abs();
+        let nearest = [below, below + 1]
+            .into_iter()
+            .min_by_key(|whole| (distance(*whole), whole.rem_euclid(2)))
+            .expect("two of them");
         nearest.try_into().expect("prices are small")
     }
 }

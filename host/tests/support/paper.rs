@@ -3,6 +3,7 @@
 
 use super::calendar;
 use ralwinga::{Cells, CostFigures, CostInputs, Outcome, Outcomes, Report, Unit, Window};
+use std::cmp::Ordering;
 
 type Refused = u64;
 
@@ -307,12 +308,28 @@ fn layer(u: &Unit, n: u64) -> usize {
     ((u.mot + u.mdt) * (a + 1) * (b + 1) * (c + 1)) as usize
 }
 
-/// A fraction rounded to a whole number, a half going up.
-fn rounded(numerator: i128, denominator: i128) -> u64 {
-    ((2 * numerator + denominator).div_euclid(2 * denominator)) as u64
+/// What is over the line and what is under it.
+pub type Ratio = (i128, i128);
+
+/// A fraction rounded to a whole number, a half to the even neighbour.
+fn rounded((over, under): Ratio) -> u64 {
+    let (below, rest) = (over.div_euclid(under), over.rem_euclid(under));
+    let up = match (2 * rest).cmp(&under) {
+        Ordering::Less => 0,
+        Ordering::Equal => below % 2,
+        Ordering::Greater => 1,
+    };
+    (below + up) as u64
 }
 
+/// vec, suc and mlc.
 pub fn figures(k: &CostInputs, mws: &[u64], heats: &[u64]) -> Result<CostFigures, Refused> {
+    judge_inputs(k, mws, heats)?;
+    let [vec, suc, mlc] = cost_fractions(k, mws, heats).map(rounded);
+    Ok(CostFigures { vec, suc, mlc })
+}
+
+fn judge_inputs(k: &CostInputs, mws: &[u64], heats: &[u64]) -> Result<(), Refused> {
     let prices = [k.gas, k.transport, k.allowance, k.om, k.gmc];
     let ranges = [k.block, k.pmin, k.pmax]
         .iter()
@@ -342,6 +359,11 @@ pub fn figures(k: &CostInputs, mws: &[u64], heats: &[u64]) -> Result<CostFigures
     if mws.len() != heats.len() {
         return Err(7);
     }
+    Ok(())
+}
+
+/// vec, suc and mlc before they are rounded.
+pub fn cost_fractions(k: &CostInputs, mws: &[u64], heats: &[u64]) -> [Ratio; 3] {
     let int = |x: u64| i128::from(x);
     let (gas, transport, om, gmc) = (int(k.gas), int(k.transport), int(k.om), int(k.gmc));
     let (allowance, rate) = (int(k.allowance), int(k.rate));
@@ -353,9 +375,9 @@ pub fn figures(k: &CostInputs, mws: &[u64], heats: &[u64]) -> Result<CostFigures
         .zip(heats)
         .map(|(mw, heat)| int(*mw) * int(*heat))
         .sum();
-    let vec = match int(total) {
-        0 => 0,
-        total => rounded(
+    let vec = match int(mws.iter().sum()) {
+        0 => (0, 1),
+        total => (
             weighted * ((gas + transport) * scale + allowance * rate) + om * 1000 * scale * total,
             1000 * scale * total,
         ),
@@ -363,17 +385,17 @@ pub fn figures(k: &CostInputs, mws: &[u64], heats: &[u64]) -> Result<CostFigures
     // (2), over 120 x 10^7
     let (fuel, aux, minutes) = (int(k.fuel), int(k.aux), int(k.minutes));
     let whole = fuel * (gas + transport) + aux * 10 * gas + int(k.start_adder);
-    let suc = rounded(
+    let suc = (
         whole * 120 * scale + fuel * allowance * rate * 120 + pmin_mw * minutes * gmc * scale,
         120 * scale,
     );
     // (3), over 1000 x 10^7
     let heat = int(k.min_heat);
-    let mlc = rounded(
+    let mlc = (
         heat * pmin_mw * (gas + transport) * scale
             + allowance * rate * heat * pmin_mw
             + (om * pmin_mw + int(k.load_adder) + gmc * pmin_mw) * 1000 * scale,
         1000 * scale,
     );
-    Ok(CostFigures { vec, suc, mlc })
+    [vec, suc, mlc]
 }

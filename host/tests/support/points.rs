@@ -10,7 +10,7 @@ pub struct Points {
     pub rates: Vec<u64>,
 }
 
-/// The worked example: two segments of 8215 and 8252 cents.
+/// The worked example: two segments of 8214 and 8252 cents.
 pub const WORKED: &str = "gas,om,gmc,adder\n\
                           550,280,50,2500\n\
                           \n\

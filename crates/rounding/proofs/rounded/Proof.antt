@@ -1,11 +1,11 @@
 -- By quotient and rest. The quotient has room for one more, since where the rest takes it up the divisor is more than 1.
 use mathlib.Core.Path.{sym, _∙_}
-use Prim.Native.Nat.{_*_, _/_, _%_}
+use Prim.Native.Nat.{_/_, _%_}
 use native.Mathlib.Nat.{mod-lt, div-add-mod', le-mul-of-pos-right}
 use native.Mathlib.Omega.{arith}
 use borrow.Author.Needs.{needs}
-use borrow.Author.Tests.{leb-true}
 use Rattle.rounding.specs.Rounding.{rounded}
+use Rattle.rounding.proofs.Rounding.{goes}
 use Rattle.rounding.proofs.rounded.Statement.{statement}
 use Rattle.rounding.proofs.rounded.Tie as tie
 
@@ -21,7 +21,7 @@ add-result c =
       div-add-mod' (a .num) (a .den),
       mod-lt (a .num) (o .pre),
       le-mul-of-pos-right (a .num / a .den) (o .pre),
-      leb-true (a .den) (2 * (a .num % a .den)) (sym (c .before .goes-up .ensures) ∙ c .if1 .taken),
+      goes (a .num / a .den) (a .num % a .den) (a .den) (sym (c .before .goes-up .ensures) ∙ c .if1 .taken) .0,
     )
 
 returns : tie.Need-returns

@@ -1,4 +1,4 @@
--- What is left falls by two at least for each cent that is counted.
+-- What is left falls by more than is counted.
 use Prim.Native.Nat.{_+_, _≤_, _*_}
 use mathlib.Core.Path.{_≡_, refl}
 use native.Mathlib.Omega.{arith}
@@ -24,8 +24,6 @@ counted-up-spec =
     (λ c. omega arith)
     (λ c. omega arith)
     (λ c. omega arith)
-    (λ c. omega arith)
-    (λ c. omega arith)
     (λ c. (refl, omega arith))
     (λ c. omega arith)
     (λ c. omega arith)
@@ -33,4 +31,11 @@ counted-up-spec =
     (λ c. omega arith)
     (λ c. omega arith)
     (λ c. (c .before .loop .inv .0, omega arith))
+    (λ c. omega arith)
+    (λ c. search needs)
+    (λ c. omega arith)
+    (λ c. omega arith)
+    (λ c. omega arith)
+    (λ c. search needs)
+    (λ c. omega arith)
     (λ c. search needs))

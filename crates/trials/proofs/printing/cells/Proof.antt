@@ -3,17 +3,17 @@ use borrow.Author.Needs.{needs}
 use native.Mathlib.Omega.{arith}
 use Prim.Native.Nat.{_≤_, _-_}
 use lib.ListN.{length}
-use Rattle.trials.proofs.printing.row.Statement.{statement}
-use Rattle.trials.proofs.printing.row.Tie as tie
+use Rattle.trials.proofs.printing.cells.Statement.{statement}
+use Rattle.trials.proofs.printing.cells.Tie as tie
 
 abbrev Inv-loop : tie.InvT-loop
-Inv-loop numbers i₀ t3 t4 i = i ≤ length numbers
+Inv-loop numbers i₀ t3 i = i ≤ length numbers
 
 abbrev μ-loop : tie.MeasureT-loop
-μ-loop numbers i₀ t3 t4 i = length numbers - i
+μ-loop numbers i₀ t3 i = length numbers - i
 
-pub row-spec : {M : Type 1} → statement M
-row-spec =
+pub cells-spec : {M : Type 1} → statement M
+cells-spec =
     tie.close
     (tie.spec
     Inv-loop
@@ -27,6 +27,4 @@ row-spec =
     (λ c. omega arith)
     (λ c. omega arith)
     (λ c. omega arith)
-    (λ c. omega arith)
-    (λ c κs. search needs)
     (λ c. search needs))

@@ -5,11 +5,11 @@ use Prim.Native.Nat.{_-_}
 use lib.IntN.{pos, natAbs}
 use mir.Syntax.{w64}
 use mir.Val.{toZ, ofZ, SFits}
 use Rattle.integers.proofs.Ranges.{plain-fits}
 use borrow.Author.Needs.{needs}
-use Rattle.listing.proofs.Signed.{Below, below, not-below, magnitude-fits}
-use Rattle.listing.proofs.magnitude.Statement.{statement}
-use Rattle.listing.proofs.magnitude.Tie as tie
+use Rattle.integers.proofs.BelowZero.{Below, below, not-below, magnitude-fits}
+use Rattle.integers.proofs.magnitude.Statement.{statement}
+use Rattle.integers.proofs.magnitude.Tie as tie
 
 value-plain : (c : tie.Start) → toZ w64 (ofZ w64 (c .args .value)) ≡ c .args .value
 value-plain c = plain-fits (c .fits .value)
