@@ -317,7 +317,7 @@ fn random_curves() {
     let counts = [kinds.below_zero, kinds.merged, kinds.raised_twice];
     let halves = kinds.halves.iter().chain(&kinds.halves_below_zero);
     assert!(
-        counts.iter().chain(halves).all(|times| *times > 1000),
+        counts.iter().chain(halves).all(|times| *times > 500),
         "{kinds:?}"
     );
 }

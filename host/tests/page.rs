@@ -225,7 +225,7 @@ fn a_bid_curve_by_itself() {
     assert_eq!(browser.text("document.documentElement.nodeName"), "svg");
     let told =
         "[...document.querySelectorAll('.segment title')].map(t => t.textContent).join(', ')";
-    let segments = "70 to 150 MW: $82.15 per MWh, 150 to 300 MW: $82.52 per MWh";
+    let segments = "70 to 150 MW: $82.14 per MWh, 150 to 300 MW: $82.52 per MWh";
     assert_eq!(browser.text(told), segments);
     let corners = browser.text("document.querySelector('polyline').points.numberOfItems");
     assert_eq!(corners, "4");
