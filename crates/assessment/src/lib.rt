@@ -47,8 +47,8 @@ pub enum Walked {
 pub fn assess(unit: UnitRecord, prices: &[i64], schedule: &[u64]) -> Assessed
     ensures { λ r. ⌜ r ≡ assessed unit (now (prices .entry)) (now (schedule .entry)) ⌝ }
 {
-    let priced = commitment::prices_kept(prices);
-    match commitment::check_case(unit, priced, prices.len()) {
+    let priced = checking::prices_kept(prices);
+    match checking::check_case(unit, priced, prices.len()) {
         Checked::Refused(cause) => Assessed::Refused(cause),
         Checked::Passed => of_case(unit, prices, schedule),
     }

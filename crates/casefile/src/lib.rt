@@ -81,7 +81,7 @@ fn check_values(text: &[u8], room: usize) -> Checked
     let unit = fields::unit_in(text);
     let priced = pricing::prices_kept(text);
     let count = pricing::prices_counted(text);
-    match commitment::check_case(unit, priced, count) {
+    match checking::check_case(unit, priced, count) {
         Checked::Refused(cause) => Checked::Refused(cause),
         Checked::Passed => check_room(count, room),
     }

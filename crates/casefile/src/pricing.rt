@@ -72,7 +72,7 @@ fn store_rows(head: &[u8], rows: &[u8], prices: &mut [i64])
 fn row_kept(head: &[u8], row: &[u8]) -> bool
     ensures { λ r. ⌜ r ≡ priceKept (priceOf (now (head .entry)) (now (row .entry))) ⌝ }
 {
-    commitment::price_kept(price_of(head, row))
+    checking::price_kept(price_of(head, row))
 }
 
 // The value under the name, of one line.

@@ -1,10 +1,9 @@
-// The hours of a permit over a horizon, asked interval by interval; and the clock hour of an interval.
+// The hours of a permit over a horizon, asked interval by interval.
 
 use crate::Cause;
 use crate::Permit;
 use crate::Window;
 use calendar::Clock;
-use calendar::Date;
 ghost use mathlib.Core.Path.{_≡_};
 ghost use Prim.Native.Nat.{_/_, _≤_, _<_};
 ghost use mathlib.Core.Bool.{true};
@@ -14,7 +13,7 @@ ghost use Rattle.calendar.specs.Words.{allows};
 ghost use Rattle.commitment.specs.Bounds.{mostIntervals};
 ghost use Rattle.commitment.specs.declared.Permit.the-variants.{Within};
 ghost use Rattle.commitment.specs.Ranges.{windowKept, permitKept, dateKept};
-ghost use Rattle.commitment.specs.Windows.{opens, Clocked, HoursOf, clockHour, clockNumber, hourIn};
+ghost use Rattle.commitment.specs.Windows.{opens, Clocked, HoursOf};
 
 // A word of permitted hours, and the clock from its date's midnight on.
 pub struct Allowed {
@@ -74,38 +73,4 @@ fn allowed_in(allowed: Allowed, interval: usize) -> bool
     let clock = allowed.clock;
     let hour = calendar::hour_after(clock, (interval / 4) as u64);
     calendar::allows(allowed.word, hour)
-}
-
-// The clock hour of an interval, counted from 1, when interval 1 begins at the midnight of a date; or 3 or 12.
-pub fn clock_hour(date: Date, interval: u64) -> ClockRead
-    ensures { λ r. ⌜ r ≡ clockHour date interval ⌝ }
-{
-    if !(crate::date_ranged(date) & crate::horizon_kept(interval as usize)) {
-        return ClockRead::Refused(Cause::Range);
-    }
-    if !calendar::exists(date) {
-        return ClockRead::Refused(Cause::Date);
-    }
-    let clock = calendar::clock_from(date);
-    ClockRead::Hour(calendar::hour_after(clock, (interval - 1) / 4))
-}
-
-// 0, or the number of the cause.
-pub fn number_of(answer: ClockRead) -> u64
-    ensures { λ r. ⌜ r ≡ clockNumber answer ⌝ }
-{
-    match answer {
-        ClockRead::Hour(_) => 0,
-        ClockRead::Refused(cause) => crate::number_of(cause),
-    }
-}
-
-// The hour, or 0 on a refusal.
-pub fn hour_in(answer: ClockRead) -> u64
-    ensures { λ r. ⌜ r ≡ hourIn answer ⌝ }
-{
-    match answer {
-        ClockRead::Hour(hour) => hour,
-        ClockRead::Refused(_) => 0,
-    }
 }

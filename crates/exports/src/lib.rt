@@ -6,7 +6,6 @@ mod numbers;
 use calendar::Date;
 use commitment::Checked;
 use commitment::CostInputs;
-use commitment::windows;
 use curves::CurveInputs;
 use numbers::AssessNumbers;
 use numbers::CaseNumbers;
@@ -97,7 +96,7 @@ pub extern "C" fn ralwinga_cells(unit: UnitNumbers, intervals: usize) -> CellsNu
         ≡ cellsNumbers (caseChecked (recordOf unit) true intervals) (cellsNeeded (recordOf unit) intervals) (cellsLong (recordOf unit) intervals) ⌝ }
 {
     let record = numbers::record_of(unit);
-    match commitment::check_case(record, true, intervals) {
+    match checking::check_case(record, true, intervals) {
         Checked::Passed => CellsNumbers {
             number: 0,
             needed: budgets::cells_needed(record, intervals),
@@ -164,7 +163,7 @@ pub extern "C" fn ralwinga_clock_hour(
 ) -> ClockNumbers
     ensures { λ r. ⌜ r ≡ clockNumbers (clockHour (date year month day) interval) ⌝ }
 {
-    numbers::of_clock(windows::clock_hour(Date { year, month, day }, interval))
+    numbers::of_clock(checking::clock::clock_hour(Date { year, month, day }, interval))
 }
 
 // The listing of a plan into the front of the buffer, with the hour word of its case, `none` where it has none.

@@ -367,8 +367,8 @@ pub fn of_clock(answer: ClockRead) -> ClockNumbers
     ensures { λ r. ⌜ r ≡ answers.clockNumbers answer ⌝ }
 {
     ClockNumbers {
-        number: commitment::windows::number_of(answer),
-        hour: commitment::windows::hour_in(answer),
+        number: checking::clock::number_of(answer),
+        hour: checking::clock::hour_in(answer),
     }
 }
 

@@ -20,8 +20,8 @@ use Rattle.geometry.specs.Geometry.{section, width, index, cellOf}
 use Rattle.geometry.specs.Layers.{infeasible, Holds, Layer, storedAt}
 use Rattle.geometry.proofs.Holding.{holds-none}
 use Rattle.geometry.proofs.Places.{index-lt, cell-there}
-use Rattle.layers.specs.Stretches.{Apart}
-use Rattle.layers.proofs.Stretches.{putIn, put-inside, put-apart}
+use Rattle.intervals.specs.Stretches.{Apart}
+use Rattle.intervals.proofs.Stretches.{putIn, put-inside, put-apart}
 use Rattle.marks.specs.Standing.{endsIn}
 
 -- whether a cell is that of the state with nothing left

@@ -6,7 +6,7 @@
 
 use commitment::windows::Hours;
 use geometry::INFEASIBLE;
-use layers::rows;
+use intervals::rows;
 use marks::passes;
 use optimality::Cell;
 use optimality::Figures;
@@ -23,7 +23,7 @@ ghost use Rattle.optimality.specs.Cells.{Sound, InTable, planAt, valueAt};
 ghost use Rattle.geometry.specs.Geometry.{width};
 ghost use Rattle.geometry.specs.Layers.{Layer, storedAt};
 ghost use Rattle.layers.specs.Filling.{quartersIn, Beyond};
-ghost use Rattle.layers.specs.Stretches.{Apart};
+ghost use Rattle.intervals.specs.Stretches.{Apart};
 ghost use Rattle.marks.specs.Standing as standing;
 ghost use Rattle.halving.specs.Tasks.{endsBy, Reachable, Untouched, Task, Leaf, PassAsked, Halved, Halves, MarkKept, MarkedWith, Solved};
 ghost use Rattle.halving.specs.Tasks.{CaseAsked, FirstPass};

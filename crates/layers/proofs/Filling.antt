@@ -21,12 +21,12 @@ use Rattle.optimality.proofs.Turns.{value-end}
 use Rattle.optimality.proofs.Quarters.{noQuarter}
 use Rattle.geometry.specs.Geometry.{width, index}
 use Rattle.geometry.specs.Layers.{Holds, Layer, storedAt, Filled}
-use Rattle.layers.specs.Stretches.{Small, LayerMade}
-use Rattle.layers.specs.Turns.{quarterStored}
+use Rattle.intervals.specs.Stretches.{Small, LayerMade}
+use Rattle.intervals.specs.Turns.{quarterStored}
 use Rattle.geometry.proofs.Places.{index-lt, numbered}
-use Rattle.layers.proofs.Stretches.{putIn, put-inside, same-from}
+use Rattle.intervals.proofs.Stretches.{putIn, put-inside, same-from}
 use Rattle.geometry.proofs.Holding.{holds-small}
-use Rattle.layers.proofs.Turning.{cell-holds}
+use Rattle.intervals.proofs.Turning.{cell-holds}
 
 -- every price is in its range
 abbrev pub PricedOver : List Quarter → Type 0

@@ -16,8 +16,8 @@ use Rattle.optimality.specs.declared.Cell.{Cell}
 use Rattle.optimality.specs.Machine.{Quarter}
 use Rattle.geometry.specs.Geometry.{width, index}
 use Rattle.geometry.specs.Layers.{storedAt}
-use Rattle.layers.specs.Stretches.{Behind, FrontMade, LayerMade}
-use Rattle.layers.specs.Turns.{quarterStored}
+use Rattle.intervals.specs.Stretches.{Behind, FrontMade, LayerMade}
+use Rattle.intervals.specs.Turns.{quarterStored}
 
 module _ (s part : List ℤ) (at : ℕ) (fits : at ≤ length s) where
   pub behind-part : (w : ℕ) → Behind s at (at + w) w → Behind (drop at s) 0 w w

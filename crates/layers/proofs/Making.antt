@@ -16,14 +16,14 @@ use Rattle.optimality.specs.Machine.{Quarter, quarter}
 use Rattle.optimality.specs.Cells.{cell, states, afterOff, afterOn, startTakes, startPays, onCell, rungs}
 use Rattle.geometry.specs.Geometry.{row, span, section, width, index}
 use Rattle.geometry.specs.Layers.{infeasible, storedAt, inFront}
-use Rattle.layers.specs.Turns.{offStored, roomFor, onStored, cellStored, quarterStored}
-use Rattle.layers.specs.Stretches.{Copied, bestOver, SectionRaised, OffMade, StateMade, QuarterMade, FrontMade}
-use Rattle.layers.specs.Ladders.{brings, ladderOf}
-use Rattle.layers.proofs.Ladders.{ladder-brings}
+use Rattle.intervals.specs.Turns.{offStored, roomFor, onStored, cellStored, quarterStored}
+use Rattle.intervals.specs.Stretches.{Copied, bestOver, SectionRaised, OffMade, StateMade, QuarterMade, FrontMade}
+use Rattle.intervals.specs.Ladders.{brings, ladderOf}
+use Rattle.intervals.proofs.Ladders.{ladder-brings}
 use Rattle.geometry.proofs.Places.{in-section, sections-all, section-fits}
-use Rattle.layers.proofs.Raising.{raised-same}
-use Rattle.layers.proofs.Stretches.{putIn, put-inside, put-apart}
-use Rattle.layers.proofs.Segments.{Done, done-first, done-next, done-apart}
+use Rattle.intervals.proofs.Raising.{raised-same}
+use Rattle.intervals.proofs.Stretches.{putIn, put-inside, put-apart}
+use Rattle.intervals.proofs.Segments.{Done, done-first, done-next, done-apart}
 
 -- a cell's place in its section, and so in the layer
 abbrev placeIn : Figures → ℕ → ℕ → ℕ → ℕ

@@ -1,5 +1,2 @@
--- Turns: one interval from a cell. Ladders: its outputs. Stretches: what a pass over a stretch makes of it. Filling: the last layer, and the layers before it.
-pub mod Turns
-pub mod Ladders
-pub mod Stretches
+-- Filling: the last layer, and the layers before it.
 pub mod Filling

@@ -3,14 +3,13 @@
 // runs of valuing. Layers are filled from the last to the first, stretch by stretch over cells that stand side by side, with no division and no
 // test in the innermost loop: a cell without a schedule holds a number so low that no profit reaches it. Where MWh is not limited a cell
 // costs one sum and one maximum; where it is, a few more, since the best output is carried along the row: the number of outputs costs nothing.
-// Here: the fill, layer by layer. mod states: a layer, state by state; mod rows: passes over stretches and rows; mod steps: one interval.
+// Here: the fill, layer by layer. mod states: a layer, state by state; the passes over rows are those of `intervals`.
 
-pub mod rows;
 pub mod states;
-pub mod steps;
 
 use commitment::windows;
 use commitment::windows::Hours;
+use intervals::rows;
 use optimality::Figures;
 ghost use mathlib.Core.Path.{_≡_};
 ghost use mathlib.Core.List.{_++_};
@@ -18,9 +17,9 @@ ghost use Prim.Native.Nat.{_+_, _*_, _≤_};
 ghost use lib.IntN.{pos};
 ghost use lib.ListN.{length, drop, replicate};
 ghost use Rattle.optimality.specs.Machine.{anywhere, quarter};
-ghost use Rattle.layers.specs.Turns.{Interval};
+ghost use Rattle.intervals.specs.Turns.{Interval};
 ghost use Rattle.layers.specs.Filling.{Ended, FilledBy, quartersIn, quartersOn, Beyond};
-ghost use Rattle.layers.specs.Stretches.{Behind, LayerMade};
+ghost use Rattle.intervals.specs.Stretches.{Behind, LayerMade};
 ghost use Rattle.geometry.specs.Geometry.{width};
 ghost use Rattle.geometry.specs.Layers.{Filled, Room};
 ghost use Rattle.commitment.specs.Bounds.{mostIntervals};

@@ -1,8 +1,8 @@
 // One layer from the one behind it, state by state: off for all its cells at once, then on where the unit may run.
 
-use crate::rows;
-use crate::rows::Ladder;
-use crate::steps;
+use intervals::rows;
+use intervals::rows::Ladder;
+use intervals::steps;
 use optimality::Figures;
 ghost use mathlib.Core.Path.{_≡_};
 ghost use Prim.Native.Nat.{_+_, _≤_};
@@ -12,9 +12,9 @@ ghost use Rattle.commitment.specs.Bounds.{mostPrice};
 ghost use Rattle.optimality.specs.Machine.{quarter};
 ghost use Rattle.optimality.specs.Cells.{Sound};
 ghost use Rattle.geometry.specs.Geometry.{span, section, width};
-ghost use Rattle.layers.specs.Turns.{Interval};
-ghost use Rattle.layers.specs.Ladders.{Steady, betterEnd};
-ghost use Rattle.layers.specs.Stretches.{Behind, SpanRaised, SectionRaised, OfState, OffMade, StateMade, QuarterMade, FrontMade};
+ghost use Rattle.intervals.specs.Turns.{Interval};
+ghost use Rattle.intervals.specs.Ladders.{Steady, betterEnd};
+ghost use Rattle.intervals.specs.Stretches.{Behind, SpanRaised, SectionRaised, OfState, OffMade, StateMade, QuarterMade, FrontMade};
 
 // Where MWh is not limited, all rows in one pass with the better end: what an output brings is linear in the blocks.
 fn raise_span(scratch: &mut [i64], to: usize, from: usize, f: Figures, l: Ladder, end: i64)

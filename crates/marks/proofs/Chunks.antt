@@ -13,9 +13,9 @@ use lib.ListN.{length, getD}
 use lib.Signed.{ltZ}
 use Rattle.integers.proofs.Order.{ltZ-true, ltZ-false}
 use Rattle.integers.proofs.Ranges.{abs-within}
-use Rattle.layers.specs.declared.rows.Ladder.{Ladder}
-use Rattle.layers.specs.Ladders.{brings, outputs}
-use Rattle.layers.proofs.Ladders.{brings-next, brings-within, fall-within}
+use Rattle.intervals.specs.declared.rows.Ladder.{Ladder}
+use Rattle.intervals.specs.Ladders.{brings, outputs}
+use Rattle.intervals.proofs.Ladders.{brings-next, brings-within, fall-within}
 use Rattle.marks.specs.Pairs.{Joined}
 use Rattle.marks.specs.Picking.{Picked}
 use Rattle.marks.specs.Images.{stepped, upWorth, upMark, UpPicked, downWorth, downMark, DownPicked, Allowed, worth, markBy, PickedAt}

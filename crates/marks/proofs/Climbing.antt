@@ -13,7 +13,7 @@ use Rattle.integers.proofs.Linear.{zarith, zsum}
 use Rattle.integers.proofs.Order.{ltZ-dec, leZ-true, le-leZ}
 use Rattle.integers.proofs.Ranges.{Within, within-abs, within-weaken, within-sum, within-diff}
 use Rattle.geometry.specs.Layers.{swing}
-use Rattle.layers.specs.Ladders.{mostBrought}
+use Rattle.intervals.specs.Ladders.{mostBrought}
 use Rattle.marks.specs.Picking.{Picked}
 use Rattle.marks.specs.Images.{stepped, upWorth, upMark, UpPicked, Sources}
 use Rattle.marks.proofs.Picking.{alone, picked-of, picked-left, picked-right, picked-moved}

@@ -16,7 +16,7 @@ use Rattle.optimality.specs.Cells.{Sound, InTable, states, startTakes, offCell,
 use Rattle.optimality.proofs.Turns.{off-in-table, on-in-table}
 use Rattle.geometry.specs.Geometry.{row, span, section}
 use Rattle.geometry.proofs.Places.{in-row, in-span, span-fits, row-fits}
-use Rattle.layers.proofs.Turning.{pmax-most}
+use Rattle.intervals.proofs.Turning.{pmax-most}
 use Rattle.marks.specs.Images.{piece}
 use Rattle.marks.specs.Lines.{valueOf, markOf, columnOf, OfPiece, WholeChunks}
 use Rattle.marks.specs.Turning.{Turn, Partly, PieceAsked}

@@ -11,8 +11,8 @@ use Rattle.integers.proofs.Linear.{zarith, zsum}
 use Rattle.integers.proofs.Order.{ltZ-true, ltZ-false}
 use Rattle.integers.proofs.Ranges.{Within, within-abs, within-weaken, within-sum, within-diff}
 use Rattle.geometry.specs.Layers.{swing}
-use Rattle.layers.specs.Ladders.{mostBrought}
-use Rattle.layers.proofs.Stretches.{last-or-before}
+use Rattle.intervals.specs.Ladders.{mostBrought}
+use Rattle.intervals.proofs.Stretches.{last-or-before}
 use Rattle.marks.specs.Picking.{Picked}
 use Rattle.marks.specs.Images.{stepped, fromLast, downWorth, downMark, DownPicked, Sources}
 use Rattle.marks.proofs.Picking.{alone, picked-of, picked-left, picked-right, picked-raised}

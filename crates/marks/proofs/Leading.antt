@@ -22,12 +22,12 @@ use Rattle.optimality.specs.Cells.{Sound, states, afterOn, startTakes, startPay
 use Rattle.geometry.specs.Geometry.{row, span, section, width, index}
 use Rattle.geometry.specs.Layers.{infeasible}
 use Rattle.geometry.proofs.Places.{in-row, in-section, row-fits, span-fits, section-fits, numbered}
-use Rattle.layers.specs.declared.rows.Ladder.{Ladder}
-use Rattle.layers.specs.Ladders.{brings, betterEnd, Steady}
-use Rattle.layers.specs.Turns.{net, onStored}
-use Rattle.layers.proofs.Ladders.{brings-least, brings-next, ladder-brings, ladder-steady, end-small}
-use Rattle.layers.proofs.Turning.{pays-most}
-use Rattle.layers.specs.Stretches.{Small}
+use Rattle.intervals.specs.declared.rows.Ladder.{Ladder}
+use Rattle.intervals.specs.Ladders.{brings, betterEnd, Steady}
+use Rattle.intervals.specs.Turns.{net, onStored}
+use Rattle.intervals.proofs.Ladders.{brings-least, brings-next, ladder-brings, ladder-steady, end-small}
+use Rattle.intervals.proofs.Turning.{pays-most}
+use Rattle.intervals.specs.Stretches.{Small}
 use Rattle.marks.specs.Picking.{Picked}
 use Rattle.marks.specs.Images.{worth, markBy, PickedAt, Piece}
 use Rattle.marks.specs.Lines.{FlatAt, valueOf, markOf, columnOf, OnPicked, OfPiece, lineOf, laddered, FlatLine, OnAsked, WholeChunks}

@@ -15,8 +15,8 @@ use Rattle.optimality.specs.declared.Figures.{Figures}
 use Rattle.optimality.specs.Machine.{Quarter}
 use Rattle.optimality.specs.Cells.{Sound, InTable, mayRun, offCell, onCell, rungs}
 use Rattle.geometry.specs.Layers.{infeasible}
-use Rattle.layers.specs.Turns.{raised, offStored, roomFor, onStored, cellStored, quarterStored}
-use Rattle.layers.proofs.Raising.{raised-above, raised-reach, raised-least}
+use Rattle.intervals.specs.Turns.{raised, offStored, roomFor, onStored, cellStored, quarterStored}
+use Rattle.intervals.proofs.Raising.{raised-above, raised-reach, raised-least}
 use Rattle.table.specs.Reading.{firstOn, chosen, nextCell}
 use Rattle.table.proofs.Choosing.{first-at}
 use Rattle.marks.specs.Picking.{Picked}

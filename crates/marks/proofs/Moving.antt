@@ -16,8 +16,8 @@ use Rattle.optimality.specs.Machine.{Quarter}
 use Rattle.optimality.specs.Cells.{states, afterOff}
 use Rattle.geometry.specs.Geometry.{row, span, section, index}
 use Rattle.geometry.specs.Layers.{infeasible}
-use Rattle.layers.specs.Turns.{offStored}
-use Rattle.layers.specs.Stretches.{Copied, Apart}
+use Rattle.intervals.specs.Turns.{offStored}
+use Rattle.intervals.specs.Stretches.{Copied, Apart}
 use Rattle.marks.specs.Pairs.{Pairs, JoinedFrom}
 use Rattle.marks.specs.Images.{piece, Imaged}
 use Rattle.marks.specs.Lines.{columnOf, OfPiece}

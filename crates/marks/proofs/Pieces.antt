@@ -23,7 +23,7 @@ use Rattle.geometry.specs.Geometry.{row, span, section, width, index}
 use Rattle.geometry.specs.Layers.{infeasible}
 use Rattle.geometry.proofs.Holding.{up-infeasible, dn-infeasible}
 use Rattle.geometry.proofs.Places.{in-section, index-lt}
-use Rattle.layers.specs.Turns.{offStored}
+use Rattle.intervals.specs.Turns.{offStored}
 use Rattle.marks.specs.Pairs.{Pairs, JoinedFrom}
 use Rattle.marks.specs.Images.{piece, Imaged}
 use Rattle.marks.specs.Lines.{valueOf, markOf, columnOf, Runs, OfPiece, OnAsked}

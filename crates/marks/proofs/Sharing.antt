@@ -15,7 +15,7 @@ use Rattle.optimality.specs.Cells.{Sound, cell, states, afterOn, startTakes, st
 use Rattle.optimality.proofs.Turns.{on-in-table}
 use Rattle.geometry.specs.Geometry.{row, span, section, width}
 use Rattle.geometry.specs.Layers.{infeasible}
-use Rattle.layers.specs.Turns.{net, onStored}
+use Rattle.intervals.specs.Turns.{net, onStored}
 use Rattle.marks.specs.Images.{Imaged}
 use Rattle.marks.specs.Lines.{valueOf, markOf, Runs, OfPiece, OnPicked}
 use Rattle.marks.specs.Pairs.{Pairs}

@@ -7,9 +7,9 @@ use lib.IntN.{ℤ, pos, natAbs, _+ℤ_, _*ℤ_}
 use Rattle.integers.proofs.Ranges.{Within, within-abs, within-at, within-weaken, within-sum, within-mul}
 use Rattle.commitment.specs.Bounds.{mostBlocks}
 use Rattle.geometry.specs.Layers.{swing}
-use Rattle.layers.specs.declared.rows.Ladder.{Ladder}
-use Rattle.layers.specs.Ladders.{brings, mostBrought}
-use Rattle.layers.proofs.Ladders.{brings-least, brings-next}
+use Rattle.intervals.specs.declared.rows.Ladder.{Ladder}
+use Rattle.intervals.specs.Ladders.{brings, mostBrought}
+use Rattle.intervals.proofs.Ladders.{brings-least, brings-next}
 use Rattle.marks.specs.Images.{stepped}
 
 module _ (gain rise : ℤ) where

@@ -11,7 +11,7 @@ use lib.IntN.{ℤ, pos}
 use lib.ListN.{length, getD, set, length-set}
 use lib.Signed.{ltZ}
 use lib.Seq.{getD-set-same, getD-set-other}
-use Rattle.layers.proofs.Stretches.{last-or-before}
+use Rattle.intervals.proofs.Stretches.{last-or-before}
 use Rattle.marks.specs.Images.{piece, Aside, DownPicked, Descended, Imaged}
 use Rattle.marks.specs.Pairs.{Pairs, Joined, putPair, joinPair}
 

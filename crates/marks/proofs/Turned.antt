@@ -12,7 +12,7 @@ use Rattle.optimality.specs.declared.Figures.{Figures}
 use Rattle.optimality.specs.Machine.{Quarter}
 use Rattle.optimality.specs.Cells.{states, afterOff, afterOn, startTakes, startPays, mayRun, offCell, onCell}
 use Rattle.geometry.specs.Layers.{infeasible}
-use Rattle.layers.specs.Turns.{net, offStored, onStored}
+use Rattle.intervals.specs.Turns.{net, offStored, onStored}
 use Rattle.marks.specs.Picking.{Picked}
 use Rattle.marks.specs.Lines.{Runs, OnPicked}
 use Rattle.marks.specs.Turning.{Turn}

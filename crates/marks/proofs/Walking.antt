@@ -21,7 +21,7 @@ use Rattle.geometry.specs.Geometry.{section, width, index}
 use Rattle.geometry.specs.Layers.{infeasible, Layer}
 use Rattle.geometry.proofs.Holding.{holds-small}
 use Rattle.geometry.proofs.Places.{in-section, index-lt}
-use Rattle.layers.specs.Turns.{Interval, offStored}
+use Rattle.intervals.specs.Turns.{Interval, offStored}
 use Rattle.layers.proofs.Filling.{layer-earlier}
 use Rattle.table.specs.Reading.{chosen, nextCell}
 use Rattle.table.proofs.Choosing.{Chosen}

@@ -8,9 +8,9 @@ use lib.IntN.{ℤ, pos, natAbs, _+ℤ_, _*ℤ_}
 use lib.ListN.{length, getD}
 use Rattle.commitment.specs.Bounds.{mostBlocks}
 use Rattle.geometry.specs.Layers.{swing}
-use Rattle.layers.specs.declared.rows.Ladder.{Ladder}
-use Rattle.layers.specs.Ladders.{Steady, brings, outputs, mostBrought}
-use Rattle.layers.specs.Stretches.{Small}
+use Rattle.intervals.specs.declared.rows.Ladder.{Ladder}
+use Rattle.intervals.specs.Ladders.{Steady, brings, outputs, mostBrought}
+use Rattle.intervals.specs.Stretches.{Small}
 use Rattle.marks.specs.Pairs.{PairsApart, Pairs, Joined}
 use Rattle.marks.specs.Picking.{Picked}
 

@@ -11,10 +11,10 @@ use Rattle.optimality.specs.declared.Figures.{Figures}
 use Rattle.optimality.specs.Cells.{InTable, states, afterOn, startTakes, startPays, mayRun, onCell, rungs}
 use Rattle.geometry.specs.Geometry.{row, span, section, width, index}
 use Rattle.geometry.specs.Layers.{infeasible}
-use Rattle.layers.specs.declared.rows.Ladder.{Ladder}
-use Rattle.layers.specs.Ladders.{mostBrought, ladderOf}
-use Rattle.layers.specs.Stretches.{Small}
-use Rattle.layers.specs.Turns.{Interval, onStored}
+use Rattle.intervals.specs.declared.rows.Ladder.{Ladder}
+use Rattle.intervals.specs.Ladders.{mostBrought, ladderOf}
+use Rattle.intervals.specs.Stretches.{Small}
+use Rattle.intervals.specs.Turns.{Interval, onStored}
 use Rattle.marks.specs.Images.{piece}
 use Rattle.marks.specs.Picking.{Picked}
 

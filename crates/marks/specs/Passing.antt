@@ -10,7 +10,7 @@ use Rattle.optimality.specs.declared.Figures.{Figures}
 use Rattle.optimality.specs.Machine.{Quarter}
 use Rattle.optimality.specs.Cells.{InTable}
 use Rattle.geometry.specs.Geometry.{row, span, section, width}
-use Rattle.layers.specs.Turns.{Interval}
+use Rattle.intervals.specs.Turns.{Interval}
 use Rattle.marks.specs.Lines.{valueOf, markOf, columnOf}
 use Rattle.marks.specs.Turning.{Turn, Kept}
 

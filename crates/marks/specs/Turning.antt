@@ -13,7 +13,7 @@ use Rattle.optimality.specs.Machine.{Quarter}
 use Rattle.optimality.specs.Cells.{Sound, InTable, states, afterOff, offCell}
 use Rattle.geometry.specs.Geometry.{row, span, section, width}
 use Rattle.geometry.specs.Layers.{infeasible}
-use Rattle.layers.specs.Turns.{Interval, offStored}
+use Rattle.intervals.specs.Turns.{Interval, offStored}
 use Rattle.marks.specs.Pairs.{Larger}
 use Rattle.marks.specs.Lines.{valueOf, markOf, columnOf, OnPicked, OfPiece, WholeChunks, OnAsked}
 use Rattle.marks.specs.Images.{piece, Imaged}

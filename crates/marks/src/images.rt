@@ -1,14 +1,14 @@
 // An interval on, for a piece of a line: what each of its places gets, worked out aside. Values go to the front, marks behind them.
 
 use crate::pairs;
-use layers::rows;
-use layers::rows::Ladder;
+use intervals::rows;
+use intervals::rows::Ladder;
 ghost use mathlib.Core.Path.{_≡_};
 ghost use Prim.Native.Nat.{_+_, _≤_};
 ghost use lib.ListN.{length};
 ghost use Rattle.marks.specs.Images.{piece, Sources, Aside, UpPicked, Descended, Chunk, Chunked, PickedAt, Piece, Imaged, Shift, Shifted};
 ghost use Rattle.geometry.specs.Layers.{infeasible};
-ghost use Rattle.layers.specs.Ladders.{outputs};
+ghost use Rattle.intervals.specs.Ladders.{outputs};
 
 // The places that are worked out aside at a time: at least as many as there are outputs.
 pub const PIECE: usize = 512;

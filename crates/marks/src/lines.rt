@@ -1,9 +1,9 @@
 // An interval on, for the cells of a piece of a line.
 
 use crate::images;
-use layers::rows;
-use layers::rows::Ladder;
-use layers::steps;
+use intervals::rows;
+use intervals::rows::Ladder;
+use intervals::steps;
 use optimality::Figures;
 ghost use mathlib.Core.Path.{_≡_};
 ghost use Prim.Native.Nat.{_+_, _≤_, _<_};

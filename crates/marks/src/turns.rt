@@ -3,7 +3,7 @@
 use crate::images;
 use crate::lines;
 use crate::pairs;
-use layers::rows;
+use intervals::rows;
 use optimality::Figures;
 ghost use mathlib.Core.Path.{_≡_};
 ghost use Prim.Native.Nat.{_+_, _-_, _*_, _≤_, _<_};

@@ -19,12 +19,12 @@ use Rattle.optimality.proofs.Quarters.{noQuarter, quarters-length, quarter-at}
 use Rattle.geometry.specs.Geometry.{width, index}
 use Rattle.geometry.specs.Layers.{Layer, storedAt, inFront}
 use Rattle.geometry.proofs.Places.{index-lt}
-use Rattle.layers.specs.Turns.{quarterStored}
+use Rattle.intervals.specs.Turns.{quarterStored}
 use Rattle.layers.specs.Filling.{quartersIn, between, Beyond}
-use Rattle.layers.specs.Stretches.{Copied, FrontMade, Behind}
+use Rattle.intervals.specs.Stretches.{Copied, FrontMade, Behind}
 use Rattle.layers.proofs.Filling.{layer-small, layer-earlier, ends-anywhere}
 use Rattle.layers.proofs.Between.{between-none, between-next, between-length, between-all}
-use Rattle.layers.proofs.Stretches.{putIn, put-apart, same-from}
+use Rattle.intervals.proofs.Stretches.{putIn, put-apart, same-from}
 use Rattle.pair.specs.Rolling.{Lent, RollAsked, RolledBy, Earlier}
 
 -- the front, made and copied behind

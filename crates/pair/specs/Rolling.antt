@@ -16,7 +16,7 @@ use Rattle.optimality.specs.Cells.{Sound, InTable}
 use Rattle.geometry.specs.Geometry.{width}
 use Rattle.geometry.specs.Layers.{Room, Layer, storedAt, inFront}
 use Rattle.layers.specs.Filling.{Ended}
-use Rattle.layers.specs.Turns.{quarterStored}
+use Rattle.intervals.specs.Turns.{quarterStored}
 
 -- what is lent: room for one interval, whatever the number of prices, and the hours in which the unit may run
 pub record Lent (f : Figures) (w : ℕ) (prices cells : List ℤ) (hours : Hours) : Type 0 where

@@ -3,7 +3,7 @@
 
 use commitment::windows;
 use commitment::windows::Hours;
-use layers::rows;
+use intervals::rows;
 use layers::states;
 use optimality::Figures;
 ghost use mathlib.Core.Path.{_≡_};
@@ -14,9 +14,9 @@ ghost use lib.ListN.{length, drop, replicate};
 ghost use Rattle.optimality.specs.Machine.{anywhere, quarter};
 ghost use Rattle.geometry.specs.Geometry.{width};
 ghost use Rattle.geometry.specs.Layers.{Layer, inFront};
-ghost use Rattle.layers.specs.Turns.{Interval};
+ghost use Rattle.intervals.specs.Turns.{Interval};
 ghost use Rattle.layers.specs.Filling.{quartersIn, between, Beyond};
-ghost use Rattle.layers.specs.Stretches.{Behind};
+ghost use Rattle.intervals.specs.Stretches.{Behind};
 ghost use Rattle.pair.specs.Rolling.{Lent, RollAsked, RolledBy, Earlier};
 
 // The first layer of a whole case at the front. After its last interval a plan may end in any cell.

@@ -33,9 +33,11 @@ use Rattle.geometry.proofs.Widths.{width-is}
 use Rattle.layers.specs.Filling.{quartersIn}
 use Rattle.halving.specs.Tasks.{CaseAsked}
 use Rattle.planner.specs.Planning.{slicesChecks, lentChecks, lentChecked, scheduleChecks, scheduleChecked, planChecked, scratchAfter}
-use Rattle.planner.specs.Tables.{Told, Worked, Paired}
+use Rattle.runs.specs.Telling.{Told}
+use Rattle.planner.specs.Tables.{Worked, Paired}
 use Rattle.planner.specs.Valuing.{valueLentChecks, valueLent, valueChecked}
-use Rattle.planner.proofs.Worked.{told-in, worked}
+use Rattle.runs.proofs.Telling.{told-in}
+use Rattle.planner.proofs.Worked.{worked}
 
 -- ---- in turn
 

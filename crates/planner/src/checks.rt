@@ -12,8 +12,8 @@ ghost use Rattle.planner.specs.Planning.{slicesChecks, lentChecked};
 pub fn check_lent(unit: UnitRecord, prices: &[i64], long: bool, scratch: usize) -> Checked
     ensures { λ r. ⌜ r ≡ lentChecked unit (now (prices .entry)) long scratch ⌝ }
 {
-    let priced = commitment::prices_kept(prices);
-    match commitment::check_case(unit, priced, prices.len()) {
+    let priced = checking::prices_kept(prices);
+    match checking::check_case(unit, priced, prices.len()) {
         Checked::Refused(cause) => Checked::Refused(cause),
         Checked::Passed => check_slices(unit, prices.len(), long, scratch),
     }

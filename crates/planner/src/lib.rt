@@ -1,12 +1,10 @@
 // Planning and valuing: the calls of the outside, none of which has a `requires`. Below them: what an answer holds (contents), what is
-// found before any work (checks), the scratch that is used (cases): the long table filled, read and cleared (tables), or two layers (pairs); the runs of
-// valuing (runs).
+// found before any work (checks), the scratch that is used (cases): the long table filled, read and cleared (tables), or two layers (pairs).
 
 mod cases;
 pub mod checks;
 pub mod contents;
 mod pairs;
-mod runs;
 mod tables;
 
 use commitment::Cause;

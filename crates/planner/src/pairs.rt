@@ -4,7 +4,6 @@
 use crate::Report;
 use crate::Reported;
 use crate::Valued;
-use crate::runs;
 use crate::tables;
 use commitment::BestProfit;
 use commitment::Cause;
@@ -25,7 +24,8 @@ ghost use Rattle.commitment.specs.Valuing.{outcomesOf};
 ghost use Rattle.layers.specs.Filling.{Beyond};
 ghost use Rattle.planner.specs.Planning.{lentChecked, scheduleChecked, scheduleAfter, scratchAfter};
 ghost use Rattle.planner.specs.Reporting.{reportedBy};
-ghost use Rattle.planner.specs.Tables.{Told, Begun};
+ghost use Rattle.runs.specs.Telling.{Told};
+ghost use Rattle.planner.specs.Tables.{Begun};
 ghost use Rattle.planner.specs.Valuing.{valuedBy};
 
 pub fn report_case(

@@ -3,7 +3,6 @@
 use crate::Report;
 use crate::Reported;
 use crate::Valued;
-use crate::runs;
 use commitment::BestProfit;
 use commitment::Cause;
 use commitment::UnitRecord;
@@ -23,7 +22,8 @@ ghost use Rattle.optimality.specs.Cells.{figuresOf};
 ghost use Rattle.geometry.specs.Geometry.{width};
 ghost use Rattle.planner.specs.Planning.{lentChecked, scheduleChecked, scheduleAfter, scratchAfter};
 ghost use Rattle.planner.specs.Reporting.{reportedBy};
-ghost use Rattle.planner.specs.Tables.{ToldBy, Worked};
+ghost use Rattle.runs.specs.Telling.{ToldBy};
+ghost use Rattle.planner.specs.Tables.{Worked};
 ghost use Rattle.planner.specs.Valuing.{valuedBy};
 
 pub fn report_case(

@@ -21,12 +21,12 @@ use Rattle.optimality.specs.Cells.{Sound, InTable, startPays, gain, mayRun, onC
 use Rattle.optimality.proofs.Values.{no-earning}
 use Rattle.optimality.proofs.Turns.{off-turn, on-turn, some-turn, off-in-table, on-in-table}
 use Rattle.geometry.specs.Layers.{swing, Layer}
-use Rattle.layers.specs.Turns.{raised, offStored, roomFor, onStored, cellStored, quarterStored}
+use Rattle.intervals.specs.Turns.{raised, offStored, roomFor, onStored, cellStored, quarterStored}
 use Rattle.table.specs.Reading.{reachesOn, firstOn, OnReaches, chosen, nextCell, Allowed}
-use Rattle.layers.proofs.Stretches.{last-or-before}
-use Rattle.layers.proofs.Raising.{raised-above, raised-reach}
+use Rattle.intervals.proofs.Stretches.{last-or-before}
+use Rattle.intervals.proofs.Raising.{raised-above, raised-reach}
 use Rattle.geometry.proofs.Holding.{Offers, offered, offers-best, offers-earning}
-use Rattle.layers.proofs.Turning.{off-holds, on-is, on-offers}
+use Rattle.intervals.proofs.Turning.{off-holds, on-is, on-offers}
 
 -- ---- the first that reaches
 

@@ -24,12 +24,12 @@ use Rattle.optimality.proofs.Values.{no-earning}
 use Rattle.optimality.proofs.Turns.{plan-value}
 use Rattle.geometry.specs.Geometry.{width}
 use Rattle.geometry.specs.Layers.{swing, Holds, storedAt, Layer, Filled}
-use Rattle.layers.specs.Turns.{offStored, quarterStored}
+use Rattle.intervals.specs.Turns.{offStored, quarterStored}
 use Rattle.layers.proofs.Filling.{PricedOver}
 use Rattle.optimality.proofs.Quarters.{noQuarter}
 use Rattle.commitment.specs.Ranges.{Priced}
 use Rattle.table.specs.Reading.{OnReaches, chosen, nextCell, PlanFrom}
-use Rattle.layers.proofs.Turning.{cell-holds}
+use Rattle.intervals.proofs.Turning.{cell-holds}
 use Rattle.table.proofs.Choosing.{Chosen, chosen-is, must-reach}
 
 -- ---- quarters of these prices

@@ -16,7 +16,7 @@ use Rattle.optimality.specs.declared.Figures.{Figures}
 use Rattle.optimality.specs.declared.Cell.{Cell}
 use Rattle.optimality.specs.Machine.{Quarter}
 use Rattle.optimality.specs.Cells.{startTakes, mayRun, offCell, onCell, rungs, planAt, valueAt}
-use Rattle.layers.specs.Turns.{net, offStored, roomFor, onStored}
+use Rattle.intervals.specs.Turns.{net, offStored, roomFor, onStored}
 
 module _ (f : Figures) (stored : Cell → ℤ) (c : Cell) where
   -- whether the blocks left allow k, and it reaches the best

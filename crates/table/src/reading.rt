@@ -1,6 +1,6 @@
 // Reading a plan off the table: the output that a cell's number was made of, and the cell that it leads to.
 
-use layers::steps;
+use intervals::steps;
 use optimality::Cell;
 use optimality::Figures;
 ghost use mathlib.Core.Path.{_≡_};
@@ -13,9 +13,9 @@ ghost use Rattle.optimality.specs.Cells.{Sound, InTable, cell, states, afterOn,
 ghost use Rattle.geometry.specs.Geometry.{width, row, index};
 ghost use Rattle.geometry.specs.Layers.{storedAt, mostPays};
 ghost use Rattle.geometry.specs.Geometry as geometry;
-ghost use Rattle.layers.specs.Turns.{Interval, offStored};
+ghost use Rattle.intervals.specs.Turns.{Interval, offStored};
 ghost use Rattle.table.specs.Reading.{firstOn, OnReaches, chosen, reachesBest, Allowed, nextCell};
-ghost use Rattle.layers.specs.Stretches.{Readable};
+ghost use Rattle.intervals.specs.Stretches.{Readable};
 
 // An output in blocks, 0 for off, and how many were tried to find it.
 pub struct Tried {

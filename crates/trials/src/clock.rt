@@ -4,7 +4,7 @@ use crate::printing::line;
 use crate::printing::row;
 use crate::printing::text;
 use calendar::Date;
-use commitment::windows;
+use checking::clock;
 
 // From a midnight past that of the day after.
 const HOURS: usize = 26;
@@ -35,15 +35,12 @@ fn hours_from(date: Date) -> [u64; HOURS] {
     let mut hours = [0u64; HOURS];
     let mut i = 0;
     while i < HOURS {
-        hours[i] = windows::hour_in(windows::clock_hour(date, (4 * i + 1) as u64));
+        hours[i] = clock::hour_in(clock::clock_hour(date, (4 * i + 1) as u64));
         i += 1;
     }
     hours
 }
 
 fn try_interval(name: &[u8], date: Date, interval: u64) {
-    line(
-        name,
-        windows::number_of(windows::clock_hour(date, interval)),
-    );
+    line(name, clock::number_of(clock::clock_hour(date, interval)));
 }

@@ -1,19 +1,5 @@
 // The enumerator beside the calls, on one small case.
 
-use crate::enumerator;
-use crate::enumerator::Allowed;
-use crate::enumerator::Cap;
-use crate::enumerator::Case;
-use crate::enumerator::ROOM;
-use crate::enumerator::Which;
-use crate::enumerator::Worth;
-use crate::lending;
-use crate::lending::Lent;
-use crate::numbers::difference;
-use crate::numbers::one_if;
-use crate::numbers::wide8;
-use crate::numbers::wide16;
-use crate::numbers::wide32;
 use assessment::Assessed;
 use calendar::Date;
 use commitment::Costs;
@@ -26,88 +12,28 @@ use commitment::Outcomes;
 use commitment::Permit;
 use commitment::UnitRecord;
 use commitment::Window;
+use enumeration::enumerator;
+use enumeration::enumerator::Allowed;
+use enumeration::enumerator::Cap;
+use enumeration::enumerator::Case;
+use enumeration::enumerator::ROOM;
+use enumeration::enumerator::Worth;
+use enumeration::expectation::Expected;
+use enumeration::expectation::UNTOUCHED;
+use enumeration::expectation::refusal_of;
+use enumeration::expectation::refused;
+use enumeration::expectation::schedule_of;
+use enumeration::lending;
+use enumeration::lending::Lent;
+use enumeration::numbers::difference;
+use enumeration::numbers::one_if;
+use enumeration::numbers::wide8;
+use enumeration::numbers::wide16;
+use enumeration::numbers::wide32;
+use enumeration::tally::Agreed;
 use planner::Planned;
 use planner::Reported;
 use planner::Valued;
-ghost use Rattle.trials.specs.Expecting.{ExpectedOf, Refused};
-
-// What no output of a small case is: entries that a call leaves as they were still hold it.
-const UNTOUCHED: u64 = 7777;
-
-// What the enumerator says of a case: a plan, or 9 or 12.
-pub struct Expected {
-    pub planned: bool,
-    pub refusal: u64,
-    pub tied: bool,
-    pub profit: i64,
-    pub schedule: [u64; ROOM],
-    pub starts: Worth,
-    pub hours: Worth,
-    pub mwh: Worth,
-}
-
-// Whether each call says the same.
-pub struct Agreed {
-    pub plan: bool,
-    pub value: bool,
-    pub report: bool,
-    pub assess: bool,
-}
-
-pub fn expected_of(case: Case) -> Expected
-    ensures { λ r. ⌜ ExpectedOf case r ⌝ }
-{
-    let best = enumerator::best_of(case);
-    if !best.any {
-        return refused(refusal_of(case, 9));
-    }
-    Expected {
-        planned: true,
-        refusal: 0,
-        tied: best.tied,
-        profit: enumerator::profit_of(best),
-        schedule: schedule_of(case, best.number),
-        starts: enumerator::worth_of(case, Which::Starts),
-        hours: enumerator::worth_of(case, Which::Hours),
-        mwh: enumerator::worth_of(case, Which::Mwh),
-    }
-}
-
-fn refused(number: u64) -> Expected
-    ensures { λ r. ⌜ Refused number r ⌝ }
-{
-    Expected {
-        planned: false,
-        refusal: number,
-        tied: false,
-        profit: 0,
-        schedule: [UNTOUCHED; ROOM],
-        starts: Worth::None,
-        hours: Worth::None,
-        mwh: Worth::None,
-    }
-}
-
-// The number of the call's refusal, or 12 where the date does not exist.
-fn refusal_of(case: Case, number: u64) -> u64 {
-    if enumerator::date_exists(case) {
-        return number;
-    }
-    12
-}
-
-// The list in the front of a slice that was lent.
-fn schedule_of(case: Case, number: u64) -> [u64; ROOM] {
-    let list = enumerator::list_of(case, number);
-    let n = enumerator::intervals_of(case);
-    let mut schedule = [UNTOUCHED; ROOM];
-    let mut i = 0;
-    while i < n {
-        schedule[i] = wide32(list[i]);
-        i += 1;
-    }
-    schedule
-}
 
 pub fn agreed_on(case: Case, expected: Expected, scratch: &mut [i64]) -> Agreed {
     let n = enumerator::intervals_of(case);

@@ -3,25 +3,22 @@
 mod bids;
 mod clock;
 mod comparison;
-mod enumerator;
 mod figures;
 mod files;
-mod generator;
-mod lending;
-mod numbers;
 mod others;
 mod printing;
-mod tally;
+mod summary;
 mod texts;
 
-use comparison::Expected;
 use comparison::agreed_on;
-use comparison::expected_of;
-use enumerator::Case;
-use generator::case_of;
-use generator::dated_case_of;
-use generator::draws_from;
-use tally::Tally;
+use enumeration::enumerator::Case;
+use enumeration::expectation::Expected;
+use enumeration::expectation::expected_of;
+use enumeration::generator::case_of;
+use enumeration::generator::dated_case_of;
+use enumeration::generator::draws_from;
+use enumeration::tally;
+use enumeration::tally::Tally;
 
 const CASES: u64 = 4096;
 
@@ -50,7 +47,7 @@ fn generated(scratch: &mut [i64]) {
         counts = tried(counts, number, case, expected_of(case), &mut *scratch);
         number += 1;
     }
-    tally::print(counts);
+    summary::print(counts);
 }
 
 // Cases with permitted hours, in a part of their own, and their texts.
@@ -67,18 +64,20 @@ fn dated(scratch: &mut [i64]) {
         counts = read(counts, number, case, expected, &mut *scratch);
         number += 1;
     }
-    tally::print_dates(counts);
-    tally::print(counts);
+    summary::print_dates(counts);
+    summary::print(counts);
 }
 
 fn tried(counts: Tally, number: u64, case: Case, expected: Expected, scratch: &mut [i64]) -> Tally {
     let agreed = agreed_on(case, expected, scratch);
     let with_case = tally::with_case(counts, case);
     let with_expected = tally::with_expected(with_case, expected);
-    tally::with_agreed(with_expected, number, agreed)
+    summary::tell(number, agreed);
+    tally::with_agreed(with_expected, agreed)
 }
 
 fn read(counts: Tally, number: u64, case: Case, expected: Expected, scratch: &mut [i64]) -> Tally {
     let agrees = texts::same_text(case, number, expected, scratch);
-    tally::with_text(counts, number, texts::number_for(case, number), agrees)
+    summary::tell_unless(agrees, b"text differs on case ", number);
+    tally::with_text(counts, texts::number_for(case, number), agrees)
 }

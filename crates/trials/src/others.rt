@@ -3,11 +3,11 @@
 use crate::files::contents;
 use crate::files::hand_in;
 use crate::files::try_case;
-use crate::lending;
 use crate::printing::line;
 use crate::printing::text;
 use casefile::CaseRead;
 use commitment::UnitRecord;
+use enumeration::lending;
 
 // 0 where there is no refusal.
 pub fn try_others() {

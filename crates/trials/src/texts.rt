@@ -2,16 +2,16 @@
 // is, or refused.
 
 use crate::comparison;
-use crate::comparison::Expected;
-use crate::enumerator;
-use crate::enumerator::Cap;
-use crate::enumerator::Case;
-use crate::enumerator::ROOM;
-use crate::numbers::one_if;
-use crate::numbers::wide8;
-use crate::numbers::wide16;
-use crate::numbers::wide32;
 use casefile::CaseRead;
+use enumeration::enumerator;
+use enumeration::enumerator::Cap;
+use enumeration::enumerator::Case;
+use enumeration::enumerator::ROOM;
+use enumeration::expectation::Expected;
+use enumeration::numbers::one_if;
+use enumeration::numbers::wide8;
+use enumeration::numbers::wide16;
+use enumeration::numbers::wide32;
 ghost use Prim.Native.Nat.{_<_, _≤_};
 
 // More than a small case takes.

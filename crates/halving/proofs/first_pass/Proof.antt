@@ -1,5 +1,5 @@
 -- One pass over all intervals.
-use Rattle.layers.proofs.Stretches.{same-from}
+use Rattle.intervals.proofs.Stretches.{same-from}
 use Rattle.halving.proofs.Joining.{first-layer}
 use borrow.Author.Needs.{needs}
 use Rattle.halving.proofs.first_pass.Statement.{statement}

@@ -8,7 +8,7 @@ use Rattle.commitment.specs.Tries.{triesOver}
 use Rattle.optimality.specs.Machine.{Quarter, anywhere}
 use Rattle.optimality.specs.Cells.{planAt}
 use Rattle.layers.specs.Filling.{quartersIn}
-use Rattle.layers.proofs.Stretches.{same-from}
+use Rattle.intervals.proofs.Stretches.{same-from}
 use Rattle.halving.specs.declared.End.the-variants.{Anywhere}
 use Rattle.halving.specs.Tasks.{planOf}
 use Rattle.halving.proofs.Joining.{whole}

@@ -7,7 +7,7 @@ use lib.ListN.{length}
 use Rattle.optimality.specs.Cells.{states}
 use Rattle.geometry.specs.Geometry.{width}
 use Rattle.layers.proofs.Filling.{ends-anywhere}
-use Rattle.layers.proofs.Stretches.{put-apart}
+use Rattle.intervals.proofs.Stretches.{put-apart}
 use Rattle.halving.proofs.Ends.{bare-lt, ended-in, end-apart}
 use borrow.Author.Needs.{needs}
 use Rattle.halving.proofs.put_end.Statement.{statement}

@@ -12,7 +12,7 @@ use Rattle.optimality.specs.Machine.{anywhere}
 use Rattle.optimality.proofs.Quarters.{quarters-length}
 use Rattle.commitment.specs.Windows.{opens}
 use Rattle.geometry.specs.Geometry.{width}
-use Rattle.layers.proofs.Stretches.{putIn, put-apart, same-from}
+use Rattle.intervals.proofs.Stretches.{putIn, put-apart, same-from}
 use Rattle.layers.proofs.Filling.{ends-anywhere}
 use Rattle.layers.proofs.fill_all.Statement.{statement}
 use Rattle.layers.proofs.fill_all.Tie as tie

@@ -13,7 +13,7 @@ use Rattle.optimality.specs.declared.Cell.{Cell}
 use Rattle.geometry.specs.Geometry.{width}
 use Rattle.geometry.specs.Layers.{Layer, storedAt, inFront}
 use Rattle.layers.specs.Filling.{quartersIn, between, Beyond}
-use Rattle.layers.specs.Turns.{Interval}
+use Rattle.intervals.specs.Turns.{Interval}
 use Rattle.integers.proofs.Ranges.{plain-fits}
 use Rattle.pair.specs.Rolling.{RollAsked}
 use Rattle.pair.proofs.Rolling.{at-end, readable, one-earlier, front-beyond}

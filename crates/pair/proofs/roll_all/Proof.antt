@@ -2,7 +2,7 @@
 use mathlib.Core.Path.{_≡_, _∙_}
 use lib.IntN.{pos}
 use Rattle.geometry.specs.Geometry.{width}
-use Rattle.layers.proofs.Stretches.{putIn}
+use Rattle.intervals.proofs.Stretches.{putIn}
 use Rattle.pair.specs.Rolling.{Lent}
 use Rattle.pair.proofs.Rolling.{two-fit, all-asked, put-beyond, all-rolled}
 use borrow.Author.Needs.{needs}

@@ -18,10 +18,10 @@ use Rattle.optimality.specs.declared.Figures.{Figures}
 use Rattle.optimality.specs.declared.Cell.{Cell}
 use Rattle.geometry.specs.Geometry.{width, index}
 use Rattle.geometry.specs.Layers.{storedAt}
-use Rattle.layers.specs.Stretches.{Small}
+use Rattle.intervals.specs.Stretches.{Small}
 use Rattle.geometry.proofs.Places.{index-lt}
 use Rattle.layers.proofs.Filling.{layer-small}
-use Rattle.layers.proofs.Turning.{pmax-most}
+use Rattle.intervals.proofs.Turning.{pmax-most}
 use Rattle.table.proofs.Choosing.{Chosen}
 use Rattle.optimality.specs.Machine.{Quarter}
 use Rattle.optimality.proofs.Quarters.{noQuarter}

@@ -8,7 +8,7 @@ use Rattle.integers.proofs.Ranges.{plain-fits}
 use Rattle.optimality.specs.Machine.{quarter}
 use Rattle.optimality.specs.Cells.{states}
 use Rattle.geometry.proofs.Places.{section-fits}
-use Rattle.layers.proofs.Segments.{behind-within}
+use Rattle.intervals.proofs.Segments.{behind-within}
 use Rattle.layers.proofs.Making.{StatesDone, states-first, states-next, states-done}
 use Rattle.layers.proofs.states.fill_layer.Statement.{statement}
 use Rattle.layers.proofs.states.fill_layer.Tie as tie

@@ -8,11 +8,11 @@ use Rattle.integers.proofs.Ranges.{plain-fits}
 use Rattle.optimality.specs.Cells.{startPays}
 use Rattle.geometry.specs.Layers.{mostPays}
 use Rattle.geometry.proofs.Places.{section-place-fits}
-use Rattle.layers.specs.Turns.{Interval}
-use Rattle.layers.specs.Ladders.{ladderOf}
-use Rattle.layers.proofs.Segments.{behind-within}
-use Rattle.layers.proofs.Turning.{pays-most, takes-most}
-use Rattle.layers.proofs.Ladders.{ladder-steady}
+use Rattle.intervals.specs.Turns.{Interval}
+use Rattle.intervals.specs.Ladders.{ladderOf}
+use Rattle.intervals.proofs.Segments.{behind-within}
+use Rattle.intervals.proofs.Turning.{pays-most, takes-most}
+use Rattle.intervals.proofs.Ladders.{ladder-steady}
 use Rattle.layers.proofs.Making.{state-off, state-raised}
 use Rattle.layers.proofs.states.fill_state.Statement.{statement}
 use Rattle.layers.proofs.states.fill_state.Tie as tie

@@ -7,10 +7,10 @@ use mir.Val.{toZ, ofZ}
 use Rattle.integers.proofs.Ranges.{plain-fits}
 use Rattle.geometry.specs.Geometry.{span, section}
 use Rattle.geometry.proofs.Places.{spans-fit, span-fits}
-use Rattle.layers.specs.Ladders.{betterEnd}
-use Rattle.layers.specs.Stretches.{Behind}
-use Rattle.layers.proofs.Segments.{Round, round-first, round-next, round-behind}
-use Rattle.layers.proofs.Passes.{SpansDone, spans-first, spans-next, spans-done}
+use Rattle.intervals.specs.Ladders.{betterEnd}
+use Rattle.intervals.specs.Stretches.{Behind}
+use Rattle.intervals.proofs.Segments.{Round, round-first, round-next, round-behind}
+use Rattle.intervals.proofs.Passes.{SpansDone, spans-first, spans-next, spans-done}
 use Rattle.layers.proofs.states.raise_section.Statement.{statement}
 use Rattle.layers.proofs.states.raise_section.Tie as tie
 

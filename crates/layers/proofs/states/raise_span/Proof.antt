@@ -6,9 +6,9 @@ use borrow.Author.Needs.{needs}
 use Rattle.integers.proofs.Ranges.{plain-fits}
 use Rattle.geometry.specs.Geometry.{span}
 use Rattle.geometry.proofs.Places.{rows-fit}
-use Rattle.layers.proofs.Segments.{behind-within}
-use Rattle.layers.proofs.Ladders.{end-small}
-use Rattle.layers.proofs.Passes.{rows-by-ends}
+use Rattle.intervals.proofs.Segments.{behind-within}
+use Rattle.intervals.proofs.Ladders.{end-small}
+use Rattle.intervals.proofs.Passes.{rows-by-ends}
 use Rattle.layers.proofs.states.raise_span.Statement.{statement}
 use Rattle.layers.proofs.states.raise_span.Tie as tie
 

@@ -11,7 +11,7 @@ use mir.Syntax.{w64}
 use mir.Val.{toZ, ofZ}
 use Rattle.integers.proofs.Ranges.{plain, plain-fits, within-fits}
 use Rattle.lists.proofs.Conjunctions.{both}
-use Rattle.layers.proofs.Ladders.{least-plain, rise-plain, fall-within}
+use Rattle.intervals.proofs.Ladders.{least-plain, rise-plain, fall-within}
 use Rattle.marks.specs.Images.{Chunk}
 use Rattle.marks.proofs.Chunks.{chunk-plain, chunk-joined, begins-low, up-sources, down-sources}
 use borrow.Author.Needs.{needs}

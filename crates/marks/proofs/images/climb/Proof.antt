@@ -10,7 +10,7 @@ use mir.Syntax.{w64}
 use mir.Val.{toZ, ofZ}
 use Rattle.integers.proofs.Ranges.{Within, plain, plain-fits, within-abs, within-fits, within-weaken, within-diff}
 use Rattle.geometry.specs.Layers.{swing}
-use Rattle.layers.specs.Ladders.{mostBrought}
+use Rattle.intervals.specs.Ladders.{mostBrought}
 use Rattle.marks.specs.Images.{piece, Sources, Aside, UpPicked}
 use Rattle.marks.proofs.Storing.{pairs-none, pairs-next}
 use Rattle.marks.proofs.Climbing.{Held, held-next, held-risen, held-gained, heldMost}

@@ -8,7 +8,7 @@ use lib.ListN.{length, getD}
 use mir.Syntax.{w64}
 use mir.Val.{toZ, ofZ}
 use Rattle.integers.proofs.Ranges.{Within, plain, plain-fits, within-abs, within-fits, within-weaken, within-sum}
-use Rattle.layers.specs.Ladders.{mostBrought}
+use Rattle.intervals.specs.Ladders.{mostBrought}
 use Rattle.marks.specs.Images.{piece, Aside, Shift, Shifted}
 use Rattle.marks.proofs.Storing.{pairs-none, pairs-next}
 use Rattle.marks.proofs.images.shifted.Statement.{statement}

@@ -2,7 +2,7 @@
 use mathlib.Core.Path.{_≡_}
 use Prim.Native.Nat.{_+_, _-_, _≤_, min}
 use native.Mathlib.Omega.{arith}
-use Rattle.layers.specs.Ladders.{outputs}
+use Rattle.intervals.specs.Ladders.{outputs}
 use Rattle.marks.specs.Images.{piece, Piece}
 use Rattle.marks.proofs.Chunks.{Windowed, windowed-none, room-for, next-chunk, windowed-next, windowed-all}
 use borrow.Author.Needs.{needs}

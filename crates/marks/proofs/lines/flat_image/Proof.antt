@@ -8,7 +8,7 @@ use borrow.Author.Needs.{needs}
 use Rattle.integers.proofs.Ranges.{plain-fits}
 use Rattle.geometry.specs.Geometry.{row}
 use Rattle.geometry.proofs.Sizes.{row-most}
-use Rattle.layers.specs.Ladders.{Steady, betterEnd}
+use Rattle.intervals.specs.Ladders.{Steady, betterEnd}
 use Rattle.marks.specs.Lines.{OnAsked, Behind, laddered}
 use Rattle.marks.proofs.Leading.{flat-on, flat-line, steady}
 use Rattle.marks.proofs.lines.flat_image.Statement.{statement}

@@ -5,7 +5,7 @@ use native.Mathlib.Omega.{arith}
 use borrow.Author.Needs.{needs}
 use Rattle.integers.proofs.Ranges.{plain-fits}
 use Rattle.optimality.specs.Cells.{startTakes}
-use Rattle.layers.proofs.Turning.{pays-most}
+use Rattle.intervals.proofs.Turning.{pays-most}
 use Rattle.marks.specs.Lines.{OnAsked, Behind}
 use Rattle.marks.proofs.Leading.{no-start}
 use Rattle.marks.proofs.lines.image.Statement.{statement}

@@ -8,7 +8,7 @@ use lib.IntN.{ℤ, pos}
 use lib.ListN.{length, set, length-set}
 use lib.Seq.{getD-set-same, getD-set-other}
 use Rattle.integers.proofs.Ranges.{plain-fits}
-use Rattle.layers.proofs.Stretches.{last-or-before}
+use Rattle.intervals.proofs.Stretches.{last-or-before}
 use Rattle.marks.specs.Passing.{OwnNumbers}
 use Rattle.marks.proofs.passes.number.Statement.{statement}
 use Rattle.marks.proofs.passes.number.Tie as tie

@@ -7,7 +7,7 @@ use native.Mathlib.Omega.{arith}
 use borrow.Author.Needs.{needs}
 use Rattle.integers.proofs.Ranges.{plain-fits}
 use Rattle.optimality.specs.Machine.{quarter}
-use Rattle.layers.proofs.Turning.{pmax-most}
+use Rattle.intervals.proofs.Turning.{pmax-most}
 use Rattle.marks.specs.Passing.{Columns, Before, Line}
 use Rattle.marks.specs.Turning.{PieceAsked}
 use Rattle.marks.proofs.Columns.{columns-join, piece-columns, piece-asked}

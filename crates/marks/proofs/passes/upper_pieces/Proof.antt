@@ -10,7 +10,7 @@ use mir.Val.{toZ}
 use Rattle.integers.proofs.Ranges.{plain-fits}
 use Rattle.optimality.specs.Machine.{quarter}
 use Rattle.optimality.specs.Cells.{Sound, rungs}
-use Rattle.layers.proofs.Turning.{pmax-most}
+use Rattle.intervals.proofs.Turning.{pmax-most}
 use Rattle.marks.specs.Images.{piece}
 use Rattle.marks.specs.Turning.{PieceAsked}
 use Rattle.marks.specs.Passing.{Columns, LastPiece, Before, Line}

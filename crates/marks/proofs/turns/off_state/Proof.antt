@@ -8,7 +8,7 @@ use borrow.Author.Needs.{needs}
 use Rattle.geometry.specs.Geometry.{section}
 use Rattle.geometry.specs.Layers.{infeasible}
 use Rattle.geometry.proofs.Places.{section-fits}
-use Rattle.layers.proofs.Stretches.{put-inside, put-apart}
+use Rattle.intervals.proofs.Stretches.{put-inside, put-apart}
 use Rattle.marks.proofs.Moving.{off-barred, off-moved}
 use Rattle.marks.proofs.turns.off_state.Statement.{statement}
 use Rattle.marks.proofs.turns.off_state.Tie as tie

@@ -5,7 +5,8 @@ use Prim.Native.Nat.{ℕ, _+_, _*_, _≤_}
 use native.Mathlib.Omega.{arith}
 use lib.ListN.{length}
 use Rattle.commitment.specs.Cells.{cellsNeeded}
-use Rattle.planner.specs.Tables.{Told, Paired}
+use Rattle.runs.specs.Telling.{Told}
+use Rattle.planner.specs.Tables.{Paired}
 use Rattle.planner.proofs.Lent.{Lent, lent, lent-sound, permitted, layer-is, paired, front-told, cleared}
 use borrow.Author.Needs.{needs}
 use Rattle.planner.proofs.pairs.value_case.Statement.{statement}

@@ -10,7 +10,8 @@ use Rattle.optimality.specs.Machine.{Quarter, anywhere}
 use Rattle.optimality.specs.Cells.{figuresOf, quartersOf, planAt}
 use Rattle.layers.specs.Filling.{quartersIn}
 use Rattle.planner.proofs.Lent.{quarters-are, case-asked}
-use Rattle.planner.proofs.Worked.{opening-inside, opening-plan, opening-some, plan-in-front}
+use Rattle.runs.proofs.Telling.{opening-inside, opening-plan, opening-some}
+use Rattle.planner.proofs.Worked.{plan-in-front}
 use borrow.Author.Needs.{needs}
 use Rattle.planner.proofs.pairs.work_plan.Statement.{statement}
 use Rattle.planner.proofs.pairs.work_plan.Tie as tie

@@ -12,7 +12,8 @@ use Rattle.optimality.specs.Machine.{anywhere}
 use Rattle.optimality.specs.Cells.{figuresOf, quartersOf, planAt}
 use Rattle.optimality.proofs.Quarters.{quarters-length}
 use Rattle.table.specs.Reading.{PlanFrom}
-use Rattle.planner.proofs.Worked.{room, opening-inside, opening-plan, opening-plans, plan-in-front}
+use Rattle.runs.proofs.Telling.{opening-inside, opening-plan}
+use Rattle.planner.proofs.Worked.{room, opening-plans, plan-in-front}
 use borrow.Author.Needs.{needs}
 use Rattle.planner.proofs.tables.read_plan.Statement.{statement}
 use Rattle.planner.proofs.tables.read_plan.Tie as tie

@@ -7,7 +7,7 @@ use mir.Syntax.{w64}
 use mir.Val.{toZ, ofZ}
 use Rattle.integers.proofs.Ranges.{plain-fits}
 use Rattle.geometry.specs.Layers.{storedAt}
-use Rattle.layers.specs.Turns.{offStored}
+use Rattle.intervals.specs.Turns.{offStored}
 use Rattle.table.specs.Reading.{chosen}
 use Rattle.table.proofs.reading.choose.Statement.{statement}
 use Rattle.table.proofs.reading.choose.Tie as tie

@@ -17,8 +17,8 @@ use Rattle.geometry.specs.Geometry.{width, index}
 use Rattle.geometry.specs.Layers.{storedAt}
 use Rattle.table.specs.Reading.{reachesBest, reachesOn}
 use Rattle.geometry.proofs.Places.{index-along, index-lt}
-use Rattle.layers.proofs.Stretches.{last-or-before}
-use Rattle.layers.proofs.Turning.{pays-most, pmax-most, runs}
+use Rattle.intervals.proofs.Stretches.{last-or-before}
+use Rattle.intervals.proofs.Turning.{pays-most, pmax-most, runs}
 use Rattle.table.proofs.Choosing.{first-at}
 use Rattle.table.proofs.reading.first_on.Statement.{statement}
 use Rattle.table.proofs.reading.first_on.Tie as tie

@@ -10,7 +10,7 @@ use Rattle.integers.proofs.Ranges.{plain-fits}
 use Rattle.optimality.specs.Cells.{cell, states, afterOff, offCell}
 use Rattle.optimality.proofs.Turns.{off-in-table}
 use Rattle.geometry.specs.Geometry.{index}
-use Rattle.layers.specs.Turns.{offStored}
+use Rattle.intervals.specs.Turns.{offStored}
 use Rattle.geometry.proofs.Places.{index-lt}
 use Rattle.table.proofs.reading.off_stored.Statement.{statement}
 use Rattle.table.proofs.reading.off_stored.Tie as tie

@@ -5,7 +5,7 @@ use native.Mathlib.Omega.{arith}
 use borrow.Author.Needs.{needs}
 use Rattle.optimality.specs.Cells.{cell}
 use Rattle.geometry.specs.Geometry.{index}
-use Rattle.layers.proofs.Turning.{Runs, runs}
+use Rattle.intervals.proofs.Turning.{Runs, runs}
 use Rattle.table.proofs.reading.on_row.Statement.{statement}
 use Rattle.table.proofs.reading.on_row.Tie as tie
 

@@ -11,9 +11,9 @@ use mir.Syntax.{w64}
 use mir.Val.{toZ, ofZ}
 use Rattle.integers.proofs.Ranges.{Within, within-fits, plain, plain-fits}
 use Rattle.geometry.specs.Layers.{swing}
-use Rattle.layers.specs.Turns.{net}
+use Rattle.intervals.specs.Turns.{net}
 use Rattle.geometry.proofs.Holding.{gained-within}
-use Rattle.layers.proofs.Turning.{blocks-most, net-small}
+use Rattle.intervals.proofs.Turning.{blocks-most, net-small}
 use Rattle.table.proofs.reading.reaches.Statement.{statement}
 use Rattle.table.proofs.reading.reaches.Tie as tie
 

@@ -1,0 +1,14 @@
+-- Each arm is the clause that the test chose.
+use borrow.Author.Needs.{needs}
+use borrow.Author.Tests.{lt-ltb, le-ltb}
+use Rattle.intervals.proofs.steps.start_pays.Statement.{statement}
+use Rattle.intervals.proofs.steps.start_pays.Tie as tie
+
+returns : tie.Need-returns
+returns c = simp (lt-ltb _ _ (c .if1 .taken))
+
+returns-2 : tie.Need-returns-2
+returns-2 c = simp (le-ltb _ _ (c .before .if1 .left))
+
+pub start-pays-spec : {M : Type 1} → statement M
+start-pays-spec = tie.close (tie.spec (λ c. search needs) returns returns-2)

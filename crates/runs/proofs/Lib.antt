@@ -1,0 +1,2 @@
+-- Telling: what a first layer tells.
+pub mod Telling
