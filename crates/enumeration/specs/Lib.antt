@@ -1,4 +1,4 @@
--- What the parts of the program answer, where it can be said: counts, what the enumerator's answers mean, which kind a generated case is of.
+-- What is answered, where it can be said: counts, what the enumerator's answers mean, which kind a generated case is of.
 pub mod Counting
 pub mod Cases
 pub mod Expecting

@@ -17,7 +17,7 @@ use Rattle.optimality.proofs.Turns.{off-in-table, on-in-table}
 use Rattle.geometry.specs.Geometry.{row, span, section}
 use Rattle.geometry.proofs.Places.{in-row, in-span, span-fits, row-fits}
 use Rattle.intervals.proofs.Turning.{pmax-most}
-use Rattle.marks.specs.Images.{piece}
+use Rattle.carrying.specs.Images.{piece}
 use Rattle.marks.specs.Lines.{valueOf, markOf, columnOf, OfPiece, WholeChunks}
 use Rattle.marks.specs.Turning.{Turn, Partly, PieceAsked}
 use Rattle.marks.specs.Passing.{Columns, Before, Line, LastPiece}

@@ -28,10 +28,10 @@ use Rattle.intervals.specs.Turns.{net, onStored}
 use Rattle.intervals.proofs.Ladders.{brings-least, brings-next, ladder-brings, ladder-steady, end-small}
 use Rattle.intervals.proofs.Turning.{pays-most}
 use Rattle.intervals.specs.Stretches.{Small}
-use Rattle.marks.specs.Picking.{Picked}
-use Rattle.marks.specs.Images.{worth, markBy, PickedAt, Piece}
+use Rattle.carrying.specs.Picking.{Picked}
+use Rattle.carrying.specs.Images.{worth, markBy, PickedAt, Piece}
 use Rattle.marks.specs.Lines.{FlatAt, valueOf, markOf, columnOf, OnPicked, OfPiece, lineOf, laddered, FlatLine, OnAsked, WholeChunks}
-use Rattle.marks.proofs.Picking.{picked-same}
+use Rattle.carrying.proofs.Picking.{picked-same}
 
 -- ---- outputs that lead to the same cell: the lowest or the highest is the first of the best
 

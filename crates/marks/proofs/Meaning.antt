@@ -19,7 +19,7 @@ use Rattle.intervals.specs.Turns.{raised, offStored, roomFor, onStored, cellSto
 use Rattle.intervals.proofs.Raising.{raised-above, raised-reach, raised-least}
 use Rattle.table.specs.Reading.{firstOn, chosen, nextCell}
 use Rattle.table.proofs.Choosing.{first-at}
-use Rattle.marks.specs.Picking.{Picked}
+use Rattle.carrying.specs.Picking.{Picked}
 use Rattle.marks.specs.Lines.{Runs}
 use Rattle.marks.specs.Turning.{Turn}
 

@@ -18,8 +18,8 @@ use Rattle.geometry.specs.Geometry.{row, span, section, index}
 use Rattle.geometry.specs.Layers.{infeasible}
 use Rattle.intervals.specs.Turns.{offStored}
 use Rattle.intervals.specs.Stretches.{Copied, Apart}
-use Rattle.marks.specs.Pairs.{Pairs, JoinedFrom}
-use Rattle.marks.specs.Images.{piece, Imaged}
+use Rattle.carrying.specs.Pairs.{Pairs, JoinedFrom}
+use Rattle.carrying.specs.Images.{piece, Imaged}
 use Rattle.marks.specs.Lines.{columnOf, OfPiece}
 use Rattle.marks.specs.Turning.{MovedAt, OffHere, OnHere, TurnHere}
 

@@ -24,8 +24,8 @@ use Rattle.geometry.specs.Layers.{infeasible}
 use Rattle.geometry.proofs.Holding.{up-infeasible, dn-infeasible}
 use Rattle.geometry.proofs.Places.{in-section, index-lt}
 use Rattle.intervals.specs.Turns.{offStored}
-use Rattle.marks.specs.Pairs.{Pairs, JoinedFrom}
-use Rattle.marks.specs.Images.{piece, Imaged}
+use Rattle.carrying.specs.Pairs.{Pairs, JoinedFrom}
+use Rattle.carrying.specs.Images.{piece, Imaged}
 use Rattle.marks.specs.Lines.{valueOf, markOf, columnOf, Runs, OfPiece, OnAsked}
 use Rattle.marks.specs.Turning.{OffAt, OffHere, OnHere, Turn, TurnHere, Kept, Partly, PieceAsked, StateAsked}
 use Rattle.marks.proofs.Moving.{column-of, off-next}

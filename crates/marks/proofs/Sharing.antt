@@ -16,12 +16,12 @@ use Rattle.optimality.proofs.Turns.{on-in-table}
 use Rattle.geometry.specs.Geometry.{row, span, section, width}
 use Rattle.geometry.specs.Layers.{infeasible}
 use Rattle.intervals.specs.Turns.{net, onStored}
-use Rattle.marks.specs.Images.{Imaged}
+use Rattle.carrying.specs.Images.{Imaged}
 use Rattle.marks.specs.Lines.{valueOf, markOf, Runs, OfPiece, OnPicked}
-use Rattle.marks.specs.Pairs.{Pairs}
-use Rattle.marks.specs.Picking.{Picked}
+use Rattle.carrying.specs.Pairs.{Pairs}
+use Rattle.carrying.specs.Picking.{Picked}
 use Rattle.marks.specs.Turning.{OnAt, OnHere}
-use Rattle.marks.proofs.Picking.{picked-same}
+use Rattle.carrying.proofs.Picking.{picked-same}
 use Rattle.marks.proofs.Pieces.{unmoved}
 use Rattle.marks.proofs.Turned.{runs-on}
 

@@ -13,10 +13,10 @@ use Rattle.optimality.specs.Machine.{Quarter}
 use Rattle.optimality.specs.Cells.{states, afterOff, afterOn, startTakes, startPays, mayRun, offCell, onCell}
 use Rattle.geometry.specs.Layers.{infeasible}
 use Rattle.intervals.specs.Turns.{net, offStored, onStored}
-use Rattle.marks.specs.Picking.{Picked}
+use Rattle.carrying.specs.Picking.{Picked}
 use Rattle.marks.specs.Lines.{Runs, OnPicked}
 use Rattle.marks.specs.Turning.{Turn}
-use Rattle.marks.proofs.Picking.{picked-same}
+use Rattle.carrying.proofs.Picking.{picked-same}
 
 -- what may run leads on
 pub runs-on : (f : Figures) (c : Cell) → mayRun f c ≡ true → afterOn f (c .state) < states f

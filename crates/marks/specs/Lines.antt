@@ -15,8 +15,8 @@ use Rattle.intervals.specs.declared.rows.Ladder.{Ladder}
 use Rattle.intervals.specs.Ladders.{mostBrought, ladderOf}
 use Rattle.intervals.specs.Stretches.{Small}
 use Rattle.intervals.specs.Turns.{Interval, onStored}
-use Rattle.marks.specs.Images.{piece}
-use Rattle.marks.specs.Picking.{Picked}
+use Rattle.carrying.specs.Images.{piece}
+use Rattle.carrying.specs.Picking.{Picked}
 
 -- ---- a line where every output leads to the same cell, the first `skipped` places having none
 

@@ -14,9 +14,9 @@ use Rattle.optimality.specs.Cells.{Sound, InTable, states, afterOff, offCell}
 use Rattle.geometry.specs.Geometry.{row, span, section, width}
 use Rattle.geometry.specs.Layers.{infeasible}
 use Rattle.intervals.specs.Turns.{Interval, offStored}
-use Rattle.marks.specs.Pairs.{Larger}
+use Rattle.carrying.specs.Pairs.{Larger}
 use Rattle.marks.specs.Lines.{valueOf, markOf, columnOf, OnPicked, OfPiece, WholeChunks, OnAsked}
-use Rattle.marks.specs.Images.{piece, Imaged}
+use Rattle.carrying.specs.Images.{piece, Imaged}
 
 -- the interval off; past the last state there is no mark to take over
 pub record OffAt (f : Figures) (stored marked : Cell → ℤ) (c : Cell) (v m : ℤ) : Type 0 where

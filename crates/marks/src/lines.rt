@@ -1,6 +1,6 @@
 // An interval on, for the cells of a piece of a line.
 
-use crate::images;
+use carrying::images;
 use intervals::rows;
 use intervals::rows::Ladder;
 use intervals::steps;
@@ -8,7 +8,7 @@ use optimality::Figures;
 ghost use mathlib.Core.Path.{_≡_};
 ghost use Prim.Native.Nat.{_+_, _≤_, _<_};
 ghost use lib.ListN.{length};
-ghost use Rattle.marks.specs.Images.{piece, Imaged};
+ghost use Rattle.carrying.specs.Images.{piece, Imaged};
 ghost use Rattle.marks.specs.Lines.{FlatLine, FlatAt, OnAsked, OnOf, Behind, lineOf};
 ghost use Rattle.optimality.specs.Cells.{Sound, states, afterOn, startTakes};
 

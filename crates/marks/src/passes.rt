@@ -1,14 +1,14 @@
 // One interval for all cells of a layer, from the highest column down: an interval leads to no higher one.
 
-use crate::images;
 use crate::turns;
+use carrying::images;
 use commitment::windows;
 use commitment::windows::Hours;
 use optimality::Figures;
 ghost use mathlib.Core.Path.{_≡_};
 ghost use Prim.Native.Nat.{_+_, _^_, _≤_, _<_};
 ghost use lib.ListN.{length};
-ghost use Rattle.marks.specs.Images.{piece};
+ghost use Rattle.carrying.specs.Images.{piece};
 ghost use Rattle.marks.specs.Passing.{Columns, LastPiece, Before, Line, Span, OwnNumbers, firstOf};
 ghost use Rattle.marks.specs.Standing.{SweepAsked, Swept, Numbered};
 ghost use Rattle.layers.specs.Filling.{quartersIn, between};

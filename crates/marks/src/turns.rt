@@ -1,16 +1,16 @@
 // One interval for a piece of a line, state by state: off, then on where it is better.
 
-use crate::images;
 use crate::lines;
-use crate::pairs;
+use carrying::images;
+use carrying::pairs;
 use intervals::rows;
 use optimality::Figures;
 ghost use mathlib.Core.Path.{_≡_};
 ghost use Prim.Native.Nat.{_+_, _-_, _*_, _≤_, _<_};
 ghost use lib.ListN.{length};
-ghost use Rattle.marks.specs.Pairs.{Pairs};
+ghost use Rattle.carrying.specs.Pairs.{Pairs};
 ghost use Rattle.marks.specs.Turning.{MovedAt, OffHere, OnHere, TurnHere, InColumn, Partly, PieceAsked, ServesFor, StateAsked};
-ghost use Rattle.marks.specs.Images.{piece, Imaged};
+ghost use Rattle.carrying.specs.Images.{piece, Imaged};
 ghost use Rattle.marks.specs.Lines.{OnAsked};
 ghost use Rattle.optimality.specs.Machine.{quarter};
 ghost use Rattle.optimality.specs.Cells.{Sound, states};

@@ -74,7 +74,7 @@ fn left_over(num: i64, den: u64) -> i64
     num % integers::signed(den)
 }
 
-// Whether the rest of a division takes its quotient, which is so large, to the next whole number.
+// Whether the rest of a division takes its quotient, a number of this size, to the next whole number.
 fn goes_up(quotient: u64, rest: u64, den: u64) -> bool
     requires { ⌜ rest < den ⌝ }
     ensures { λ r. ⌜ r ≡ goesUp quotient rest den ⌝ }

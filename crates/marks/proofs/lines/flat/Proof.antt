@@ -9,7 +9,7 @@ use lib.Dec.{ltb}
 use lib.IntN.{pos}
 use lib.ListN.{getD}
 use Rattle.integers.proofs.Ranges.{plain-fits}
-use Rattle.marks.specs.Images.{piece}
+use Rattle.carrying.specs.Images.{piece}
 use Rattle.marks.specs.Lines.{FlatLine, FlatAt}
 use borrow.Author.Needs.{needs}
 use Rattle.marks.proofs.lines.flat.Statement.{statement}

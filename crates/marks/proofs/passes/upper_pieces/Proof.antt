@@ -11,7 +11,7 @@ use Rattle.integers.proofs.Ranges.{plain-fits}
 use Rattle.optimality.specs.Machine.{quarter}
 use Rattle.optimality.specs.Cells.{Sound, rungs}
 use Rattle.intervals.proofs.Turning.{pmax-most}
-use Rattle.marks.specs.Images.{piece}
+use Rattle.carrying.specs.Images.{piece}
 use Rattle.marks.specs.Turning.{PieceAsked}
 use Rattle.marks.specs.Passing.{Columns, LastPiece, Before, Line}
 use Rattle.marks.proofs.Columns.{columns-none, columns-join, piece-columns, piece-asked, line-ends, size-is, most-fits, last-chunks}
