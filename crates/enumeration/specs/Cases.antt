@@ -4,7 +4,7 @@ use mathlib.Core.Bool.{not}
 use Prim.Native.Nat.{ℕ, _/_, _%_, _≤_}
 use lib.Dec.{eqb}
 use Rattle.enumeration.specs.declared.enumerator.Case.{Case}
-use Rattle.enumeration.specs.Expecting.{room}
+use Rattle.enumeration.specs.Lists.{room}
 
 pub record OfKind (number : ℕ) (case : Case) : Type 0 where
   pub starts : case .starts .limited ≡ eqb (number % 2) 1

@@ -13,13 +13,6 @@ use Rattle.enumeration.specs.declared.enumerator.Which.the-variants.{Sta
 use Rattle.enumeration.specs.declared.enumerator.Worth.{Worth}
 use Rattle.enumeration.specs.declared.enumerator.Worth.the-variants.{None, Empty, Never, Gap}
 
--- the intervals that a list has room for, and the outputs of an interval
-abbrev pub room : ℕ
-room = 9
-
-abbrev pub mostOutputs : ℕ
-mostOutputs = 64
-
 -- after i intervals
 pub record Summed (i : ℕ) (sums : Sums) : Type 0 where
   pub starts : sums .starts ≤ i

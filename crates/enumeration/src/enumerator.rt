@@ -9,9 +9,11 @@ use crate::numbers::wide16;
 use crate::numbers::wide32;
 ghost use mathlib.Core.Path.{_≡_};
 ghost use Prim.Native.Nat.{_+_, _*_, _/_, _<_, _≤_, _^_};
-ghost use Rattle.enumeration.specs.Expecting.{room, mostOutputs, Summed, OneMore, capOf, earnings, WorthOf};
+ghost use Rattle.enumeration.specs.Lists.{room, mostOutputs, intervalsOf, outputsOf, outputOf, listsOf, inFront};
+ghost use Rattle.enumeration.specs.Dates.{isSunday, goesForward, goesBack, daysOf, dateExists};
+ghost use Rattle.enumeration.specs.Expecting.{Summed, OneMore, capOf, earnings, WorthOf};
 
-// The intervals that a list has room for, so that the third hour of the day is reached, and the outputs of an interval. specs/Expecting.antt has the same.
+// The intervals that a list has room for, so that the third hour of the day is reached, and the outputs of an interval. specs/Lists.antt has the same.
 pub const ROOM: usize = 9;
 
 const MOST_OUTPUTS: u64 = 64;
@@ -89,7 +91,7 @@ pub enum Worth {
 
 // The lists have room for so many intervals.
 pub fn intervals_of(case: Case) -> usize
-    ensures { λ r. ⌜ r ≤ room ⌝ }
+    ensures { λ r. ⌜ (r ≡ intervalsOf case) × (r ≤ room) ⌝ }
 {
     let n = case.intervals as usize;
     if ROOM < n {
@@ -100,7 +102,7 @@ pub fn intervals_of(case: Case) -> usize
 
 // Off, or pmin to pmax blocks.
 fn outputs_of(case: Case) -> u64
-    ensures { λ r. ⌜ (1 ≤ r) × (r ≤ mostOutputs) ⌝ }
+    ensures { λ r. ⌜ (r ≡ outputsOf case) × (1 ≤ r) × (r ≤ mostOutputs) ⌝ }
 {
     let low = wide8(case.pmin);
     let high = wide8(case.pmax);
@@ -117,7 +119,7 @@ fn outputs_of(case: Case) -> u64
 // Output 0 is off, output 1 is pmin × block, and so on up.
 fn output_of(case: Case, choice: u64) -> u64
     requires { ⌜ choice < mostOutputs ⌝ }
-    ensures { λ r. ⌜ r < 2 ^ 32 ⌝ }
+    ensures { λ r. ⌜ (r ≡ outputOf case choice) × (r < 2 ^ 32) ⌝ }
 {
     if choice == 0 {
         return 0;
@@ -126,7 +128,9 @@ fn output_of(case: Case, choice: u64) -> u64
 }
 
 // How many lists there are.
-pub fn lists_of(case: Case) -> u64 {
+pub fn lists_of(case: Case) -> u64
+    ensures { λ r. ⌜ r ≡ listsOf case ⌝ }
+{
     let n = intervals_of(case);
     let outputs = outputs_of(case);
     let mut lists = 1;
@@ -139,7 +143,9 @@ pub fn lists_of(case: Case) -> u64 {
 }
 
 // The number's digits, the first interval's the most significant: counting up goes by the order of schedules.
-pub fn list_of(case: Case, number: u64) -> [u32; ROOM] {
+pub fn list_of(case: Case, number: u64) -> [u32; ROOM]
+    ensures { λ r. ⌜ r ≡ inFront case number 0 ⌝ }
+{
     let outputs = outputs_of(case);
     let mut list = [0u32; ROOM];
     let mut rest = number;
@@ -260,30 +266,40 @@ fn hour_after(allowed: Allowed, passed: u64) -> u64
 }
 
 // The second Sunday of March.
-pub fn goes_forward(allowed: Allowed) -> bool {
+pub fn goes_forward(allowed: Allowed) -> bool
+    ensures { λ r. ⌜ r ≡ goesForward allowed ⌝ }
+{
     (allowed.month == 3) & (7 < allowed.day) & (allowed.day < 15) & is_sunday(allowed)
 }
 
 // The first Sunday of November.
-pub fn goes_back(allowed: Allowed) -> bool {
+pub fn goes_back(allowed: Allowed) -> bool
+    ensures { λ r. ⌜ r ≡ goesBack allowed ⌝ }
+{
     (allowed.month == 11) & (allowed.day < 8) & is_sunday(allowed)
 }
 
 // Zeller's congruence, for a year from 2000 to 2099 and a month from March on.
-fn is_sunday(allowed: Allowed) -> bool {
+fn is_sunday(allowed: Allowed) -> bool
+    ensures { λ r. ⌜ r ≡ isSunday allowed ⌝ }
+{
     let year = wide16(allowed.year) % 100;
     let month = wide8(allowed.month);
     (wide8(allowed.day) + 13 * (month + 1) / 5 + year + year / 4) % 7 == 1
 }
 
 // A date that is given is one of its month.
-pub fn date_exists(case: Case) -> bool {
+pub fn date_exists(case: Case) -> bool
+    ensures { λ r. ⌜ r ≡ dateExists case ⌝ }
+{
     let allowed = case.allowed;
     !allowed.given | (wide8(allowed.day) <= days_of(allowed))
 }
 
 // From 2004 to 2096 every fourth year is leap.
-fn days_of(allowed: Allowed) -> u64 {
+fn days_of(allowed: Allowed) -> u64
+    ensures { λ r. ⌜ r ≡ daysOf allowed ⌝ }
+{
     let month = allowed.month;
     match month {
         2 => 28 + one_if(allowed.year % 4 == 0),

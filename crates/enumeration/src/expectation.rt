@@ -6,6 +6,9 @@ use crate::enumerator::ROOM;
 use crate::enumerator::Which;
 use crate::enumerator::Worth;
 use crate::numbers::wide32;
+ghost use mathlib.Core.Path.{_≡_};
+ghost use Rattle.enumeration.specs.Lists.{inFront, untouched};
+ghost use Rattle.enumeration.specs.Dates.{refusalOf};
 ghost use Rattle.enumeration.specs.Expecting.{ExpectedOf, Refused};
 
 // What no output of a small case is: entries that a call leaves as they were still hold it.
@@ -58,7 +61,9 @@ pub fn refused(number: u64) -> Expected
 }
 
 // The number of the call's refusal, or 12 where the date does not exist.
-pub fn refusal_of(case: Case, number: u64) -> u64 {
+pub fn refusal_of(case: Case, number: u64) -> u64
+    ensures { λ r. ⌜ r ≡ refusalOf case number ⌝ }
+{
     if enumerator::date_exists(case) {
         return number;
     }
@@ -66,7 +71,9 @@ pub fn refusal_of(case: Case, number: u64) -> u64 {
 }
 
 // The list in the front of a slice that was lent.
-pub fn schedule_of(case: Case, number: u64) -> [u64; ROOM] {
+pub fn schedule_of(case: Case, number: u64) -> [u64; ROOM]
+    ensures { λ r. ⌜ r ≡ inFront case number untouched ⌝ }
+{
     let list = enumerator::list_of(case, number);
     let n = enumerator::intervals_of(case);
     let mut schedule = [UNTOUCHED; ROOM];

@@ -10,14 +10,17 @@ use crate::numbers::wide32;
 ghost use Prim.Native.Nat.{_+_, _<_, _≤_};
 ghost use lib.Dec.{eqb};
 ghost use Rattle.enumeration.specs.Cases.{OfKind, Dated};
-ghost use Rattle.enumeration.specs.Expecting.{room};
+ghost use Rattle.enumeration.specs.Draws.{drawsFrom};
+ghost use Rattle.enumeration.specs.Lists.{room};
 ghost use mathlib.Core.Path.{_≡_};
 ghost use mathlib.Core.Bool.{not};
 
 // The draws of a case.
 const DRAWS: usize = 32;
 
-pub fn draws_from(seed: u32) -> [u32; DRAWS] {
+pub fn draws_from(seed: u32) -> [u32; DRAWS]
+    ensures { λ r. ⌜ r ≡ drawsFrom seed ⌝ }
+{
     let mut draws = [0u32; DRAWS];
     let mut x = seed;
     let mut i = 0;

@@ -8,6 +8,7 @@ use crate::printing::text;
 use casefile::CaseRead;
 use commitment::UnitRecord;
 use enumeration::lending;
+use enumeration::numbers::one_if;
 
 // 0 where there is no refusal.
 pub fn try_others() {
@@ -55,7 +56,10 @@ fn try_scratch(unit: UnitRecord, prices: &[i64]) {
         b"c1 planned with 587 cells,",
         planned(unit, prices, &mut between),
     );
-    line(b"cells as they were,", lending::untouched(&between));
+    line(
+        b"168 cells 0 and the others as they were,",
+        one_if(lending::is_left(&between, 168)),
+    );
     line(
         b"c1 planned with 168 cells,",
         planned(unit, prices, &mut two),

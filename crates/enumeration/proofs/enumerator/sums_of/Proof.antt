@@ -3,7 +3,8 @@ use borrow.Author.Needs.{needs}
 use native.Mathlib.Omega.{arith}
 use Prim.Native.Nat.{ℕ, _+_, _≤_, _-_}
 use Rattle.enumeration.specs.declared.enumerator.Sums.{Sums}
-use Rattle.enumeration.specs.Expecting.{room, Summed, OneMore}
+use Rattle.enumeration.specs.Expecting.{Summed, OneMore}
+use Rattle.enumeration.specs.Lists.{room}
 use Rattle.enumeration.proofs.enumerator.sums_of.Statement.{statement}
 use Rattle.enumeration.proofs.enumerator.sums_of.Tie as tie
 

@@ -3,7 +3,7 @@ use native.Mathlib.Omega.{arith}
 use native.Mathlib.Nat.{mul-le-mul}
 use Prim.Native.Nat.{ℕ, _*_, _≤_, _<_, _^_}
 use borrow.Author.Needs.{needs}
-use Rattle.enumeration.specs.Expecting.{room}
+use Rattle.enumeration.specs.Lists.{room}
 use Rattle.enumeration.proofs.lending.blocks_of.Statement.{statement}
 use Rattle.enumeration.proofs.lending.blocks_of.Tie as tie
 
@@ -20,7 +20,9 @@ most-left-requires : tie.Need-most-left-requires
 most-left-requires c κs = (omega arith, omega arith, usable c)
 
 returns : tie.Need-returns
-returns c = omega (arith, usable (c .before))
+returns c =
+    let high = c .before in
+    (rw (c .most-left .ensures .0, high .before .wide8 .ensures .0, high .wide82 .ensures .0), omega (arith, usable high))
 
 pub blocks-of-spec : {M : Type 1} → statement M
 blocks-of-spec =

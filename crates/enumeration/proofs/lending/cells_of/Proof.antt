@@ -1,9 +1,10 @@
 -- A product is at most that of the bounds.
+use mathlib.Core.Path.{refl}
 use native.Mathlib.Omega.{arith}
 use native.Mathlib.Nat.{mul-le-mul}
 use Prim.Native.Nat.{ℕ, _+_, _*_, _≤_, _<_, _^_}
 use borrow.Author.Needs.{needs}
-use Rattle.enumeration.specs.Expecting.{room}
+use Rattle.enumeration.specs.Lists.{room}
 use Rattle.enumeration.proofs.lending.cells_of.Statement.{statement}
 use Rattle.enumeration.proofs.lending.cells_of.Tie as tie
 
@@ -28,7 +29,7 @@ mul-result-3 : tie.Need-mul-result-3
 mul-result-3 c = omega (arith, by-blocks _ _ _ _ (c .pre .0) (c .pre .1) (c .pre .2) (c .pre .3))
 
 returns : tie.Need-returns
-returns c = by-blocks _ _ _ _ (c .pre .0) (c .pre .1) (c .pre .2) (c .pre .3)
+returns c = (refl, by-blocks _ _ _ _ (c .pre .0) (c .pre .1) (c .pre .2) (c .pre .3))
 
 pub cells-of-spec : {M : Type 1} → statement M
 cells-of-spec =

@@ -1,4 +1,5 @@
 -- A product is at most that of the two bounds.
+use mathlib.Core.Path.{refl}
 use native.Mathlib.Omega.{arith}
 use native.Mathlib.Nat.{mul-le-mul}
 use Prim.Native.Nat.{ℕ, _<_, _*_, _^_}
@@ -12,7 +13,7 @@ mul-result : tie.Need-mul-result
 mul-result c = omega (arith, bounded (c .args .a) (c .args .b) (c .pre .0) (c .pre .1))
 
 returns : tie.Need-returns
-returns c = bounded (c .args .a) (c .args .b) (c .pre .0) (c .pre .1)
+returns c = (refl, bounded (c .args .a) (c .args .b) (c .pre .0) (c .pre .1))
 
 pub times-spec : {M : Type 1} → statement M
 times-spec = tie.close (tie.spec mul-result returns)

@@ -2,7 +2,7 @@
 use borrow.Author.Needs.{needs}
 use native.Mathlib.Omega.{arith}
 use Prim.Native.Nat.{_≤_, _-_}
-use Rattle.enumeration.specs.Expecting.{room}
+use Rattle.enumeration.specs.Lists.{room}
 use Rattle.trials.proofs.comparison.same_entries.Statement.{statement}
 use Rattle.trials.proofs.comparison.same_entries.Tie as tie
 
