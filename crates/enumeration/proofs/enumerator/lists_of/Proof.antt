@@ -43,14 +43,5 @@ returns c =
 pub lists-of-spec : {M : Type 1} → statement M
 lists-of-spec =
     tie.close
-    (tie.spec
-    Inv-loop
-    μ-loop
-    (λ c κs. search needs)
-    (λ c κs. search needs)
-    (λ c. (omega arith, omega arith, sym (pow-zero (c .outputs-of .result))))
-    mul-lists
-    (λ c. omega arith)
-    (λ c. omega arith)
-    loop-again
-    returns)
+    (tie.spec Inv-loop μ-loop (λ c κs. search needs) (λ c κs. search needs) (λ c. (omega arith, omega arith, sym (pow-zero (c .outputs-of .result))))
+    mul-lists (λ c. omega arith) (λ c. omega arith) loop-again returns)

@@ -24,5 +24,5 @@ returns-2 c =
 pub output-of-spec : {M : Type 1} → statement M
 output-of-spec =
     tie.close
-    (tie.spec (λ c. (rw (c .if1 .taken), omega arith)) (λ c κs. search needs) (λ c. search needs) (λ c. search needs) (λ c κs. search needs) mul-result
-    returns-2)
+    (tie.spec (λ c. (rw (c .if1 .taken), omega arith)) (λ c κs. search needs) (λ c. search needs) (λ c. search needs) (λ c κs. search needs)
+    mul-result returns-2)

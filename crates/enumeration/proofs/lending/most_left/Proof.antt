@@ -56,14 +56,5 @@ returns-3 c =
 pub most-left-spec : {M : Type 1} → statement M
 most-left-spec =
     tie.close
-    (tie.spec Inv-loop μ-loop returns
-    (λ c κs. search needs)
-    (λ c κs. search needs)
-    (λ c. omega arith)
-    (λ c. omega arith)
-    (λ c κs. search needs)
-    returns-2
-    (λ c. omega arith)
-    (λ c. omega arith)
-    (λ c. omega (arith, c .before .times2 .ensures .0))
-    returns-3)
+    (tie.spec Inv-loop μ-loop returns (λ c κs. search needs) (λ c κs. search needs) (λ c. omega arith) (λ c. omega arith) (λ c κs. search needs)
+    returns-2 (λ c. omega arith) (λ c. omega arith) (λ c. omega (arith, c .before .times2 .ensures .0)) returns-3)
