@@ -7,7 +7,7 @@ use lib.ListN.{length, drop, replicate, length-append, length-replicate, length-
 use Rattle.enumeration.specs.declared.enumerator.Case.{Case}
 use Rattle.enumeration.specs.Lists.{room, intervalsOf, outputsOf, outputOf, digits, outputsIn, inFront}
 
-pub digits-count : (base n number : ℕ) → length (digits base n number) ≡ n
+digits-count : (base n number : ℕ) → length (digits base n number) ≡ n
 unfolding digits
 digits-count base zero number = refl
 digits-count base (suc n) number = omega (arith, length-append (digits base n (number / base)) (number % base ∷ []), digits-count base n (number / base))

@@ -16,7 +16,7 @@ goesForward a = eqb (a .month) 3 && ltb 7 (a .day) && ltb (a .day) 15 && isSunda
 abbrev pub goesBack : Allowed → Bool
 goesBack a = eqb (a .month) 11 && ltb (a .day) 8 && isSunday a
 
-abbrev pub ofThirty : ℕ → Bool
+abbrev ofThirty : ℕ → Bool
 ofThirty month = eqb month 4 || eqb month 6 || eqb month 9 || eqb month 11
 
 -- from 2004 to 2096 every fourth year is leap
