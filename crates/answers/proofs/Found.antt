@@ -1,31 +1,34 @@
--- What is found of a text before anything is written and by the work, in turn; and what it says that a text passed.
-use mathlib.Core.Path.{_≡_, refl, sym, ap, _∙_}
-use mathlib.Core.Bool.{Bool, true, false, _&&_, cond}
-use mathlib.Core.List.{List, []}
+-- What is found of a text and by the work, in turn, by what reading it answers.
+use mathlib.Core.Path.{_≡_, refl, sym, ap, ap₂, _∙_}
+use mathlib.Core.Bool.{Bool, true, false}
+use mathlib.Core.List.{List, _∷_}
 use Prim.Native.Nat.{ℕ, _≤_}
-use Rattle.lists.proofs.Conjunctions.{both}
-use borrow.Author.Tests.{leb-true}
+use native.Mathlib.Omega.{arith}
+use borrow.Author.Tests.{le-leb, leb-true}
 use lib.Dec.{leb}
 use lib.IntN.{ℤ}
-use lib.ListN.{length}
+use lib.ListN.{length, take, drop}
+use lib.Seq.{take-append-seam}
 use Rattle.commitment.specs.declared.Cause.{Cause}
-use Rattle.commitment.specs.declared.Cause.the-variants.{Length, NoSchedule}
+use Rattle.commitment.specs.declared.Cause.the-variants.{Length, Scratch}
 use Rattle.commitment.specs.declared.Checked.{Checked}
 use Rattle.commitment.specs.declared.Checked.the-variants.{Passed, Refused}
 use Rattle.commitment.specs.declared.UnitRecord.{UnitRecord}
-use Rattle.commitment.specs.Best.{best}
-use Rattle.commitment.specs.Causes.{unless, firstOf}
+use Rattle.commitment.specs.Causes.{_else_, unless, firstOf}
+use Rattle.commitment.specs.Cells.{cellsNeeded}
 use Rattle.commitment.specs.Ranges.{pricesKept}
-use Rattle.commitment.proofs.Causes.{checkedThen, in-turn, unless-passed, then-passed}
+use Rattle.commitment.proofs.Causes.{checkedThen, in-turn, then-passed}
 use Rattle.commitment.proofs.Passing.{Passing, passing}
-use Rattle.casefile.specs.Reading.{unitIn, pricesIn, writtenChecks, roomChecks, textChecked}
-use Rattle.casefile.proofs.Checking.{text-passed}
-use Rattle.planner.specs.Planning.{hasSchedule, slicesChecks, lentChecked, scheduleChecks, scheduleChecked, planChecked}
+use Rattle.casefile.specs.declared.CaseRead.the-variants as read
+use Rattle.casefile.specs.Answers.{readCase, readPrices}
+use Rattle.casefile.specs.Reading.{unitIn, pricesIn, writtenChecks, roomChecks, writtenChecked, textChecked}
+use Rattle.casefile.proofs.Checking.{WrittenPassed, written-passed, text-in-turn, read-case, read-refused, answer-read}
+use Rattle.planner.specs.Planning.{lentChecked, scheduleChecks, scheduleChecked, planChecked}
 use Rattle.planner.proofs.Lent.{lent-turn, plan-turn}
-use Rattle.answers.specs.declared.Lent.{Lent}
-use Rattle.answers.specs.Answering.{mostPrinted, longEnough, lentChecks, serves, lentFound, allFound, unwritten, printedFor, printed}
+use Rattle.answers.specs.Answering.{allFound}
+use Rattle.answers.specs.Sizes.{priceRoom, cellRoom}
 
-module _ (text : List ℕ) (lent : Lent) where
+module _ (text : List ℕ) where
   abbrev unit : UnitRecord
   unit = unitIn text
 
@@ -35,77 +38,79 @@ module _ (text : List ℕ) (lent : Lent) where
   abbrev count : ℕ
   count = length (pricesIn text)
 
-  -- 7 and 8 of a text whose prices have room
-  abbrev pub slices : Checked
-  slices = firstOf (slicesChecks unit count (leb count (lent .entries) && leb (mostPrinted (unit .permit) count) (lent .bytes)) (lent .cells))
+  -- 8 and 9
+  abbrev worked : Checked
+  worked = firstOf ((leb (cellsNeeded unit count) cellRoom else Scratch) ∷ scheduleChecks unit prices)
 
-  pub lent-in-turn : lentFound text lent ≡ checkedThen (textChecked text (lent .prices)) slices
-  unfolding lentFound textChecked
-  lent-in-turn =
-      let written = writtenChecks text in
-      let room = roomChecks text (lent .prices) in
-      in-turn written (slicesChecks unit count (longEnough (unit .permit) count lent) (lent .cells))
-      ∙ by (firstOf written) (leb count (lent .prices))
-      ∙ ap (λ (k : Checked). checkedThen k slices) (sym (in-turn written room))
+  all-in-turn : allFound text ≡ checkedThen (writtenChecked text) worked
+  unfolding allFound writtenChecked
+  all-in-turn = in-turn (writtenChecks text) ((leb (cellsNeeded unit count) cellRoom else Scratch) ∷ scheduleChecks unit prices)
+
+  all-by : {k : Checked} → writtenChecked text ≡ k → allFound text ≡ checkedThen k worked
+  all-by e = all-in-turn ∙ ap (λ (k : Checked). checkedThen k worked) e
+
+  -- ---- the prices of a text in which no cause was found fit, so that reading gives no 7
+
+  written-passing : writtenChecked text ≡ Passed → Passing unit (pricesKept prices) count
+  written-passing e = passing unit (pricesKept prices) count (written-passed text e .checks)
+
+  room-for : writtenChecked text ≡ Passed → leb count priceRoom ≡ true
+  room-for e = le-leb count priceRoom (omega (arith, written-passing e .order .short))
+
+  turn : {k : Checked} → writtenChecked text ≡ k → textChecked text priceRoom ≡ checkedThen k (firstOf (roomChecks text priceRoom))
+  turn e = text-in-turn text priceRoom ∙ ap (λ (k : Checked). checkedThen k (firstOf (roomChecks text priceRoom))) e
+
+  read-is : textChecked text priceRoom ≡ writtenChecked text
+  read-is = by (writtenChecked text) refl
     where
-      by : (k : Checked) (t : Bool)
-          → checkedThen k (firstOf (slicesChecks unit count
-          (t && (leb count (lent .entries) && leb (mostPrinted (unit .permit) count) (lent .bytes))) (lent .cells)))
-          ≡ checkedThen (checkedThen k (unless t Length Passed)) slices
-      by Passed true = refl
-      by Passed false = refl
-      by (Refused cause) t = refl
+      by : (k : Checked) → writtenChecked text ≡ k → textChecked text priceRoom ≡ writtenChecked text
+      by Passed e = turn e ∙ ap (λ (t : Bool). unless t Length Passed) (room-for e) ∙ sym e
+      by (Refused cause) e = turn e ∙ sym e
 
-  pub all-in-turn : allFound text lent ≡ checkedThen (lentFound text lent) (scheduleChecked unit prices)
-  unfolding lentFound allFound
-  all-in-turn = in-turn (lentChecks text lent) (scheduleChecks unit prices)
+  -- a text whose plan is printed has no cause
+  pub all-passed : allFound text ≡ Passed → WrittenPassed text
+  all-passed e = written-passed text (then-passed (writtenChecked text) worked (sym all-in-turn ∙ e) .0)
 
-  pub refused-in-all : (cause : Cause) → lentFound text lent ≡ Refused cause → allFound text lent ≡ Refused cause
-  refused-in-all cause e = all-in-turn ∙ ap (λ (k : Checked). checkedThen k (scheduleChecked unit prices)) e
+  -- ---- planning with the program's cells finds what is found of the text, with any schedule slice that is long enough
 
-  -- ---- a text that passed
-
-  -- what is found by the work is no 7
-  pub all-written : lentFound text lent ≡ Passed → (served : Bool) → unwritten (allFound text lent) served ≡ false
-  all-written e served =
-      ap (λ (k : Checked). unwritten k served) (all-in-turn ∙ ap (λ (k : Checked). checkedThen k (scheduleChecked unit prices)) e)
-      ∙ by (hasSchedule (best unit prices))
+  pub planned-in-room : writtenChecked text ≡ Passed → (entries : ℕ) → count ≤ entries → planChecked unit prices cellRoom entries ≡ allFound text
+  planned-in-room e entries long =
+      let lent : lentChecked unit prices (leb count entries) cellRoom ≡ unless (leb (cellsNeeded unit count) cellRoom) Scratch Passed =
+      lent-turn unit prices (leb count entries) cellRoom ∙ rw (written-passed text e .checks, le-leb count entries long) in
+      plan-turn unit prices cellRoom entries
+      ∙ ap (λ (k : Checked). checkedThen k (scheduleChecked unit prices)) lent
+      ∙ eight (leb (cellsNeeded unit count) cellRoom)
+      ∙ sym (all-by e)
     where
-      by : (t : Bool) → unwritten (unless t NoSchedule Passed) served ≡ false
-      by true = refl
-      by false = refl
+      eight : (t : Bool) → checkedThen (unless t Scratch Passed) (scheduleChecked unit prices) ≡ unless t Scratch (scheduleChecked unit prices)
+      eight true = refl
+      eight false = refl
 
-  pub case-passing : textChecked text (lent .prices) ≡ Passed → Passing unit (pricesKept prices) count
-  case-passing e = passing unit (pricesKept prices) count (text-passed text (lent .prices) e .checks)
+  -- ---- by what reading answers
 
-  -- so that it is written as it is
-  pub all-lines : lentFound text lent ≡ Passed → printedFor (allFound text lent) unit prices ≡ printed text lent
-  unfolding printed
-  all-lines e =
-      ap (λ (t : Bool). cond t [] (printedFor (allFound text lent) unit prices)) (sym (all-written e (serves (unit .permit) count (lent .bytes))))
+  pub refused-is : (cause : Cause) → readCase text priceRoom ≡ read.Refused cause → allFound text ≡ Refused cause
+  unfolding readCase
+  refused-is cause e = all-by (sym read-is ∙ read-refused (textChecked text priceRoom) unit count cause e)
 
-  pub record Read : Type 0 where
-    pub case : Passing unit (pricesKept prices) count
-    pub fits : count ≤ lent .prices
-    pub bytes : mostPrinted (unit .permit) count ≤ lent .bytes
-    pub lent-is : lentChecked unit prices (leb count (lent .entries)) (lent .cells) ≡ Passed
-    pub plan-is : planChecked unit prices (lent .cells) (lent .entries) ≡ allFound text lent
+  pub record Read (u : UnitRecord) (n : ℕ) : Type 0 where
+    pub unit-is : u ≡ unitIn text
+    pub count-is : n ≡ length (pricesIn text)
+    pub fits : n ≤ priceRoom
+    pub front : (slice : List ℤ) → length slice ≡ priceRoom → take n (readPrices text slice) ≡ pricesIn text
+    pub plan-is : planChecked (unitIn text) (pricesIn text) cellRoom priceRoom ≡ allFound text
 
-  pub passed : lentFound text lent ≡ Passed → Read
-  passed e =
-      let k = then-passed (textChecked text (lent .prices)) slices (sym lent-in-turn ∙ e) in
-      let t = text-passed text (lent .prices) (k .0) in
-      let long = unless-passed (leb count (lent .entries) && leb (mostPrinted (unit .permit) count) (lent .bytes)) Length _ (k .1) in
-      let slice = both (leb count (lent .entries)) (leb (mostPrinted (unit .permit) count) (lent .bytes)) (long .0) in
-      let is : lentChecked unit prices (leb count (lent .entries)) (lent .cells) ≡ Passed =
-      lent-turn unit prices (leb count (lent .entries)) (lent .cells) ∙ rw (t .checks, slice .0) (long .1) in
+  pub read-is-planned : (u : UnitRecord) (n : ℕ) → readCase text priceRoom ≡ read.Case u n → Read u n
+  unfolding readCase
+  read-is-planned u n e =
+      let k = read-case (textChecked text priceRoom) unit u count n e in
+      let passed = sym read-is ∙ k .0 in
       record {
-        case = case-passing (k .0);
-        fits = t .fits;
-        bytes = leb-true (mostPrinted (unit .permit) count) (lent .bytes) (slice .1);
-        lent-is = is;
-        plan-is =
-            plan-turn unit prices (lent .cells) (lent .entries)
-            ∙ ap (λ (k : Checked). checkedThen k (scheduleChecked unit prices)) (is ∙ sym e)
-            ∙ sym all-in-turn;
+        unit-is = sym (k .1);
+        count-is = sym (k .2);
+        fits = omega (arith, k .2, written-passing passed .order .short);
+        front =
+            λ slice long.
+            ap₂ (λ (m : ℕ) (l : List ℤ). take m l) (sym (k .2)) (sym (answer-read text slice (ap (textChecked text) long ∙ k .0) .1))
+            ∙ take-append-seam prices (drop count slice);
+        plan-is = planned-in-room passed priceRoom (leb-true count priceRoom (room-for passed));
       }

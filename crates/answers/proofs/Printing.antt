@@ -1,10 +1,10 @@
 -- What is printed and answered, by what was found of a case and reported.
 use mathlib.Core.Path.{_≡_, refl, sym, ap, _∙_}
-use mathlib.Core.Bool.{Bool, true, cond}
-use mathlib.Core.List.{List, []}
+use mathlib.Core.Bool.{true}
+use mathlib.Core.List.{List}
 use Prim.Native.Nat.{ℕ, _≤_}
 use native.Mathlib.Omega.{arith}
-use borrow.Author.Tests.{le-leb, lt-ltb}
+use borrow.Author.Tests.{lt-ltb}
 use lib.Dec.{leb}
 use lib.IntN.{ℤ}
 use lib.ListN.{length, take}
@@ -20,33 +20,23 @@ use Rattle.commitment.proofs.Causes.{then-passed}
 use Rattle.commitment.proofs.Ranges.{in-range, window-ranges}
 use Rattle.calendar.specs.Words.{pastWords}
 use Rattle.commitment.specs.Valuing.{outcomesOf}
-use Rattle.listing.specs.declared.Fit.{Fit}
-use Rattle.listing.specs.declared.Fit.the-variants.{Bytes, TooLong}
-use Rattle.listing.specs.Listing.{writtenBy, bytesIn, bufferAfter, wordKept}
+use Rattle.casefile.specs.Reading.{unitIn, pricesIn}
+use Rattle.listing.specs.declared.Written.{Written}
+use Rattle.listing.specs.Listing.{fitted, writtenBy, bytesIn, bufferAfter, wordKept}
 use Rattle.listing.proofs.Fitting.{bytes-fit}
 use Rattle.planner.specs.declared.Report.{Report}
 use Rattle.planner.specs.declared.Reported.{Reported}
 use Rattle.planner.specs.declared.Reported.the-variants as reported
 use Rattle.planner.specs.Planning.{plannedBy, plannedCount, plannedPart, scheduleAfter, lentChecked, scheduleChecked, planChecked}
-use Rattle.planner.specs.Reporting.{reportedBy, planIn, reportedNumber}
+use Rattle.planner.specs.Reporting.{reportedBy, planIn}
 use Rattle.planner.proofs.Answering.{plan-in, part-is}
 use Rattle.planner.proofs.Lent.{lent, plan-turn}
 use Rattle.answers.specs.declared.Answered.{Answered}
-use Rattle.answers.specs.declared.Lent.{Lent}
-use Rattle.answers.specs.Answering.{wordOf, reportFor, reportPrinted, printedFor, answeredIn, answeredFor, answered}
+use Rattle.answers.specs.Answering.{wordOf, reportFor, reportPrinted, printedFor, answeredBy, answeredFor, allFound, reportOn, answered}
 
 pub answered-as : {number n bytes b : ℕ} → number ≡ n → bytes ≡ b
     → _≡_ {A = Answered} (record { number = number; bytes = bytes }) (record { number = n; bytes = b })
 answered-as e i = rw (e, i)
-
--- no lines take no bytes and change none
-pub nothing-written : (number : ℕ) (out : List ℕ)
-    → (_≡_ {A = Answered} (record { number = number; bytes = 0 }) (answeredIn number [] (length out))) × (out ≡ bufferAfter [] out)
-nothing-written number out =
-    let fits = sym (le-leb 0 (length out) (omega arith)) in (
-      answered-as refl (ap (λ (t : Bool). bytesIn (writtenBy (cond {A = Fit} t (Bytes 0) TooLong))) fits),
-      ap (λ (t : Bool). cond t out out) fits,
-    )
 
 module _ (found : Checked) (u : UnitRecord) (prices : List ℤ) where
   abbrev part : List ℕ
@@ -58,7 +48,7 @@ module _ (found : Checked) (u : UnitRecord) (prices : List ℤ) where
     Wrote r after = (r ≡ answeredFor found u prices (length out)) × (after ≡ bufferAfter (printedFor found u prices) out)
 
     pub wrote : {lines after : List ℕ} {r : Answered} → lines ≡ reportPrinted (wordOf (u .permit)) answer part
-        → (r ≡ answeredIn (reportedNumber answer) lines (length out)) × (after ≡ bufferAfter lines out) → Wrote r after
+        → (r ≡ answeredBy answer (writtenBy (fitted (length lines) (length out)))) × (after ≡ bufferAfter lines out) → Wrote r after
     wrote same w =
         let lines = same ∙ ap (λ (a : Reported). reportPrinted (wordOf (u .permit)) a part) (sym e) in
         (w .0 ∙ rw (e, sym same), w .1 ∙ ap (λ (text : List ℕ). bufferAfter text out) lines)
@@ -91,6 +81,12 @@ word-kept u prices cells entries r e =
     kept-word (u .permit) (in-range u (lent u prices long cells (before .0) .case .order .ranges) .permit)
 
 -- the bytes of an answer are in the buffer
-pub answered-fits : (text : List ℕ) (lent : Lent) → answered text lent .bytes ≤ lent .bytes
+bytes-by : (answer : Reported) (w : Written) (room : ℕ) → bytesIn w ≤ room → answeredBy answer w .bytes ≤ room
+bytes-by (reported.Report r) w room h = h
+bytes-by (reported.Refused cause) w room h = h
+
+pub answered-fits : (text : List ℕ) (room : ℕ) → answered text room .bytes ≤ room
 unfolding answered
-answered-fits text lent = bytes-fit _ _
+answered-fits text room =
+    let lines = length (printedFor (allFound text) (unitIn text) (pricesIn text)) in
+    bytes-by (reportOn text) (writtenBy (fitted lines room)) room (bytes-fit lines room)

@@ -1,3 +1,3 @@
--- What is answered and printed for the text of a case, what becomes of the slices lent, and what the program lends.
-pub mod Answering
+-- Sizes: what the program has room for. Answering: what is answered and printed for the text of a case.
 pub mod Sizes
+pub mod Answering

@@ -12,7 +12,7 @@ use Rattle.commitment.specs.declared.UnitRecord.{UnitRecord}
 use Rattle.commitment.specs.Causes.{numberOf}
 use Rattle.casefile.specs.declared.CaseRead.{CaseRead}
 use Rattle.casefile.specs.declared.CaseRead.the-variants.{Case, Refused}
-use Rattle.casefile.specs.Reading.{unitIn, pricesIn, textChecked}
+use Rattle.casefile.specs.Reading.{unitIn, pricesIn, writtenChecked, textChecked}
 
 abbrev pub readBy : Checked → UnitRecord → ℕ → CaseRead
 readBy Passed unit count = Case unit count
@@ -27,6 +27,10 @@ pricesLeft (checked.Refused cause) prices slice = slice
 abbrev pub frontPart : Checked → List ℤ → List ℤ
 frontPart Passed prices = prices
 frontPart (checked.Refused cause) prices = []
+
+-- what a text holds, before anything is written
+unfoldable pub caseFound : List ℕ → CaseRead
+caseFound text = readBy (writtenChecked text) (unitIn text) (length (pricesIn text))
 
 -- of a text and a slice with room for so many prices
 unfoldable pub readCase : List ℕ → ℕ → CaseRead

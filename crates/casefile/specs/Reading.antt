@@ -19,7 +19,7 @@ use Rattle.commitment.specs.declared.Permit.the-variants.{AnyHour, Within}
 use Rattle.commitment.specs.declared.Window.{Window}
 use Rattle.commitment.specs.declared.UnitRecord.{UnitRecord}
 use Rattle.commitment.specs.Causes.{Check, _else_, firstOf}
-use Rattle.commitment.specs.Ranges.{pricesKept, caseChecks}
+use Rattle.commitment.specs.Ranges.{pricesKept, caseChecks, caseChecked}
 use Rattle.tabletext.specs.declared.Value.{Value}
 use Rattle.tabletext.specs.declared.Value.the-variants.{Malformed, WordNone, Number}
 use Rattle.tabletext.specs.Pieces.{fieldsOf}
@@ -96,13 +96,14 @@ priceOf head row = centsOf (under priceName (fieldsOf head) (fieldsOf row))
 unfoldable pub pricesIn : List ℕ → List ℤ
 pricesIn text = map (priceOf (priceHead text)) (priceRows text)
 
--- ---- the causes: 1, 2, those of the case, then 7 where the prices do not fit
+-- ---- the causes: 1, 2 and those of the case, which the text alone decides; then 7 where the prices do not fit
 
-abbrev pub caseInChecks : List ℕ → List Check
-caseInChecks text = caseChecks (unitIn text) (pricesKept (pricesIn text)) (length (pricesIn text))
+unfoldable pub caseIn : List ℕ → Checked
+caseIn text = caseChecked (unitIn text) (pricesKept (pricesIn text)) (length (pricesIn text))
 
 abbrev pub writtenChecks : List ℕ → List Check
-writtenChecks text = (formKept text else Form) ∷ (namesKept text else Name) ∷ caseInChecks text
+writtenChecks text =
+    (formKept text else Form) ∷ (namesKept text else Name) ∷ caseChecks (unitIn text) (pricesKept (pricesIn text)) (length (pricesIn text))
 
 abbrev pub roomChecks : List ℕ → ℕ → List Check
 roomChecks text room = (leb (length (pricesIn text)) room else Length) ∷ []
@@ -110,8 +111,8 @@ roomChecks text room = (leb (length (pricesIn text)) room else Length) ∷ []
 abbrev pub textChecks : List ℕ → ℕ → List Check
 textChecks text room = writtenChecks text ++ roomChecks text room
 
-unfoldable pub valuesChecked : List ℕ → ℕ → Checked
-valuesChecked text room = firstOf (caseInChecks text ++ roomChecks text room)
+unfoldable pub writtenChecked : List ℕ → Checked
+writtenChecked text = firstOf (writtenChecks text)
 
 unfoldable pub textChecked : List ℕ → ℕ → Checked
 textChecked text room = firstOf (textChecks text room)

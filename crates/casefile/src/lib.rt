@@ -10,30 +10,56 @@ use commitment::Opening;
 use commitment::Permit;
 use commitment::UnitRecord;
 ghost use mathlib.Core.Path.{_≡_};
-ghost use mathlib.Core.List.{[], _∷_};
-ghost use lib.Dec.{leb};
 ghost use lib.ListN.{length};
 ghost use denote.Ref.{ptr};
-ghost use Rattle.commitment.specs.declared.Cause.the-variants.{Length};
-ghost use Rattle.commitment.specs.declared.Checked.the-variants as checked;
-ghost use Rattle.commitment.specs.Causes.{_else_, firstOf};
-ghost use Rattle.casefile.specs.Answers.{readCase, readPrices, readPart, readNumber, readCount, readUnit, noUnit};
-ghost use Rattle.casefile.specs.Reading.{valuesChecked, textChecked};
+ghost use Rattle.casefile.specs.Answers.{readBy, caseFound, readCase, readPrices, readPart, readNumber, readCount, readUnit, noUnit};
+ghost use Rattle.casefile.specs.Reading.{unitIn, pricesIn, caseIn};
 
 pub enum CaseRead {
     Case { unit: UnitRecord, count: usize },
     Refused(Cause),
 }
 
-// The case of a text, its prices into the front of the slice; or 1, 2, 3, 4, 12, 5 or 7, and the slice is as it was.
+// What a text holds, before anything is written: its record and how many prices; or 1, 2, 3, 4, 12 or 5.
+pub fn found(text: &[u8]) -> CaseRead
+    ensures { λ r. ⌜ r ≡ caseFound (now (text .entry)) ⌝ }
+{
+    if !casetext::form::form_kept(text) {
+        return CaseRead::Refused(Cause::Form);
+    }
+    if !casetext::naming::names_kept(text) {
+        return CaseRead::Refused(Cause::Name);
+    }
+    found_under(text)
+}
+
+// The causes of the case that stands under the names.
+fn found_under(text: &[u8]) -> CaseRead
+    ensures { λ r. ⌜ r ≡ readBy (caseIn (now (text .entry))) (unitIn (now (text .entry))) (length (pricesIn (now (text .entry)))) ⌝ }
+{
+    let unit = fields::unit_in(text);
+    let priced = pricing::prices_kept(text);
+    let count = pricing::prices_counted(text);
+    match checking::check_case(unit, priced, count) {
+        Checked::Refused(cause) => CaseRead::Refused(cause),
+        Checked::Passed => CaseRead::Case { unit, count },
+    }
+}
+
+// The case of a text, its prices into the front of the slice; or what was found, or 7, and the slice is as it was.
 pub fn read_into(text: &[u8], prices: &mut [i64]) -> CaseRead
     ensures { λ r. ⌜ (r ≡ readCase (now (text .entry)) (length (now (prices .entry))))
         × (now (prices .exit) ≡ readPrices (now (text .entry)) (now (prices .entry))) ⌝ }
 {
-    let found = check_text(text, prices.len());
-    match found {
-        Checked::Refused(cause) => CaseRead::Refused(cause),
-        Checked::Passed => taken(text, prices),
+    match found(text) {
+        CaseRead::Refused(cause) => CaseRead::Refused(cause),
+        CaseRead::Case { unit, count } => {
+            if prices.len() < count {
+                return CaseRead::Refused(Cause::Length);
+            }
+            pricing::store(text, prices);
+            CaseRead::Case { unit, count }
+        }
     }
 }
 
@@ -47,53 +73,6 @@ pub fn read<'a>(text: &[u8], prices: &'a mut [i64], number: &mut u64) -> &'a mut
     *number = number_of(answer);
     let count = count_of(answer);
     &mut prices[..count]
-}
-
-// Of a text that passed its check.
-fn taken(text: &[u8], prices: &mut [i64]) -> CaseRead
-    requires { ⌜ textChecked (now text) (length (now prices)) ≡ checked.Passed ⌝ }
-    ensures { λ r. ⌜ (r ≡ readCase (now (text .entry)) (length (now (prices .entry))))
-        × (now (prices .exit) ≡ readPrices (now (text .entry)) (now (prices .entry))) ⌝ }
-{
-    let unit = fields::unit_in(text);
-    let count = pricing::prices_counted(text);
-    pricing::store(text, prices);
-    CaseRead::Case { unit, count }
-}
-
-// What is found of a text before anything is written.
-pub fn check_text(text: &[u8], room: usize) -> Checked
-    ensures { λ r. ⌜ r ≡ textChecked (now (text .entry)) room ⌝ }
-{
-    if !casetext::form::form_kept(text) {
-        return Checked::Refused(Cause::Form);
-    }
-    if !casetext::naming::names_kept(text) {
-        return Checked::Refused(Cause::Name);
-    }
-    check_values(text, room)
-}
-
-// The causes of the case, then 7.
-fn check_values(text: &[u8], room: usize) -> Checked
-    ensures { λ r. ⌜ r ≡ valuesChecked (now (text .entry)) room ⌝ }
-{
-    let unit = fields::unit_in(text);
-    let priced = pricing::prices_kept(text);
-    let count = pricing::prices_counted(text);
-    match checking::check_case(unit, priced, count) {
-        Checked::Refused(cause) => Checked::Refused(cause),
-        Checked::Passed => check_room(count, room),
-    }
-}
-
-fn check_room(count: usize, room: usize) -> Checked
-    ensures { λ r. ⌜ r ≡ firstOf ((leb count room else Length) ∷ []) ⌝ }
-{
-    if room < count {
-        return Checked::Refused(Cause::Length);
-    }
-    Checked::Passed
 }
 
 // 0, or the number of the cause.
@@ -152,5 +131,5 @@ fn no_unit() -> UnitRecord
     }
 }
 
-pub mod fields;
-pub mod pricing;
+mod fields;
+mod pricing;

@@ -4,7 +4,7 @@ use Prim.Native.Nat.{ℕ}
 use Rattle.assessment.specs.declared.Assessed.{Assessed}
 use Rattle.assessment.specs.Assessed.{assessedNumber, assessedProfit}
 use Rattle.casefile.specs.declared.CaseRead.{CaseRead}
-use Rattle.casefile.specs.Answers.{readNumber, readCount, readUnit}
+use Rattle.casefile.specs.declared.CaseRead.the-variants as read
 use Rattle.commitment.specs.declared.Checked.{Checked}
 use Rattle.commitment.specs.declared.Checked.the-variants.{Passed, Refused}
 use Rattle.commitment.specs.declared.windows.ClockRead.{ClockRead}
@@ -15,8 +15,7 @@ use Rattle.costs.specs.Answers.{costedNumber, costedVec, costedSuc, costedMlc}
 use Rattle.curves.specs.declared.Curved.{Curved}
 use Rattle.curves.specs.Answers.{curvedNumber, curvedCount}
 use Rattle.listing.specs.declared.Written.{Written}
-use Rattle.listing.specs.declared.Written.the-variants as written
-use Rattle.listing.specs.Listing.{bytesIn}
+use Rattle.listing.specs.Listing.{writtenNumber, bytesIn}
 use Rattle.planner.specs.declared.Planned.{Planned}
 use Rattle.planner.specs.declared.Reported.{Reported}
 use Rattle.planner.specs.declared.Valued.{Valued}
@@ -33,10 +32,11 @@ use Rattle.exports.specs.declared.numbers.PlanNumbers.{PlanNumbers}
 use Rattle.exports.specs.declared.numbers.ReportNumbers.{ReportNumbers}
 use Rattle.exports.specs.declared.numbers.ValueNumbers.{ValueNumbers}
 use Rattle.exports.specs.declared.numbers.WrittenNumbers.{WrittenNumbers}
-use Rattle.exports.specs.Records.{unitNumbers, outcomesNumbers}
+use Rattle.exports.specs.Records.{unitNumbers, noNumbers, outcomesNumbers}
 
 abbrev pub caseNumbers : CaseRead → CaseNumbers
-caseNumbers answer = record { number = readNumber answer; count = readCount answer; unit = unitNumbers (readUnit answer) }
+caseNumbers (read.Case unit count) = record { number = 0; count = count; unit = unitNumbers unit }
+caseNumbers (read.Refused cause) = record { number = numberOf cause; count = 0; unit = noNumbers }
 
 abbrev pub figuresNumbers : Costed → FiguresNumbers
 figuresNumbers answer =
@@ -74,10 +74,6 @@ cellsNumbers Passed needed long = record { number = 0; needed = needed; table = 
 cellsNumbers (Refused cause) needed long = record { number = numberOf cause; needed = 0; table = 0 }
 
 -- ---- a text written into a buffer
-
-abbrev pub writtenNumber : Written → ℕ
-writtenNumber (written.Bytes bytes) = 0
-writtenNumber (written.Refused cause) = numberOf cause
 
 abbrev pub writtenNumbers : Written → WrittenNumbers
 writtenNumbers answer = record { number = writtenNumber answer; bytes = bytesIn answer }

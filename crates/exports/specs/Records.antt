@@ -79,6 +79,29 @@ unitNumbers u =
       window = windowNumbers (u .permit) .word;
     }
 
+-- of a text that is refused: the limitations none, every other figure 0
+abbrev pub noNumbers : UnitNumbers
+noNumbers =
+    record {
+      block = 0;
+      pmin = 0;
+      pmax = 0;
+      mot = 0;
+      mdt = 0;
+      was = 0;
+      held = 0;
+      vec = 0;
+      mlc = 0;
+      suc = 0;
+      starts = none;
+      hours = none;
+      mwh = none;
+      year = 0;
+      month = 0;
+      day = 0;
+      window = 0;
+    }
+
 -- ---- outcomes: 0 none, 1 empty, 2 never, 3 a gap
 
 abbrev pub outcomeNumbers : Outcome → OutcomeNumbers

@@ -261,6 +261,31 @@ fn unit_numbers(unit: UnitRecord) -> UnitNumbers
     }
 }
 
+// Of a text that is refused: the limitations none, every other figure 0.
+fn no_numbers() -> UnitNumbers
+    ensures { λ r. ⌜ r ≡ records.noNumbers ⌝ }
+{
+    UnitNumbers {
+        block: 0,
+        pmin: 0,
+        pmax: 0,
+        mot: 0,
+        mdt: 0,
+        was: 0,
+        held: 0,
+        vec: 0,
+        mlc: 0,
+        suc: 0,
+        starts: NONE,
+        hours: NONE,
+        mwh: NONE,
+        year: 0,
+        month: 0,
+        day: 0,
+        window: 0,
+    }
+}
+
 // ---- outcomes
 
 fn outcome_from(kind: u64, gap: i64) -> Outcome
@@ -316,10 +341,17 @@ fn outcomes_numbers(outcomes: Outcomes) -> OutcomesNumbers
 pub fn of_case(answer: CaseRead) -> CaseNumbers
     ensures { λ r. ⌜ r ≡ answers.caseNumbers answer ⌝ }
 {
-    CaseNumbers {
-        number: casefile::number_of(answer),
-        count: casefile::count_of(answer),
-        unit: unit_numbers(casefile::unit_of(answer)),
+    match answer {
+        CaseRead::Case { unit, count } => CaseNumbers {
+            number: 0,
+            count,
+            unit: unit_numbers(unit),
+        },
+        CaseRead::Refused(cause) => CaseNumbers {
+            number: commitment::number_of(cause),
+            count: 0,
+            unit: no_numbers(),
+        },
     }
 }
 
@@ -405,11 +437,8 @@ pub fn of_report(answer: Reported) -> ReportNumbers
 pub fn of_written(answer: Written) -> WrittenNumbers
     ensures { λ r. ⌜ r ≡ answers.writtenNumbers answer ⌝ }
 {
-    match answer {
-        Written::Bytes(bytes) => WrittenNumbers { number: 0, bytes },
-        Written::Refused(cause) => WrittenNumbers {
-            number: commitment::number_of(cause),
-            bytes: 0,
-        },
+    WrittenNumbers {
+        number: listing::number_in(answer),
+        bytes: listing::bytes_in(answer),
     }
 }

@@ -11,6 +11,7 @@ use Rattle.commitment.specs.declared.Cause.the-variants.{Range, Length}
 use Rattle.commitment.specs.declared.Outcome.{Outcome}
 use Rattle.commitment.specs.declared.Outcome.the-variants.{None, Empty, Never, Gap}
 use Rattle.commitment.specs.declared.Outcomes.{Outcomes}
+use Rattle.commitment.specs.Causes.{numberOf}
 use Rattle.listing.specs.declared.Fit.{Fit}
 use Rattle.listing.specs.declared.Fit.the-variants.{Bytes, TooLong}
 use Rattle.listing.specs.declared.HourWord.{HourWord}
@@ -118,7 +119,12 @@ abbrev pub listingAfter : List ℕ → ℤ → Outcomes → HourWord → List �
 listingAfter schedule profit outcomes word buffer =
     cond (wordKept word) (bufferAfter (listing schedule profit outcomes word) buffer) buffer
 
--- the bytes written, 0 on a refusal
+-- ---- the number of an answer, 0 where the bytes were written, and how many these are, 0 on a refusal
+
+abbrev pub writtenNumber : Written → ℕ
+writtenNumber (written.Bytes count) = 0
+writtenNumber (written.Refused cause) = numberOf cause
+
 abbrev pub bytesIn : Written → ℕ
 bytesIn (written.Bytes count) = count
 bytesIn (written.Refused cause) = 0

@@ -12,7 +12,7 @@ ghost use Rattle.calendar.specs.Words.{pastWords};
 ghost use Rattle.listing.specs.Numbers.{number, signedNumber};
 ghost use Rattle.listing.specs.Listing.{outcomeText, closed, intervalLine, intervalLines, profitLine, outcomeLines, listing, refusal};
 ghost use Rattle.listing.specs.Listing.{wordKept, hoursLine, windowLine, listingWritten, listingAfter};
-ghost use Rattle.listing.specs.Listing.{fitted, writtenBy, bufferAfter, bytesIn};
+ghost use Rattle.listing.specs.Listing.{fitted, writtenBy, bufferAfter, writtenNumber, bytesIn};
 ghost use Rattle.listing.specs.Writing.{Put, written};
 
 // The hour word of a case, where it has one.
@@ -95,6 +95,16 @@ pub fn write_refusal(number: u64, out: &mut [u8]) -> Written
     let end = put_number(&mut *out, value, number);
     put_byte(out, end, 10);
     Written::Bytes(bytes)
+}
+
+// 0, or the number of the cause.
+pub fn number_in(answer: Written) -> u64
+    ensures { λ r. ⌜ r ≡ writtenNumber answer ⌝ }
+{
+    match answer {
+        Written::Bytes(_) => 0,
+        Written::Refused(cause) => commitment::number_of(cause),
+    }
 }
 
 // The bytes written, 0 on a refusal.

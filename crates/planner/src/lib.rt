@@ -2,7 +2,7 @@
 // found before any work (checks), the scratch that is used (cases): the long table filled, read and cleared (tables), or two layers (pairs).
 
 mod cases;
-pub mod checks;
+mod checks;
 pub mod contents;
 mod pairs;
 mod tables;

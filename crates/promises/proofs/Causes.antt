@@ -1,12 +1,12 @@
 -- A number is given exactly where its cause is the first of the call's order that holds, and an answer exactly where none holds.
 use mathlib.Core.Path.{_≡_, refl, sym, ap, _∙_}
-use mathlib.Core.Bool.{Bool, true, false, _&&_, not}
+use mathlib.Core.Bool.{Bool, true, false, _&&_, cond, false≢true}
 use mathlib.Core.List.{List, [], _∷_, _++_}
-use mathlib.Core.Logic.{_↔_, inl, inr, ⊎-elim, Iff·rfl, Iff·trans}
+use mathlib.Core.Logic.{_↔_, Iff·rfl, Iff·trans}
 use Prim.Native.Nat.{ℕ, _-_, _/_, _<_}
 use native.Mathlib.Omega.{arith}
-use borrow.Author.Tests.{leb-false, lt-leb, eqb-false, ne-eqb, not-true}
-use lib.Dec.{leb, eqb}
+use borrow.Author.Tests.{ltb-false, le-ltb}
+use lib.Dec.{leb}
 use lib.IntN.{ℤ}
 use lib.ListN.{length}
 use Rattle.lists.proofs.Conjunctions.{both}
@@ -15,25 +15,28 @@ use Rattle.calendar.specs.Clock.{clockAfter}
 use Rattle.commitment.specs.declared.Cause.{Cause}
 use Rattle.commitment.specs.declared.windows.ClockRead.the-variants as clock
 use Rattle.commitment.specs.Windows.{clockChecks, clockBy, clockHour}
-use Rattle.commitment.specs.declared.Cause.the-variants.{Length, Scratch, NoSchedule}
+use Rattle.commitment.specs.declared.Cause.the-variants.{Range, Length, Scratch, NoSchedule}
 use Rattle.commitment.specs.declared.Checked.{Checked}
 use Rattle.commitment.specs.declared.Checked.the-variants.{Passed, Refused}
 use Rattle.commitment.specs.declared.CostInputs.{CostInputs}
 use Rattle.commitment.specs.declared.Outcomes.{Outcomes}
 use Rattle.commitment.specs.declared.UnitRecord.{UnitRecord}
 use Rattle.commitment.specs.Best.{Plan, nothing, plan, best}
-use Rattle.commitment.specs.Causes.{numberOf, Check, _else_, unless, firstOf}
+use Rattle.commitment.specs.Causes.{Check, _else_, unless, firstOf}
 use Rattle.commitment.specs.Cells.{cellsNeeded}
 use Rattle.commitment.specs.Figures.{totalMw}
+use Rattle.commitment.specs.Keeping.{keepsCase}
 use Rattle.commitment.specs.Profit.{profit}
-use Rattle.commitment.specs.Ranges.{rangesKept, shapeKept, pricesKept, caseChecks}
+use Rattle.commitment.specs.Ranges.{rangesKept, shapeKept, dateRanged, pricesKept, horizonKept, caseChecks}
+use Rattle.commitment.specs.Rivals.{Rival}
+use Rattle.commitment.specs.Schedule.{isSchedule}
 use Rattle.commitment.specs.Valuing.{outcomesOf}
 use Rattle.commitment.proofs.Causes.{in-turn, unless-passed, then-passed}
 use Rattle.optimality.proofs.Optimal.{no-schedule-exactly}
 use Rattle.casefile.specs.declared.CaseRead.the-variants as read
 use Rattle.casefile.specs.Answers.{readBy, readCase}
 use Rattle.casefile.specs.Reading.{unitIn, pricesIn, writtenChecks, roomChecks, textChecks, textChecked}
-use Rattle.costs.specs.Ranges.{rangeMw, inputsChecks, inputsChecked}
+use Rattle.costs.specs.Ranges.{rangeMw, inputsKept, segmentsKept, inputsChecks, inputsChecked}
 use Rattle.costs.specs.declared.Costed.the-variants as cost
 use Rattle.costs.specs.Answers.{threeFigures, costedBy, costed}
 use Rattle.assessment.specs.declared.Assessed.the-variants as hand
@@ -45,123 +48,20 @@ use Rattle.planner.specs.declared.Valued.the-variants as values
 use Rattle.planner.specs.Planning.{hasSchedule, slicesChecks, scheduleChecks, scheduleChecked, lentChecks, planChecks, planChecked, plannedBy, planned}
 use Rattle.planner.specs.Reporting.{reportedBy, reported}
 use Rattle.planner.specs.Valuing.{valueChecks, valueChecked, valuedBy, valued}
-use Rattle.answers.specs.declared.Lent.{Lent}
-use Rattle.answers.specs.Answering.{longEnough, allFound, reportOn}
-use Rattle.answers.specs.Answering as answers
+use Rattle.listing.specs.declared.Fit.{Fit}
+use Rattle.listing.specs.declared.Fit.the-variants.{Bytes, TooLong}
+use Rattle.listing.specs.declared.HourWord.{HourWord}
+use Rattle.listing.specs.declared.HourWord.the-variants as hours
+use Rattle.listing.specs.declared.Written.{Written}
+use Rattle.listing.specs.declared.Written.the-variants as written
+use Rattle.listing.specs.Listing.{listing, fitted, writtenBy, wordKept, listingWritten}
+use Rattle.answers.specs.Answering.{answerChecks, allFound, reportOn}
+use Rattle.answers.specs.Sizes.{cellRoom}
 use Rattle.promises.specs.Causes.{Reason, _when_, FirstOf, NoneOf, caseCauses, textCauses, readingCauses, costCauses, handedCauses, handInCauses}
 use Rattle.promises.specs.Causes.{NoRival, tableCauses, slicesCauses, planningCauses, valuingCauses, answeringCauses, clockCauses}
-
--- ---- along any list of checks: each fails exactly where its cause holds, where those before it are kept
-
-abbrev pub Judged : List Check → List Reason → Type 0
-Judged [] [] = Unit {0}
-Judged [] (reason ∷ reasons) = ⊥
-Judged (check ∷ checks) [] = ⊥
-Judged (check ∷ checks) (reason ∷ reasons) =
-    (check .cause ≡ reason .cause) × ((check .kept ≡ false) ↔ reason .Holds) × (check .kept ≡ true → Judged checks reasons)
-
--- a check that is kept has no cause that holds
-kept-none : {t : Bool} {Holds : Type 0} → (t ≡ false) ↔ Holds → t ≡ true → Holds → ⊥
-kept-none judged i holds =
-    let no : true ≡ false = sym i ∙ judged .1 holds in
-    let z : _≡_ {A = ℕ} 0 1 = cc in
-    absurd (omega arith)
-
-module _ (first : Cause) (reason : Reason) (same : first ≡ reason .cause) (rest : Checked) (later : List Reason) where
-  refused-step : {cause : Cause} (t : Bool) → (t ≡ false) ↔ reason .Holds → (t ≡ true → (rest ≡ Refused cause) ↔ FirstOf later cause)
-      → (unless t first rest ≡ Refused cause) ↔ FirstOf (reason ∷ later) cause
-  refused-step true judged next =
-      let none = kept-none judged refl in
-      (λ e. inr (none, next refl .0 e), ⊎-elim (λ this. absurd (none (this .1))) (λ further. next refl .1 (further .1)))
-  refused-step {cause} false judged next =
-      let holds = judged .0 refl in (
-        λ e. let here : first ≡ cause = cc in inl (sym same ∙ here, holds),
-        ⊎-elim (λ this. ap Refused (same ∙ this .0)) (λ further. absurd (further .0 holds)),
-      )
-
-  passed-step : (t : Bool) → (t ≡ false) ↔ reason .Holds → (t ≡ true → (rest ≡ Passed) ↔ NoneOf later)
-      → (unless t first rest ≡ Passed) ↔ NoneOf (reason ∷ later)
-  passed-step true judged next = (λ e. (kept-none judged refl, next refl .0 e), λ none. next refl .1 (none .1))
-  passed-step false judged next =
-      (λ e. let z : _≡_ {A = ℕ} 0 1 = cc in absurd (omega arith), λ none. absurd (none .0 (judged .0 refl)))
-
-refused-first : (checks : List Check) (reasons : List Reason) {cause : Cause} → Judged checks reasons
-    → (firstOf checks ≡ Refused cause) ↔ FirstOf reasons cause
-refused-first [] [] judged = (λ e. let z : _≡_ {A = ℕ} 0 1 = cc in absurd (omega arith), λ none. absurd none)
-refused-first [] (reason ∷ reasons) judged = absurd judged
-refused-first (check ∷ checks) [] judged = absurd judged
-refused-first (check ∷ checks) (reason ∷ reasons) judged =
-    refused-step (check .cause) reason (judged .0) (firstOf checks) reasons (check .kept) (judged .1) (λ i. refused-first checks reasons (judged .2 i))
-
-passed-none : (checks : List Check) (reasons : List Reason) → Judged checks reasons → (firstOf checks ≡ Passed) ↔ NoneOf reasons
-passed-none [] [] judged = (λ e. tt, λ none. refl)
-passed-none [] (reason ∷ reasons) judged = absurd judged
-passed-none (check ∷ checks) [] judged = absurd judged
-passed-none (check ∷ checks) (reason ∷ reasons) judged =
-    passed-step (check .cause) reason (judged .0) (firstOf checks) reasons (check .kept) (judged .1) (λ i. passed-none checks reasons (judged .2 i))
-
--- ---- a call's answer, made of what its checks found
-
--- a refusal with the cause found, and another answer where they passed
-pub record Answers {A : Type 0} (answer : Checked → A) (refused : Cause → A) : Type 0 where
-  pub is : (cause : Cause) → answer (Refused cause) ≡ refused cause
-  pub alike : (given cause : Cause) → refused given ≡ refused cause → given ≡ cause
-  pub other : (cause : Cause) → answer Passed ≡ refused cause → ⊥
-
-module _ {A : Type 0} {answer : Checked → A} {refused : Cause → A} (answers : Answers answer refused) where
-  module _ (checks : List Check) (reasons : List Reason) (judged : Judged checks reasons) where
-    -- refused exactly where what was found is, and with its cause
-    pub answer-refused : {cause : Cause} → (answer (firstOf checks) ≡ refused cause) ↔ FirstOf reasons cause
-    answer-refused {cause} = Iff·trans (by (firstOf checks), λ e. ap answer e ∙ answers .is cause) (refused-first checks reasons judged)
-      where
-        by : (k : Checked) → answer k ≡ refused cause → k ≡ Refused cause
-        by Passed e = absurd (answers .other cause e)
-        by (Refused given) e = ap Refused (answers .alike given cause (sym (answers .is given) ∙ e))
-
-    pub answer-given : (answer (firstOf checks) ≡ answer Passed) ↔ NoneOf reasons
-    answer-given = Iff·trans (by (firstOf checks), λ e. ap answer e) (passed-none checks reasons judged)
-      where
-        by : (k : Checked) → answer k ≡ answer Passed → k ≡ Passed
-        by Passed e = refl
-        by (Refused given) e = absurd (answers .other given (sym e ∙ answers .is given))
-
--- ---- where none of a list holds, none of its later part does
-
-pub none-later : (before after : List Reason) → NoneOf (before ++ after) → NoneOf after
-none-later [] after none = none
-none-later (first ∷ before) after none = none-later before after (none .1)
-
--- ---- a cause that stands once in a list is given only where it holds and none before it does
-
-abbrev pub apart : Cause → List Reason → Bool
-apart cause [] = true
-apart cause (reason ∷ reasons) = not (eqb (numberOf (reason .cause)) (numberOf cause)) && apart cause reasons
-
-module _ (reason : Reason) where
-  other : (first : Reason) → not (eqb (numberOf (first .cause)) (numberOf (reason .cause))) ≡ true → first .cause ≡ reason .cause → ⊥
-  other first away same = eqb-false _ _ (not-true _ away) (ap numberOf same)
-
-  not-given : (reasons : List Reason) → apart (reason .cause) reasons ≡ true → FirstOf reasons (reason .cause) → ⊥
-  not-given [] away given = given
-  not-given (first ∷ later) away given =
-      let k = both (not (eqb (numberOf (first .cause)) (numberOf (reason .cause)))) (apart (reason .cause) later) away in
-      ⊎-elim (λ this. other first (k .0) (this .0)) (λ further. not-given later (k .1) (further .1)) given
-
-  pub given-once : (before after : List Reason) → apart (reason .cause) before ≡ true → apart (reason .cause) after ≡ true
-      → FirstOf (before ++ (reason ∷ after)) (reason .cause) → NoneOf before × reason .Holds
-  given-once [] after clear away given = ⊎-elim (λ this. (tt, this .1)) (λ further. absurd (not-given after away (further .1))) given
-  given-once (first ∷ before) after clear away given =
-      let k = both (not (eqb (numberOf (first .cause)) (numberOf (reason .cause)))) (apart (reason .cause) before) clear in
-      ⊎-elim (λ this. absurd (other first (k .0) (this .0)))
-      (λ further. let rest = given-once before after (k .1) away (further .1) in ((further .0, rest .0), rest .1))
-      given
-
--- the checks of the specification: a sum of ranges, at most, as many
-pub at-most : (a b : ℕ) → (leb a b ≡ false) ↔ (b < a)
-at-most a b = (leb-false a b, lt-leb a b)
-
-pub as-many : (a b : ℕ) → (eqb a b ≡ false) ↔ (a ≡ b → ⊥)
-as-many a b = (eqb-false a b, ne-eqb a b)
+use Rattle.promises.specs.Causes.{WordTooLarge, listingCauses, lineCauses}
+use Rattle.promises.proofs.Ranges.{unless-so, at-most, as-many, case-range, cost-range, clock-range, misshapen, no-such-day, no-such-date, horizon}
+use Rattle.promises.proofs.FirstCause.{Judged, refused-first, passed-none, Answers, answer-refused, answer-given}
 
 -- ---- the checks of a case, and of a text, before those of a call, which may rest on what the case kept
 
@@ -171,7 +71,16 @@ module _ (u : UnitRecord) (prices : List ℤ) where
 
   case-judged : (checks : List Check) (reasons : List Reason) → CaseKept (Judged checks reasons)
       → Judged (caseChecks u (pricesKept prices) (length prices) ++ checks) (caseCauses u prices ++ reasons)
-  case-judged checks reasons next = (refl, Iff·rfl, λ ranges. (refl, Iff·rfl, λ shape. (refl, Iff·rfl, λ _. (refl, Iff·rfl, λ _. next ranges shape))))
+  case-judged checks reasons next =
+      let g = u .generator in (
+        refl,
+        unless-so (rangesKept u && pricesKept prices) (case-range u prices),
+        λ ranges. (
+          refl,
+          misshapen (g .block) (g .pmin) (g .pmax),
+          λ shape. (refl, no-such-date (u .permit), λ _. (refl, horizon (length prices), λ _. next ranges shape)),
+        ),
+      )
 
 text-judged : (text : List ℕ) (checks : List Check) (reasons : List Reason) → CaseKept (unitIn text) (pricesIn text) (Judged checks reasons)
     → Judged (writtenChecks text ++ checks) (textCauses text ++ reasons)
@@ -202,8 +111,8 @@ module _ (k : CostInputs) (mws heats : List ℕ) where
   cost-judged : Judged (inputsChecks k mws heats) (costCauses k mws heats)
   cost-judged = (
     refl,
-    Iff·rfl,
-    λ _. (refl, Iff·rfl, λ _. (refl, as-many (totalMw mws) (rangeMw k), λ _. (refl, as-many (length mws) (length heats), λ _. tt))),
+    unless-so (inputsKept k && segmentsKept mws heats) (cost-range k mws heats),
+    λ _. (refl, misshapen (k .block) (k .pmin) (k .pmax), λ _. (refl, as-many (totalMw mws) (rangeMw k), λ _. (refl, as-many (length mws) (length heats), λ _. tt))),
   )
 
   cost-answers : Answers (λ c. costedBy c (threeFigures k mws heats)) cost.Refused
@@ -223,7 +132,13 @@ module _ (u : UnitRecord) (prices : List ℤ) (s : List ℕ) where
   hand-judged : Judged (handInChecks u prices s) (handInCauses u prices s)
   hand-judged =
       case-judged u prices (handedChecks u prices s) (handedCauses u prices s)
-      (λ _ _. (refl, as-many (length s) (length prices), λ _. (refl, Iff·rfl, λ _. tt)))
+      (λ _ _. (refl, as-many (length s) (length prices), λ _. (refl, no-rival-handed, λ _. tt)))
+    where
+      no-rival-handed : ((isSchedule (u .generator) (length prices) s && keepsCase u s) ≡ false) ↔ (Rival u prices s → ⊥)
+      no-rival-handed = unless-so (isSchedule (u .generator) (length prices) s && keepsCase u s) (kept, λ r. rw (r .schedule, r .kept) refl)
+        where
+          kept : (isSchedule (u .generator) (length prices) s && keepsCase u s) ≡ true → Rival u prices s
+          kept e = let k = both (isSchedule (u .generator) (length prices) s) (keepsCase u s) e in record { schedule = k .0; kept = k .1 }
 
   hand-answers : Answers (λ k. assessedBy k (profit u prices s)) hand.Refused
   hand-answers = record { is = λ _. refl; alike = λ _ _ e. cc; other = λ _ e. let z : _≡_ {A = ℕ} 0 1 = cc in absurd (omega arith) }
@@ -293,7 +208,7 @@ module _ (u : UnitRecord) (prices : List ℤ) where
         (slicesCauses u prices cells entries)
         (λ ranges shape. (refl, at-most (length prices) entries, λ _. table-judged cells ranges shape))
 
-    plan-found : planChecked u prices cells entries ≡ Passed → best u prices ≡ nothing → ⊥
+    pub plan-found : planChecked u prices cells entries ≡ Passed → best u prices ≡ nothing → ⊥
     unfolding planChecked
     plan-found passed none = found (lentChecks u prices (leb (length prices) entries) cells) passed none
 
@@ -354,36 +269,36 @@ module _ (u : UnitRecord) (prices : List ℤ) where
 
 -- ---- answering a text
 
-module _ (text : List ℕ) (lent : Lent) where
-  answer-judged : Judged (answers.lentChecks text lent ++ scheduleChecks (unitIn text) (pricesIn text)) (answeringCauses text lent)
+module _ (text : List ℕ) where
+  answer-judged : Judged (answerChecks text) (answeringCauses text)
   answer-judged =
-      let count = length (pricesIn text) in
-      let long = longEnough (unitIn text .permit) count lent in
-      text-judged text (slicesChecks (unitIn text) count long (lent .cells) ++ scheduleChecks (unitIn text) (pricesIn text))
-      ((Length when long ≡ false) ∷ tableCauses (unitIn text) (pricesIn text) (lent .cells))
-      (λ ranges shape. (refl, Iff·rfl, λ _. table-judged (unitIn text) (pricesIn text) (lent .cells) ranges shape))
+      text-judged text (tableChecks (unitIn text) (pricesIn text) cellRoom) (tableCauses (unitIn text) (pricesIn text) cellRoom)
+      (table-judged (unitIn text) (pricesIn text) cellRoom)
 
-  answer-found : allFound text lent ≡ Passed → best (unitIn text) (pricesIn text) ≡ nothing → ⊥
+  answer-found : allFound text ≡ Passed → best (unitIn text) (pricesIn text) ≡ nothing → ⊥
   unfolding allFound
-  answer-found passed none = found (unitIn text) (pricesIn text) (answers.lentChecks text lent) passed none
+  answer-found passed none =
+      found (unitIn text) (pricesIn text)
+      (writtenChecks text ++ ((leb (cellsNeeded (unitIn text) (length (pricesIn text))) cellRoom else Scratch) ∷ [])) passed none
 
-  pub answering-refused : {cause : Cause} → (reportOn text lent ≡ reports.Refused cause) ↔ FirstOf (answeringCauses text lent) cause
+  pub answering-refused : {cause : Cause} → (reportOn text ≡ reports.Refused cause) ↔ FirstOf (answeringCauses text) cause
   unfolding allFound
   answering-refused =
-      Iff·trans (report-refused (unitIn text) (pricesIn text) (allFound text lent) answer-found)
-      (refused-first (answers.lentChecks text lent ++ scheduleChecks (unitIn text) (pricesIn text)) (answeringCauses text lent) answer-judged)
+      Iff·trans (report-refused (unitIn text) (pricesIn text) (allFound text) answer-found)
+      (refused-first (answerChecks text) (answeringCauses text) answer-judged)
 
-  pub answering-answered : ((r : Report) × (reportOn text lent ≡ reports.Report r)) ↔ NoneOf (answeringCauses text lent)
+  pub answering-answered : ((r : Report) × (reportOn text ≡ reports.Report r)) ↔ NoneOf (answeringCauses text)
   unfolding allFound
   answering-answered =
-      Iff·trans (report-given (unitIn text) (pricesIn text) (allFound text lent) answer-found)
-      (passed-none (answers.lentChecks text lent ++ scheduleChecks (unitIn text) (pricesIn text)) (answeringCauses text lent) answer-judged)
+      Iff·trans (report-given (unitIn text) (pricesIn text) (allFound text) answer-found)
+      (passed-none (answerChecks text) (answeringCauses text) answer-judged)
 
 -- ---- the clock hour
 
 module _ (d : Date) (interval : ℕ) where
   clock-judged : Judged (clockChecks d interval) (clockCauses d interval)
-  clock-judged = (refl, Iff·rfl, λ _. (refl, Iff·rfl, λ _. tt))
+  clock-judged =
+      (refl, unless-so (dateRanged d && horizonKept interval) (clock-range d interval), λ _. (refl, no-such-day d, λ _. tt))
 
   clock-answers : Answers (λ k. clockBy k (clockAfter d ((interval - 1) / 4))) clock.Refused
   clock-answers = record { is = λ _. refl; alike = λ _ _ e. cc; other = λ _ e. let z : _≡_ {A = ℕ} 0 1 = cc in absurd (omega arith) }
@@ -393,3 +308,66 @@ module _ (d : Date) (interval : ℕ) where
 
   pub clock-answered : (clockHour d interval ≡ clock.Hour (clockAfter d ((interval - 1) / 4))) ↔ NoneOf (clockCauses d interval)
   clock-answered = answer-given clock-answers (clockChecks d interval) (clockCauses d interval) clock-judged
+
+-- ---- a text into a buffer, and a listing, whose word is judged first
+
+abbrev writtenFor : ℕ → Checked → Written
+writtenFor bytes Passed = written.Bytes bytes
+writtenFor bytes (Refused cause) = written.Refused cause
+
+written-answers : (bytes : ℕ) → Answers (writtenFor bytes) written.Refused
+written-answers bytes = record { is = λ _. refl; alike = λ _ _ e. cc; other = λ _ e. let z : _≡_ {A = ℕ} 0 1 = cc in absurd (omega arith) }
+
+module _ (lines : List ℕ) (room : ℕ) where
+  abbrev lineChecks : List Check
+  lineChecks = (leb (length lines) room else Length) ∷ []
+
+  written-by : writtenBy (fitted (length lines) room) ≡ writtenFor (length lines) (firstOf lineChecks)
+  written-by = by (leb (length lines) room)
+    where
+      by : (t : Bool) → writtenBy (cond {A = Fit} t (Bytes (length lines)) TooLong) ≡ writtenFor (length lines) (unless t Length Passed)
+      by true = refl
+      by false = refl
+
+  line-judged : Judged lineChecks (lineCauses lines room)
+  line-judged = (refl, at-most (length lines) room, λ _. tt)
+
+  pub line-refused : {cause : Cause} → (writtenBy (fitted (length lines) room) ≡ written.Refused cause) ↔ FirstOf (lineCauses lines room) cause
+  line-refused {cause} =
+      Iff·trans (λ e. sym written-by ∙ e, λ e. written-by ∙ e) (answer-refused (written-answers (length lines)) lineChecks (lineCauses lines room) line-judged)
+
+  pub line-written : (writtenBy (fitted (length lines) room) ≡ written.Bytes (length lines)) ↔ NoneOf (lineCauses lines room)
+  line-written =
+      Iff·trans (λ e. sym written-by ∙ e, λ e. written-by ∙ e) (answer-given (written-answers (length lines)) lineChecks (lineCauses lines room) line-judged)
+
+module _ (s : List ℕ) (p : ℤ) (o : Outcomes) (w : HourWord) (room : ℕ) where
+  abbrev lines : List ℕ
+  lines = listing s p o w
+
+  abbrev listingChecks : List Check
+  listingChecks = (wordKept w else Range) ∷ lineChecks lines room
+
+  listing-by : listingWritten s p o w room ≡ writtenFor (length lines) (firstOf listingChecks)
+  listing-by = by (wordKept w)
+    where
+      by : (t : Bool) → cond t (writtenBy (fitted (length lines) room)) (written.Refused Range)
+          ≡ writtenFor (length lines) (unless t Range (firstOf (lineChecks lines room)))
+      by true = written-by lines room
+      by false = refl
+
+  word-judged : (w : HourWord) → (wordKept w ≡ false) ↔ WordTooLarge w
+  word-judged hours.None = (λ e. absurd (false≢true (sym e)), λ no. absurd no)
+  word-judged (hours.Word word) = (λ e. let least = ltb-false word 16777216 e in omega arith, λ h. le-ltb word 16777216 (omega arith))
+
+  listing-judged : Judged listingChecks (listingCauses lines w room)
+  listing-judged = (refl, word-judged w, λ _. line-judged lines room)
+
+  pub listing-refused : {cause : Cause} → (listingWritten s p o w room ≡ written.Refused cause) ↔ FirstOf (listingCauses lines w room) cause
+  listing-refused =
+      Iff·trans (λ e. sym listing-by ∙ e, λ e. listing-by ∙ e)
+      (answer-refused (written-answers (length lines)) listingChecks (listingCauses lines w room) listing-judged)
+
+  pub listing-given : (listingWritten s p o w room ≡ written.Bytes (length lines)) ↔ NoneOf (listingCauses lines w room)
+  listing-given =
+      Iff·trans (λ e. sym listing-by ∙ e, λ e. listing-by ∙ e)
+      (answer-given (written-answers (length lines)) listingChecks (listingCauses lines w room) listing-judged)

@@ -1,9 +1,9 @@
 -- Of a bid curve: a number exactly where its cause is the first of the order that holds, segments exactly where none holds, and on a refusal the
 -- lists as they were.
 use mathlib.Core.Path.{_≡_, refl}
-use mathlib.Core.Bool.{Bool, true, false, _&&_}
+use mathlib.Core.Bool.{_&&_}
 use mathlib.Core.List.{List}
-use mathlib.Core.Logic.{_↔_, _⊎_, inl, inr, ⊎-elim, Iff·rfl}
+use mathlib.Core.Logic.{_↔_}
 use Prim.Native.Nat.{ℕ, _-_}
 use native.Mathlib.Omega.{arith}
 use lib.Dec.{leb, eqb}
@@ -14,26 +14,21 @@ use Rattle.commitment.specs.declared.Checked.the-variants.{Passed, Refused}
 use Rattle.curves.specs.declared.CurveInputs.{CurveInputs}
 use Rattle.curves.specs.declared.Segment.{Segment}
 use Rattle.curves.specs.declared.Curved.the-variants as curve
-use Rattle.curves.specs.Ranges.{curveChecks, curveChecked}
+use Rattle.curves.specs.Ranges.{inputsKept, pointsKept, curveChecks, curveChecked}
 use Rattle.curves.specs.Curve.{finalCurve}
 use Rattle.curves.specs.Answers.{curvedBy, curved, leftBy, curveLeft}
-use Rattle.promises.specs.Causes.{FirstOf, NoneOf}
-use Rattle.promises.specs.Curves.{curveCauses}
-use Rattle.promises.proofs.Causes.{Judged, Answers, answer-refused, answer-given, at-most, as-many}
-
--- one of two checks fails
-either : {A B : Type 0} (a b : Bool) → (a ≡ false) ↔ A → (b ≡ false) ↔ B → (a && b ≡ false) ↔ (A ⊎ B)
-either true b f g = (λ e. inr (g .0 e), ⊎-elim (λ x. let no : true ≡ false = f .1 x in let z : _≡_ {A = ℕ} 0 1 = cc in absurd (omega arith)) (g .1))
-either false b f g = (λ e. inl (f .0 refl), λ w. refl)
+use Rattle.promises.specs.Causes.{FirstOf, NoneOf, curveCauses}
+use Rattle.promises.proofs.FirstCause.{Judged, Answers, answer-refused, answer-given}
+use Rattle.promises.proofs.Ranges.{unless-so, at-most, as-many, either, curve-range, not-rising}
 
 module _ (k : CurveInputs) (levels rates : List ℕ) (room : ℕ) where
   judged : Judged (curveChecks k levels rates room) (curveCauses k levels rates room)
   judged = (
     refl,
-    Iff·rfl,
+    unless-so (inputsKept k && pointsKept levels rates) (curve-range k levels rates),
     λ _. (
       refl,
-      Iff·rfl,
+      not-rising levels,
       λ _. (
         refl,
         either (eqb (length levels) (length rates)) (leb (length levels - 1) room) (as-many (length levels) (length rates))

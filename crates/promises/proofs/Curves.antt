@@ -15,8 +15,7 @@ use Rattle.curves.specs.Answers.{room, curved, curvedNumber, curvedCount, fille
 use Rattle.curves.specs.Laws.{Rises, firstLevel, lastLevel, Covers, Greatest}
 use Rattle.curves.proofs.Curve as curve
 use Rattle.curves.proofs.Answers as answers
-use Rattle.promises.specs.Causes.{FirstOf, NoneOf}
-use Rattle.promises.specs.Curves.{curveCauses}
+use Rattle.promises.specs.Causes.{FirstOf, NoneOf, curveCauses}
 use Rattle.promises.proofs.CurveCauses as causes
 
 -- ---- 3, then 11, then 7: a number is given only where its cause holds, and every cause that holds is met by a refusal

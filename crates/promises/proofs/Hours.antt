@@ -6,7 +6,7 @@ use mathlib.Core.Logic.{_↔_}
 use Prim.Native.Nat.{ℕ, zero, suc, _+_, _-_, _/_}
 use native.Mathlib.Omega.{arith}
 use lib.IntN.{ℤ}
-use lib.ListN.{length, getD}
+use lib.ListN.{getD}
 use Rattle.lists.proofs.Conjunctions.{both}
 use Rattle.calendar.specs.declared.Date.{Date}
 use Rattle.calendar.specs.Dates.{exists}
@@ -28,20 +28,23 @@ use Rattle.listing.specs.Listing.{intervalHeading, valueHeading, intervalLines,
 use Rattle.promises.specs.Causes.{FirstOf, NoneOf, clockCauses}
 use Rattle.promises.proofs.Causes as causes
 
--- ---- the calendar: a date exists exactly when the table of days before each month says; the hours of a March Sunday are 23, of a November Sunday 25,
--- of any other day 24
+-- ---- the calendar: a date exists exactly when the table of days before each month says; on a March Sunday the clock shows 23 hours, 3 after 1, on a
+-- November Sunday 25, 1 twice, and on any other day 24
 
 pub exists-by-table : (d : Date) → exists d ≡ existsByTable d
 exists-by-table = tables.exists-by-table
 
-pub spring-day : (d : Date) → springs d ≡ true → length (hoursOf d) ≡ 23
-spring-day = days.spring-long
+pub spring-day : (d : Date) → springs d ≡ true
+    → hoursOf d ≡ 0 ∷ 1 ∷ 3 ∷ 4 ∷ 5 ∷ 6 ∷ 7 ∷ 8 ∷ 9 ∷ 10 ∷ 11 ∷ 12 ∷ 13 ∷ 14 ∷ 15 ∷ 16 ∷ 17 ∷ 18 ∷ 19 ∷ 20 ∷ 21 ∷ 22 ∷ 23 ∷ []
+spring-day = days.spring-hours
 
-pub fall-day : (d : Date) → falls d ≡ true → length (hoursOf d) ≡ 25
-fall-day = days.fall-long
+pub fall-day : (d : Date) → falls d ≡ true
+    → hoursOf d ≡ 0 ∷ 1 ∷ 1 ∷ 2 ∷ 3 ∷ 4 ∷ 5 ∷ 6 ∷ 7 ∷ 8 ∷ 9 ∷ 10 ∷ 11 ∷ 12 ∷ 13 ∷ 14 ∷ 15 ∷ 16 ∷ 17 ∷ 18 ∷ 19 ∷ 20 ∷ 21 ∷ 22 ∷ 23 ∷ []
+fall-day = days.fall-hours
 
-pub other-day : (d : Date) → springs d ≡ false → falls d ≡ false → length (hoursOf d) ≡ 24
-other-day = days.plain-long
+pub other-day : (d : Date) → springs d ≡ false → falls d ≡ false
+    → hoursOf d ≡ 0 ∷ 1 ∷ 2 ∷ 3 ∷ 4 ∷ 5 ∷ 6 ∷ 7 ∷ 8 ∷ 9 ∷ 10 ∷ 11 ∷ 12 ∷ 13 ∷ 14 ∷ 15 ∷ 16 ∷ 17 ∷ 18 ∷ 19 ∷ 20 ∷ 21 ∷ 22 ∷ 23 ∷ []
+other-day = days.plain-hours
 
 -- ---- the clock hour of an interval is that of the hours passed since the date's midnight, four intervals to the hour; refused with the first of its
 -- causes that holds, and hour 0 with it

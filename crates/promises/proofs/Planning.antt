@@ -2,6 +2,7 @@
 use mathlib.Core.Path.{_≡_, refl, sym, ap, ap₂, subst, _∙_}
 use mathlib.Core.Bool.{Bool, true}
 use mathlib.Core.List.{List, _++_}
+use mathlib.Core.Logic.{_↔_}
 use Prim.Native.Nat.{ℕ}
 use native.Mathlib.Omega.{arith}
 use lib.Dec.{leb}
@@ -12,17 +13,20 @@ use Rattle.commitment.specs.declared.Checked.{Checked}
 use Rattle.commitment.specs.declared.Checked.the-variants.{Passed, Refused}
 use Rattle.commitment.specs.declared.Limitation.{Limitation}
 use Rattle.commitment.specs.declared.Limitation.the-variants.{Starts, Hours, Mwh}
+use Rattle.commitment.specs.declared.Limit.the-variants as limit
+use Rattle.commitment.specs.declared.Outcome.{Outcome}
 use Rattle.commitment.specs.declared.Outcome.the-variants.{Never}
+use Rattle.commitment.specs.declared.Outcome.the-variants as outcome
 use Rattle.commitment.specs.declared.Outcomes.{Outcomes}
 use Rattle.commitment.specs.declared.UnitRecord.{UnitRecord}
 use Rattle.commitment.specs.Best.{Plan, nothing, plan, best}
 use Rattle.commitment.specs.Causes.{firstOf}
 use Rattle.commitment.specs.Ranges.{pricesKept, caseChecked}
-use Rattle.commitment.specs.Rivals.{IsBest}
-use Rattle.commitment.specs.Valuing.{outcomeOf, outcomesOf}
+use Rattle.commitment.specs.Rivals.{Rival, IsBest}
+use Rattle.commitment.specs.Valuing.{lowered, runAt, outcomeOf, outcomesOf}
 use Rattle.commitment.proofs.Causes.{then-passed}
 use Rattle.commitment.proofs.Passing.{passing}
-use Rattle.optimality.specs.Outcomes.{Says}
+use Rattle.optimality.specs.Outcomes.{GapAt, Says}
 use Rattle.optimality.proofs.Optimal.{plan-exactly, outcome-exactly}
 use Rattle.assessment.specs.declared.Assessed.the-variants.{Profit}
 use Rattle.assessment.specs.Assessed.{assessed}
@@ -36,8 +40,9 @@ use Rattle.planner.specs.Reporting.{reportedBy, reported}
 use Rattle.planner.specs.Valuing.{valueLent, valueChecked, valuedBy, valued}
 use Rattle.planner.proofs.Lent.{lent-turn, value-lent, plan-turn, value-turn}
 use Rattle.promises.specs.Causes.{NoRival, caseCauses, tableCauses, slicesCauses}
-use Rattle.promises.specs.Outcomes.{outcomeFor}
-use Rattle.promises.proofs.Causes.{valuing-answered, reporting-answered, none-later}
+use Rattle.promises.specs.Outcomes.{outcomeFor, LowerRun}
+use Rattle.promises.proofs.Causes.{valuing-answered, reporting-answered}
+use Rattle.promises.proofs.FirstCause.{none-later}
 use Rattle.promises.proofs.NoStart.{none-lower-none}
 
 module _ (u : UnitRecord) (prices : List ℤ) where
@@ -134,6 +139,44 @@ module _ (u : UnitRecord) (prices : List ℤ) where
   pub report-says : (cells : ℕ) (was : List ℕ) (r : Report) → reported u prices cells (length was) ≡ reports.Report r
       → (which : Limitation) → Says u prices which (outcomeFor (r .outcomes) which)
   report-says cells was r e = let f = report-given cells was r e in outcomes-of (r .outcomes) (f .0 .case) (f .1)
+
+  -- ---- a gap is given exactly where there is a lower run and it has a schedule
+
+  gap-when : (which : Limitation) (o : Outcome) → Says u prices which o → ((gap : ℤ) × (o ≡ outcome.Gap gap)) ↔ LowerRun u prices which
+  gap-when which o says = (λ given. lower (given .0) (subst (Says u prices which) (given .1) says), λ run. by o says run)
+    where
+      lower : (gap : ℤ) → GapAt u prices which gap → LowerRun u prices which
+      lower gap g =
+          record {
+            figure = g .figure;
+            less = g .less;
+            limited = g .limited;
+            nine-tenths = g .nine-tenths;
+            schedule = g .lower-schedule;
+            keeps = g .lower .own;
+          }
+
+      by : (o : Outcome) → Says u prices which o → LowerRun u prices which → (gap : ℤ) × (o ≡ outcome.Gap gap)
+      by outcome.None none run =
+          let clash : limit.None ≡ limit.At (run .figure) = sym none ∙ run .limited in
+          let z : _≡_ {A = ℕ} 0 1 = cc in
+          absurd (omega arith)
+      by outcome.Empty empty run =
+          let same : empty .figure ≡ run .figure = cc (empty .limited, run .limited) in
+          absurd (omega (arith, sym (empty .nine-tenths) ∙ ap lowered same ∙ run .nine-tenths))
+      by outcome.Never never run =
+          let same : never .figure ≡ run .figure = cc (never .limited, run .limited) in
+          let less : never .less ≡ run .less = omega (arith, sym (never .nine-tenths) ∙ ap lowered same ∙ run .nine-tenths) in
+          absurd (never .none-lower (run .schedule) (subst (λ (n : ℕ). Rival (runAt u which n) prices (run .schedule)) (sym less) (run .keeps)))
+      by (outcome.Gap gap) given run = (gap, refl)
+
+  pub value-gap : (cells : ℕ) (o : Outcomes) → valued u prices cells ≡ values.Outcomes o
+      → (which : Limitation) → ((gap : ℤ) × (outcomeFor o which ≡ outcome.Gap gap)) ↔ LowerRun u prices which
+  value-gap cells o e which = gap-when which (outcomeFor o which) (value-says cells o e which)
+
+  pub report-gap : (cells : ℕ) (was : List ℕ) (r : Report) → reported u prices cells (length was) ≡ reports.Report r
+      → (which : Limitation) → ((gap : ℤ) × (outcomeFor (r .outcomes) which ≡ outcome.Gap gap)) ↔ LowerRun u prices which
+  report-gap cells was r e which = gap-when which (outcomeFor (r .outcomes) which) (report-says cells was r e which)
 
   -- ---- `never` for starts
 

@@ -3,6 +3,7 @@
 use mathlib.Core.Path.{_≡_, refl, sym, ap, _∙_}
 use mathlib.Core.List.{List, _++_}
 use Prim.Native.Nat.{ℕ, _≤_, _<_}
+use native.Mathlib.Omega.{arith}
 use borrow.Author.Tests.{le-leb}
 use lib.Dec.{leb, lit≤}
 use lib.IntN.{ℤ, pos}
@@ -21,7 +22,10 @@ use Rattle.planner.specs.declared.Valued.the-variants as valuing
 use Rattle.planner.specs.Planning.{lentChecked, planChecked, plannedBy, planned, scheduleAfter, scheduleLeft, scratchLeft, partGiven, plannedPart}
 use Rattle.planner.specs.Reporting.{reportedBy, reported}
 use Rattle.planner.specs.Valuing.{valueLent, valueChecked, valuedBy, valued, scratchValued}
+use Rattle.casefile.specs.Reading.{unitIn, pricesIn, writtenChecked}
+use Rattle.answers.specs.Answering.{printedFor, printed}
 use Rattle.answers.specs.Sizes.{cellRoom}
+use Rattle.answers.proofs.Found.{planned-in-room}
 use Rattle.planner.proofs.Lent.{long-used, two-used}
 
 module _ (u : UnitRecord) (prices : List ℤ) (a b : ℕ) (enough : cellsNeeded u (length prices) ≤ a) (also : cellsNeeded u (length prices) ≤ b) where
@@ -53,6 +57,16 @@ module _ (u : UnitRecord) (prices : List ℤ) (a b : ℕ) (enough : cellsNeeded 
 
   pub same-value : valued u prices a ≡ valued u prices b
   same-value = ap (λ (k : Checked). valuedBy k (outcomesOf u prices)) value-found-same
+
+-- ---- and so are the bytes printed for a text: those of the report of its case from any scratch of two layers or more
+
+pub same-printed : (text : List ℕ) (cells : ℕ) → writtenChecked text ≡ Passed → cellsNeeded (unitIn text) (length (pricesIn text)) ≤ cellRoom
+    → cellsNeeded (unitIn text) (length (pricesIn text)) ≤ cells
+    → printedFor (planChecked (unitIn text) (pricesIn text) cells (length (pricesIn text))) (unitIn text) (pricesIn text) ≡ printed text
+unfolding printed
+same-printed text cells passed enough also =
+    ap (λ (k : Checked). printedFor k (unitIn text) (pricesIn text))
+    (found-same (unitIn text) (pricesIn text) cells cellRoom also enough (length (pricesIn text)) ∙ planned-in-room text passed (length (pricesIn text)) (omega arith))
 
 -- ---- the cells used, after planning and after valuing
 

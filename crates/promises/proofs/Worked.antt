@@ -1,7 +1,7 @@
 -- Cases computed from the definitions: C1 whole, from the bytes of its text to the bytes of its listing with the program's slices, without and with an
 -- hour word; and the answers of the calls to C1 to C12 and to the cases of permitted hours.
 use mathlib.Core.Path.{_≡_, refl}
-use mathlib.Core.List.{List, [], _∷_, _++_, map}
+use mathlib.Core.List.{List, [], _∷_, map}
 use Prim.Native.Nat.{ℕ}
 use Rattle.lists.specs.Text.{bytes}
 use Rattle.casefile.specs.Reading.{unitIn, pricesIn}
@@ -9,6 +9,7 @@ use Rattle.commitment.specs.Ranges.{rangesKept, pricesKept}
 use Rattle.casetext.specs.Form.{formKept, namesKept}
 use Rattle.tabletext.specs.Bytes.{isOf}
 use Rattle.tabletext.specs.Values.{isName, isValue, valueOf, numeral}
+use Rattle.writing.specs.Writing.{closing}
 use Rattle.listing.specs.Listing.{listing, refusal}
 use Rattle.listing.specs.Numbers.{number, decimal}
 use Rattle.rounding.specs.Rounding.{rounded}
@@ -25,17 +26,11 @@ use Rattle.costs.specs.Ranges.{inputsKept, segmentsKept, inputsChecked}
 use Rattle.planner.specs.Planning.{planChecked}
 use Rattle.planner.specs.Valuing.{valueChecked}
 use Rattle.answers.specs.Answering.{allFound, printed}
-use Rattle.answers.specs.Sizes.{outRoom, programLends}
 use Rattle.promises.specs.Twelve.{answersOfTwelve, answersOfHours}
-
--- the lines of a text, each with its end
-abbrev linesOf : List (List ℕ) → List ℕ
-linesOf [] = []
-linesOf (line ∷ lines) = line ++ 10 ∷ linesOf lines
 
 abbrev textOf : List ℕ → List ℕ → List ℕ
 textOf names values =
-    linesOf
+    closing
     (
     names
     ∷ values
@@ -56,7 +51,7 @@ text = textOf (bytes "block,pmin,pmax,mot,mdt,was,held,vec,mlc,suc,starts,hours,
 -- what is printed
 abbrev lines : List ℕ
 lines =
-    linesOf
+    closing
     (
     bytes "interval,mw"
     ∷ bytes "1,0"
@@ -74,7 +69,7 @@ lines =
     ∷ []
     )
 
-pub c1-whole : printed text (programLends outRoom) ≡ lines
+pub c1-whole : printed text ≡ lines
 unfolding
     printed allFound unitIn pricesIn listing refusal number decimal formKept namesKept isOf isName isValue valueOf numeral rangesKept pricesKept
 c1-whole = refl
@@ -87,7 +82,7 @@ hour-text =
 
 abbrev hour-lines : List ℕ
 hour-lines =
-    linesOf
+    closing
     (
     bytes "interval,mw"
     ∷ bytes "1,0"
@@ -106,7 +101,7 @@ hour-lines =
     ∷ []
     )
 
-pub hour-whole : printed hour-text (programLends outRoom) ≡ hour-lines
+pub hour-whole : printed hour-text ≡ hour-lines
 unfolding
     printed allFound unitIn pricesIn listing refusal number decimal formKept namesKept isOf isName isValue valueOf numeral rangesKept pricesKept
     clockAfter hoursOf isSunday dayNumber hoursAllowed

@@ -1,28 +1,30 @@
 -- The causes of each call in the order in which it gives them, each with when it holds of the call's inputs.
 use mathlib.Core.Path.{_≡_}
-use mathlib.Core.Bool.{false, _&&_}
+use mathlib.Core.Bool.{false}
 use mathlib.Core.List.{List, [], _∷_, _++_}
 use mathlib.Core.Logic.{_⊎_}
-use Prim.Native.Nat.{ℕ, _<_}
+use Prim.Native.Nat.{ℕ, suc, _-_, _*_, _≤_, _<_}
 use lib.IntN.{ℤ}
-use lib.ListN.{length}
+use lib.ListN.{length, getD}
 use Rattle.calendar.specs.declared.Date as calendar
-use Rattle.calendar.specs.Dates.{exists}
+use Rattle.calendar.specs.Dates.{daysIn}
 use Rattle.commitment.specs.declared.Cause.{Cause}
-use Rattle.commitment.specs.declared.Cause.the-variants.{Form, Name, Range, Shape, Date, Horizon, Segments, Length, Scratch, NoSchedule, NotKept}
+use Rattle.commitment.specs.declared.Cause.the-variants.{Form, Name, Range, Levels, Shape, Date, Horizon, Segments, Length, Scratch, NoSchedule, NotKept}
 use Rattle.commitment.specs.declared.CostInputs.{CostInputs}
+use Rattle.commitment.specs.declared.Permit.{Permit}
+use Rattle.commitment.specs.declared.Permit.the-variants.{AnyHour, Within}
 use Rattle.commitment.specs.declared.UnitRecord.{UnitRecord}
 use Rattle.commitment.specs.Cells.{cellsNeeded}
 use Rattle.commitment.specs.Figures.{totalMw}
-use Rattle.commitment.specs.Keeping.{keepsCase}
-use Rattle.commitment.specs.Ranges.{rangesKept, shapeKept, dateRanged, dateKept, pricesKept, horizonKept}
 use Rattle.commitment.specs.Rivals.{Rival}
-use Rattle.commitment.specs.Schedule.{isSchedule}
 use Rattle.casetext.specs.Form.{formKept, namesKept}
 use Rattle.casefile.specs.Reading.{unitIn, pricesIn}
-use Rattle.costs.specs.Ranges.{inputsKept, segmentsKept, outputsKept, rangeMw}
-use Rattle.answers.specs.declared.Lent.{Lent}
-use Rattle.answers.specs.Answering.{longEnough}
+use Rattle.costs.specs.Ranges.{rangeMw}
+use Rattle.curves.specs.declared.CurveInputs.{CurveInputs}
+use Rattle.listing.specs.declared.HourWord.{HourWord}
+use Rattle.listing.specs.declared.HourWord.the-variants as hours
+use Rattle.answers.specs.Sizes.{cellRoom}
+use Rattle.promises.specs.Ranges.{InRange, PricesInRange, caseFigures, costRanges, curveRanges, clockRanges}
 
 -- a cause of a call, and when it holds; a cause that is not in a call's list does not concern it
 pub record Reason : Type 1 where
@@ -45,12 +47,24 @@ NoneOf (first ∷ later) = (first .Holds → ⊥) × NoneOf later
 
 -- ---- a record and its prices
 
+-- pmin over pmax, or pmax × block over 500
+abbrev pub Misshapen : ℕ → ℕ → ℕ → Type 0
+Misshapen block pmin pmax = (pmax < pmin) ⊎ (500 < pmax * block)
+
+-- the day is none of those of its month
+abbrev pub NoSuchDay : calendar.Date → Type 0
+NoSuchDay d = (1 ≤ d .day) × (d .day ≤ daysIn (d .year) (d .month)) → ⊥
+
+abbrev pub NoSuchDate : Permit → Type 0
+NoSuchDate AnyHour = ⊥
+NoSuchDate (Within w) = NoSuchDay (w .date)
+
 abbrev pub caseCauses : UnitRecord → List ℤ → List Reason
 caseCauses u prices =
-    (Range when (rangesKept u && pricesKept prices) ≡ false)
-    ∷ (Shape when shapeKept (u .generator) ≡ false)
-    ∷ (Date when dateKept (u .permit) ≡ false)
-    ∷ (Horizon when horizonKept (length prices) ≡ false)
+    (Range when (InRange (caseFigures u) × PricesInRange prices → ⊥))
+    ∷ (Shape when Misshapen (u .generator .block) (u .generator .pmin) (u .generator .pmax))
+    ∷ (Date when NoSuchDate (u .permit))
+    ∷ (Horizon when ((length prices ≡ 0) ⊎ (2976 < length prices)))
     ∷ []
 
 -- ---- reading a text into a slice with room for so many prices
@@ -65,8 +79,8 @@ readingCauses text room = textCauses text ++ (Length when room < length (pricesI
 
 abbrev pub costCauses : CostInputs → List ℕ → List ℕ → List Reason
 costCauses k mws heats =
-    (Range when (inputsKept k && segmentsKept mws heats) ≡ false)
-    ∷ (Shape when outputsKept k ≡ false)
+    (Range when (InRange (costRanges k mws heats) → ⊥))
+    ∷ (Shape when Misshapen (k .block) (k .pmin) (k .pmax))
     ∷ (Segments when (totalMw mws ≡ rangeMw k → ⊥))
     ∷ (Length when (length mws ≡ length heats → ⊥))
     ∷ []
@@ -75,7 +89,7 @@ costCauses k mws heats =
 
 abbrev pub handedCauses : UnitRecord → List ℤ → List ℕ → List Reason
 handedCauses u prices s =
-    (Length when (length s ≡ length prices → ⊥)) ∷ (NotKept when (isSchedule (u .generator) (length prices) s && keepsCase u s) ≡ false) ∷ []
+    (Length when (length s ≡ length prices → ⊥)) ∷ (NotKept when (Rival u prices s → ⊥)) ∷ []
 
 abbrev pub handInCauses : UnitRecord → List ℤ → List ℕ → List Reason
 handInCauses u prices s = caseCauses u prices ++ handedCauses u prices s
@@ -97,15 +111,38 @@ planningCauses u prices cells entries = caseCauses u prices ++ slicesCauses u pr
 abbrev pub valuingCauses : UnitRecord → List ℤ → ℕ → List Reason
 valuingCauses u prices cells = caseCauses u prices ++ tableCauses u prices cells
 
--- ---- answering a text, with slices of so many prices, cells, entries and bytes
+-- ---- answering a text, with the program's cells
 
-abbrev pub answeringCauses : List ℕ → Lent → List Reason
-answeringCauses text lent =
-    textCauses text
-    ++ (Length when longEnough (unitIn text .permit) (length (pricesIn text)) lent ≡ false)
-    ∷ tableCauses (unitIn text) (pricesIn text) (lent .cells)
+abbrev pub answeringCauses : List ℕ → List Reason
+answeringCauses text = textCauses text ++ tableCauses (unitIn text) (pricesIn text) cellRoom
 
 -- ---- the clock hour of an interval from a date's midnight on
 
 abbrev pub clockCauses : calendar.Date → ℕ → List Reason
-clockCauses d interval = (Range when (dateRanged d && horizonKept interval) ≡ false) ∷ (Date when exists d ≡ false) ∷ []
+clockCauses d interval = (Range when (InRange (clockRanges d interval) → ⊥)) ∷ (Date when NoSuchDay d) ∷ []
+
+-- ---- a bid curve, into lists that have room for so many segments
+
+-- a level is not above the one before it
+abbrev pub NotRising : List ℕ → Type 0
+NotRising levels = (i : ℕ) × (suc i < length levels) × (getD levels (suc i) 0 ≤ getD levels i 0)
+
+abbrev pub curveCauses : CurveInputs → List ℕ → List ℕ → ℕ → List Reason
+curveCauses k levels rates room =
+    (Range when (InRange (curveRanges k levels rates) → ⊥))
+    ∷ (Levels when NotRising levels)
+    ∷ (Length when ((length levels ≡ length rates → ⊥) ⊎ (room < length levels - 1)))
+    ∷ []
+
+-- ---- the listing of a plan, and the line of a refusal, into a buffer of so many bytes
+
+-- a word of more than 24 bits
+abbrev pub WordTooLarge : HourWord → Type 0
+WordTooLarge hours.None = ⊥
+WordTooLarge (hours.Word word) = 16777215 < word
+
+abbrev pub listingCauses : List ℕ → HourWord → ℕ → List Reason
+listingCauses lines word room = (Range when WordTooLarge word) ∷ (Length when room < length lines) ∷ []
+
+abbrev pub lineCauses : List ℕ → ℕ → List Reason
+lineCauses line room = (Length when room < length line) ∷ []

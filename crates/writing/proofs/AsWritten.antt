@@ -10,8 +10,7 @@ use lib.ListN.{length, take, drop, getD, length-map}
 use lib.Seq.{take-append-seam}
 use borrow.Author.Tests.{leb-true, eqb-true}
 use Rattle.commitment.specs.Bounds.{mostStarts, mostHours, mostMwh}
-use Rattle.commitment.specs.declared.Checked.{Checked}
-use Rattle.commitment.specs.declared.Checked.the-variants.{Passed, Refused}
+use Rattle.commitment.specs.declared.Checked.the-variants.{Passed}
 use Rattle.commitment.specs.declared.Permit.the-variants.{AnyHour, Within}
 use Rattle.commitment.specs.declared.UnitRecord.{UnitRecord}
 use Rattle.commitment.specs.Limits.{limitKept}
@@ -30,13 +29,13 @@ use Rattle.tabletext.specs.Tables.{nameLine, valueLine, occurs, standing, known
 use Rattle.tabletext.specs.Values.{valueOf, isValue}
 use Rattle.tabletext.proofs.Alike.{same-eq}
 use Rattle.casefile.specs.declared.CaseRead.the-variants.{Case}
-use Rattle.casefile.specs.Answers.{readBy, readCase, readPrices}
+use Rattle.casefile.specs.Answers.{readCase, readPrices}
 use Rattle.casetext.specs.Names.{blockName, pminName, pmaxName, motName, mdtName, wasName, heldName, vecName, mlcName, sucName}
 use Rattle.casetext.specs.Names.{startsName, hoursName, mwhName, yearName, monthName, dayName, windowName}
 use Rattle.casetext.specs.Names.{priceName, unitNames, unitOptional, priceNames, priceOptional}
 use Rattle.casetext.specs.Form.{mostBytes, unitHead, unitRow, emptyLine, priceHead, priceRows, isEmpty, tableFormed, formKept, unitNamed, namesKept}
 use Rattle.casefile.specs.Reading.{beyond, wholeOf, limitOf, centsOf, windowOf, permitOf, unitIn, priceOf, pricesIn, textChecked}
-use Rattle.casefile.proofs.Checking.{text-passed, answer-read}
+use Rattle.casefile.proofs.Checking.{text-passed, read-case, answer-read}
 use Rattle.writing.specs.AsWritten.{StandsUnder, limitValue, StandsNowhere, PermitWritten, AsWritten}
 use Rattle.writing.specs.Writing.{namesFor}
 use Rattle.writing.proofs.Places.{nowhere, stands}
@@ -236,7 +235,7 @@ module _ (text : List ℕ) (form : formKept text ≡ true) (names-once : namesKe
       let e : getD (pricesIn text) i (pos 0) ≡ centsOf (valueOf row) = getD-map (priceOf (priceHead text)) (priceRows text) i r ∙ price-at i r in
       cents-is (valueOf row) (omega (arith, prices-small _ (case-kept .prices) i h, ap natAbs e)) ∙ ap Number (sym e)
 
-  text-as-written : AsWritten text (unitIn text) (pricesIn text)
+  pub text-as-written : AsWritten text (unitIn text) (pricesIn text)
   unfolding unitIn
   text-as-written =
       let r = in-ranges in
@@ -265,16 +264,12 @@ module _ (text : List ℕ) (form : formKept text ≡ true) (names-once : namesKe
 
 -- ---- the sentence, of what reading answers and of what it leaves in the slice
 
-read-case : (k : Checked) (u v : UnitRecord) (m n : ℕ) → readBy k u m ≡ Case v n → (k ≡ Passed) × (u ≡ v) × (m ≡ n)
-read-case Passed u v m n e = (refl, (cc), (cc))
-read-case (Refused cause) u v m n e = let z : _≡_ {A = ℕ} 0 1 = cc in absurd (omega arith)
-
 pub read-as-written : (text : List ℕ) (slice : List ℤ) (u : UnitRecord) (count : ℕ) → readCase text (length slice) ≡ Case u count
     → AsWritten text u (take count (readPrices text slice))
 unfolding readCase
 read-as-written text slice u count e =
     let a = read-case (textChecked text (length slice)) (unitIn text) u (length (pricesIn text)) count e in
-    let p = text-passed text (length slice) (a .0) in
+    let p = text-passed text (length slice) (a .0) .written in
     let w = text-as-written text (p .form) (p .names) (p .checks) in
     let front : take count (readPrices text slice) ≡ pricesIn text =
     ap₂ (λ (n : ℕ) (l : List ℤ). take n l) (sym (a .2)) (sym (answer-read text slice (a .0) .1))

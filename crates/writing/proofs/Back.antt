@@ -34,14 +34,16 @@ use Rattle.tabletext.specs.Pieces.{linesOf, fieldsOf}
 use Rattle.tabletext.specs.Tables.{valueLine, occurs, named, under}
 use Rattle.tabletext.specs.Values.{isName, valueOf, wellFormed, isValue}
 use Rattle.tabletext.proofs.Alike.{same-eq}
+use Rattle.commitment.specs.Causes.{firstOf}
+use Rattle.commitment.proofs.Causes.{checkedThen}
 use Rattle.casefile.specs.declared.CaseRead.the-variants.{Case}
 use Rattle.casefile.specs.Answers.{readBy, readCase, readPrices}
 use Rattle.casetext.specs.Names.{blockName, pminName, pmaxName, motName, mdtName, wasName, heldName, vecName, mlcName, sucName}
 use Rattle.casetext.specs.Names.{startsName, hoursName, mwhName, yearName, monthName, dayName, windowName}
 use Rattle.casetext.specs.Names.{priceName, unitNames, unitOptional, datedNames, priceNames, priceOptional}
 use Rattle.casetext.specs.Form.{mostBytes, isEmpty, unitHead, unitRow, priceHead, priceRows, tableFormed, formKept, unitNamed, namesKept}
-use Rattle.casefile.specs.Reading.{wholeOf, limitOf, centsOf, windowOf, permitOf, unitOf, unitIn, priceOf, pricesIn, textChecked}
-use Rattle.casefile.proofs.Checking.{every-map, values-decide, values-turn, answer-read}
+use Rattle.casefile.specs.Reading.{wholeOf, limitOf, centsOf, windowOf, permitOf, unitOf, unitIn, priceOf, pricesIn, caseIn, roomChecks, textChecked}
+use Rattle.casefile.proofs.Checking.{every-map, case-decides, text-in-turn, answer-read}
 use Rattle.writing.specs.Writing.{joined, shownWhole, shownPrice, shownLimit, shownDated, shownField, datedFor, namesFor, written}
 use Rattle.writing.specs.AsWritten.{limitValue}
 use Rattle.writing.proofs.Numbers.{whole-back, price-back, limit-back, whole-unparted, price-unparted, limit-unparted}
@@ -356,8 +358,10 @@ module _ (u : UnitRecord) (prices : List ℤ) (names : List (List ℕ))
     -- ---- what is read
 
     passed : textChecked text room ≡ Passed
+    unfolding caseIn
     passed =
-        sym (values-decide text room form named-text) ∙ values-turn text room
+        text-in-turn text room
+        ∙ ap (λ (k : Checked). checkedThen k (firstOf (roomChecks text room))) (sym (case-decides text form named-text))
         ∙ rw (unit-is, prices-are, kept, le-leb (length prices) room fits)
 
     case-read : readCase text room ≡ Case u (length prices)
