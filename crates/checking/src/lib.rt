@@ -16,8 +16,9 @@ use commitment::Window;
 ghost use mathlib.Core.Path.{_≡_};
 ghost use mathlib.Core.Bool.{true};
 ghost use Rattle.calendar.specs.Dates.{exists};
+ghost use Rattle.commitment.specs.Causes.{firstOf};
 ghost use Rattle.commitment.specs.Limits.{limitKept};
-ghost use Rattle.commitment.specs.Ranges.{caseChecked, generatorKept, openingKept, costsKept, limitsKept};
+ghost use Rattle.commitment.specs.Ranges.{shapeChecks, dateChecks, horizonChecks, caseChecked, generatorKept, openingKept, costsKept, limitsKept};
 ghost use Rattle.commitment.specs.Ranges.{rangesKept, dateRanged, windowKept, permitKept, shapeKept, dateKept, priceKept, pricesKept, horizonKept};
 
 // The ends of the ranges. specs/Bounds.antt of `commitment` has the same.
@@ -58,20 +59,40 @@ const MOST_PRICE: i64 = 200000;
 const MOST_INTERVALS: usize = 2976;
 
 // The first cause for which a case of so many intervals cannot be worked on, whatever call it is for: 3, 4, 12 or 5. The prices are judged by whoever
-// has them, in a slice or in a text.
+// has them, in a slice or in a text. Each test is a function with the rest behind it.
 pub fn check_case(unit: UnitRecord, priced: bool, intervals: usize) -> Checked
     ensures { λ r. ⌜ r ≡ caseChecked unit priced intervals ⌝ }
 {
     if !(ranges_kept(unit) & priced) {
         return Checked::Refused(Cause::Range);
     }
+    check_shape(unit, intervals)
+}
+
+// Figures in their ranges can be multiplied.
+fn check_shape(unit: UnitRecord, intervals: usize) -> Checked
+    requires { ⌜ rangesKept unit ≡ true ⌝ }
+    ensures { λ r. ⌜ r ≡ firstOf (shapeChecks unit intervals) ⌝ }
+{
     if !shape_kept(unit) {
         return Checked::Refused(Cause::Shape);
     }
+    check_date(unit, intervals)
+}
+
+fn check_date(unit: UnitRecord, intervals: usize) -> Checked
+    ensures { λ r. ⌜ r ≡ firstOf (dateChecks unit intervals) ⌝ }
+{
     let permit = unit.permit;
     if !date_kept(permit) {
         return Checked::Refused(Cause::Date);
     }
+    check_horizon(intervals)
+}
+
+fn check_horizon(intervals: usize) -> Checked
+    ensures { λ r. ⌜ r ≡ firstOf (horizonChecks intervals) ⌝ }
+{
     if !horizon_kept(intervals) {
         return Checked::Refused(Cause::Horizon);
     }

@@ -1,9 +1,10 @@
 -- The laws of a list of checks: what passes it, and one list after another.
-use mathlib.Core.Path.{_≡_, refl}
-use mathlib.Core.Bool.{Bool, true, false}
+use mathlib.Core.Path.{_≡_, refl, sym, ap, _∙_}
+use mathlib.Core.Bool.{Bool, true, false, not}
 use mathlib.Core.List.{List, [], _∷_, _++_}
 use Prim.Native.Nat.{ℕ}
 use native.Mathlib.Omega.{arith}
+use borrow.Author.Tests.{not-true, not-false}
 use Rattle.commitment.specs.declared.Cause.{Cause}
 use Rattle.commitment.specs.declared.Checked.{Checked}
 use Rattle.commitment.specs.declared.Checked.the-variants.{Passed, Refused}
@@ -14,6 +15,15 @@ use Rattle.commitment.specs.Causes.{Check, unless, firstOf}
 pub unless-passed : (t : Bool) (cause : Cause) (rest : Checked) → unless t cause rest ≡ Passed → (t ≡ true) × (rest ≡ Passed)
 unless-passed true cause rest e = (refl, e)
 unless-passed false cause rest e = let z : _≡_ {A = ℕ} 0 1 = cc in absurd (omega arith)
+
+-- ---- a test in code, `if !test { return refused; }` and the rest: what it returns either way
+
+module _ {test kept : Bool} (is : test ≡ kept) (cause : Cause) (rest : Checked) where
+  pub unless-refused : not test ≡ true → Refused cause ≡ unless kept cause rest
+  unless-refused taken = ap (λ (t : Bool). unless t cause rest) (sym (not-true test taken) ∙ is)
+
+  pub unless-kept : not test ≡ false → rest ≡ unless kept cause rest
+  unless-kept left = ap (λ (t : Bool). unless t cause rest) (sym (not-false test left) ∙ is)
 
 -- ---- further checks, after those that come first
 

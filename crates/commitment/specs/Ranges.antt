@@ -83,15 +83,19 @@ pricesKept prices = every priceKept prices
 abbrev pub horizonKept : ℕ → Bool
 horizonKept n = leb 1 n && leb n mostIntervals
 
--- ---- the checks of a case of n intervals, whose prices are kept or not: 3, 4, 12, 5
+-- ---- the checks of a case of n intervals, whose prices are kept or not: 3, 4, 12, 5, each with those after it
+
+abbrev pub horizonChecks : ℕ → List Check
+horizonChecks n = (horizonKept n else cause.Horizon) ∷ []
+
+abbrev pub dateChecks : UnitRecord → ℕ → List Check
+dateChecks u n = (dateKept (u .permit) else cause.Date) ∷ horizonChecks n
+
+abbrev pub shapeChecks : UnitRecord → ℕ → List Check
+shapeChecks u n = (shapeKept (u .generator) else cause.Shape) ∷ dateChecks u n
 
 abbrev pub caseChecks : UnitRecord → Bool → ℕ → List Check
-caseChecks u priced n =
-    (rangesKept u && priced else cause.Range)
-    ∷ (shapeKept (u .generator) else cause.Shape)
-    ∷ (dateKept (u .permit) else cause.Date)
-    ∷ (horizonKept n else cause.Horizon)
-    ∷ []
+caseChecks u priced n = (rangesKept u && priced else cause.Range) ∷ shapeChecks u n
 
 unfoldable pub caseChecked : UnitRecord → Bool → ℕ → Checked
 caseChecked u priced n = firstOf (caseChecks u priced n)

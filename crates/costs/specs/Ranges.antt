@@ -1,5 +1,6 @@
 -- The ranges of the inputs of the cost figures, and the check of them before anything is worked out (specification 10).
-use mathlib.Core.Bool.{Bool, _&&_}
+use mathlib.Core.Path.{_≡_}
+use mathlib.Core.Bool.{Bool, true, _&&_}
 use mathlib.Core.List.{List, [], _∷_}
 use Prim.Native.Nat.{ℕ, _-_, _*_}
 use lib.Dec.{leb, eqb}
@@ -61,15 +62,24 @@ outputsKept k = leb (k .pmin) (k .pmax) && leb (k .pmax * k .block) mostMw
 abbrev pub rangeMw : CostInputs → ℕ
 rangeMw k = (k .pmax - k .pmin) * k .block
 
--- ---- the causes: 3, 4, 6, 7
+-- ---- the causes: 3, 4, 6, 7, each check with those after it
+
+abbrev pub lengthChecks : ℕ → ℕ → List Check
+lengthChecks mws heats = (eqb mws heats else Length) ∷ []
+
+abbrev pub totalChecks : CostInputs → List ℕ → List ℕ → List Check
+totalChecks k mws heats = (eqb (totalMw mws) (rangeMw k) else Segments) ∷ lengthChecks (length mws) (length heats)
+
+abbrev pub outputChecks : CostInputs → List ℕ → List ℕ → List Check
+outputChecks k mws heats = (outputsKept k else Shape) ∷ totalChecks k mws heats
 
 abbrev pub inputsChecks : CostInputs → List ℕ → List ℕ → List Check
-inputsChecks k mws heats =
-    (inputsKept k && segmentsKept mws heats else Range)
-    ∷ (outputsKept k else Shape)
-    ∷ (eqb (totalMw mws) (rangeMw k) else Segments)
-    ∷ (eqb (length mws) (length heats) else Length)
-    ∷ []
+inputsChecks k mws heats = (inputsKept k && segmentsKept mws heats else Range) ∷ outputChecks k mws heats
 
 unfoldable pub inputsChecked : CostInputs → List ℕ → List ℕ → Checked
 inputsChecked k mws heats = firstOf (inputsChecks k mws heats)
+
+-- inputs and segments in their ranges
+pub record Ranged (k : CostInputs) (mws heats : List ℕ) : Type 0 where
+  pub inputs : inputsKept k ≡ true
+  pub segments : segmentsKept mws heats ≡ true

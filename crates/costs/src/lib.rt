@@ -12,6 +12,8 @@ ghost use Rattle.commitment.specs.declared.Checked.the-variants.{Passed};
 ghost use Rattle.lists.specs.Every.{every};
 ghost use Rattle.commitment.specs.Bounds.{mostMw};
 ghost use Rattle.commitment.specs.Figures.{vecOf, sucOf, mlcOf, totalMw};
+ghost use Rattle.commitment.specs.Causes.{firstOf};
+ghost use Rattle.costs.specs.Ranges.{Ranged, lengthChecks, totalChecks, outputChecks};
 ghost use Rattle.costs.specs.Ranges.{oneTo, sizesKept, tariffsKept, ratesKept, startKept, inputsKept, segmentsKept, outputsKept, inputsChecked};
 ghost use Rattle.costs.specs.Answers.{costed, threeFigures};
 ghost use Rattle.costs.specs.Sizes.{HeatSizes, StartSizes, LoadSizes};
@@ -80,15 +82,36 @@ fn check_inputs(inputs: CostInputs, mws: &[u64], heats: &[u64]) -> Checked
     if !(inputs_kept(inputs) & segments_kept(mws, heats)) {
         return Checked::Refused(Cause::Range);
     }
+    check_outputs(inputs, mws, heats)
+}
+
+fn check_outputs(inputs: CostInputs, mws: &[u64], heats: &[u64]) -> Checked
+    requires { ⌜ Ranged inputs (now mws) (now heats) ⌝ }
+    ensures { λ r. ⌜ r ≡ firstOf (outputChecks inputs (now (mws .entry)) (now (heats .entry))) ⌝ }
+{
     if !outputs_kept(inputs) {
         return Checked::Refused(Cause::Shape);
     }
+    check_total(inputs, mws, heats)
+}
+
+// Outputs that are kept have a range of MW, and the segments a sum.
+fn check_total(inputs: CostInputs, mws: &[u64], heats: &[u64]) -> Checked
+    requires { ⌜ (Ranged inputs (now mws) (now heats)) × (outputsKept inputs ≡ true) ⌝ }
+    ensures { λ r. ⌜ r ≡ firstOf (totalChecks inputs (now (mws .entry)) (now (heats .entry))) ⌝ }
+{
     let total = total_mw(mws);
     let range = (inputs.pmax - inputs.pmin) * inputs.block;
     if total != range {
         return Checked::Refused(Cause::Segments);
     }
-    if mws.len() != heats.len() {
+    check_lengths(mws.len(), heats.len())
+}
+
+fn check_lengths(mws: usize, heats: usize) -> Checked
+    ensures { λ r. ⌜ r ≡ firstOf (lengthChecks mws heats) ⌝ }
+{
+    if mws != heats {
         return Checked::Refused(Cause::Length);
     }
     Checked::Passed

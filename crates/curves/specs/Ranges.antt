@@ -40,14 +40,16 @@ rising (level ∷ levels) = risingFrom level levels
 abbrev pub lengthsKept : List ℕ → List ℕ → ℕ → Bool
 lengthsKept levels rates room = eqb (length levels) (length rates) && leb (length levels - 1) room
 
--- ---- the causes: 3, 11, 7
+-- ---- the causes: 3, 11, 7, each check with those after it
+
+abbrev pub lengthChecks : List ℕ → List ℕ → ℕ → List Check
+lengthChecks levels rates room = (lengthsKept levels rates room else Length) ∷ []
+
+abbrev pub levelChecks : List ℕ → List ℕ → ℕ → List Check
+levelChecks levels rates room = (rising levels else Levels) ∷ lengthChecks levels rates room
 
 abbrev pub curveChecks : CurveInputs → List ℕ → List ℕ → ℕ → List Check
-curveChecks k levels rates room =
-    (inputsKept k && pointsKept levels rates else Range)
-    ∷ (rising levels else Levels)
-    ∷ (lengthsKept levels rates room else Length)
-    ∷ []
+curveChecks k levels rates room = (inputsKept k && pointsKept levels rates else Range) ∷ levelChecks levels rates room
 
 unfoldable pub curveChecked : CurveInputs → List ℕ → List ℕ → ℕ → Checked
 curveChecked k levels rates room = firstOf (curveChecks k levels rates room)

@@ -4,12 +4,13 @@
 use commitment::Cause;
 use commitment::Checked;
 ghost use mathlib.Core.Path.{_≡_};
-ghost use mathlib.Core.Bool.{cond};
+ghost use mathlib.Core.Bool.{true, cond};
 ghost use Prim.Native.Nat.{_+_, _<_};
 ghost use lib.ListN.{length, set, getD};
 ghost use Rattle.commitment.specs.declared.Checked.the-variants.{Passed};
 ghost use Rattle.curves.specs.Ranges as ranges;
-ghost use Rattle.curves.specs.Ranges.{inputsKept, countKept, pointsKept, curveChecked};
+ghost use Rattle.commitment.specs.Causes.{firstOf};
+ghost use Rattle.curves.specs.Ranges.{inputsKept, countKept, pointsKept, levelChecks, lengthChecks, curveChecked};
 ghost use Rattle.curves.specs.Curve.{incrementalRate, priceFraction, ownPrice, finalCurve};
 ghost use Rattle.curves.specs.Answers as answers;
 ghost use Rattle.curves.specs.Answers.{curved, fromsLeft, tosLeft, pricesLeft, filled, fromOf, toOf, priceOf};
@@ -85,9 +86,24 @@ fn check_curve(inputs: CurveInputs, levels: &[u64], rates: &[u64], room: usize) 
     if !(inputs_kept(inputs) & points_kept(levels, rates)) {
         return Checked::Refused(Cause::Range);
     }
+    check_levels(levels, rates, room)
+}
+
+fn check_levels(levels: &[u64], rates: &[u64], room: usize) -> Checked
+    requires { ⌜ pointsKept (now levels) (now rates) ≡ true ⌝ }
+    ensures { λ r. ⌜ r ≡ firstOf (levelChecks (now (levels .entry)) (now (rates .entry)) room) ⌝ }
+{
     if !rising(levels) {
         return Checked::Refused(Cause::Levels);
     }
+    check_lengths(levels, rates, room)
+}
+
+// There are points, so that one can be taken from their number.
+fn check_lengths(levels: &[u64], rates: &[u64], room: usize) -> Checked
+    requires { ⌜ pointsKept (now levels) (now rates) ≡ true ⌝ }
+    ensures { λ r. ⌜ r ≡ firstOf (lengthChecks (now (levels .entry)) (now (rates .entry)) room) ⌝ }
+{
     if !((levels.len() == rates.len()) & (levels.len() - 1 <= room)) {
         return Checked::Refused(Cause::Length);
     }
