@@ -2,7 +2,6 @@
 use mathlib.Core.Path.{_≡_, refl, subst}
 use mathlib.Core.Bool.{Bool, true, false, cond, _&&_}
 use mathlib.Core.List.{List, _∷_}
-use mathlib.Core.Logic.{⊎-elim}
 use Prim.Native.Nat.{ℕ, zero, suc, _+_, _*_, _≤_, _<_}
 use native.Mathlib.Nat.{mul-le-mul, mul-le-mul-left, mul-le-mul-right}
 use native.Mathlib.Omega.{arith}
@@ -10,46 +9,23 @@ use borrow.Author.Tests.{leb-true, ltb-true}
 use lib.Dec.{leb, ltb}
 use lib.IntN.{ℤ, pos, natAbs}
 use lib.ListN.{length}
-use lib.Signed.{ltZ, _≤ℤ_, _<ℤ_}
 use Rattle.commitment.specs.Bounds.{mostPrice, mostIntervals}
 use Rattle.integers.specs.Maximum.{maxℤ}
-use Rattle.integers.proofs.Linear.{zarith}
-use Rattle.integers.proofs.Order.{ltZ-dec, lt-ltZ, le-ltZ}
 use Rattle.integers.proofs.Ranges.{Within, within-at, within-weaken, within-diff, abs-within}
 use Rattle.lists.proofs.Conjunctions.{both}
 use Rattle.commitment.proofs.Margins.{margin-within, mostMargin}
 use Rattle.optimality.specs.declared.Figures.{Figures}
 use Rattle.optimality.specs.declared.Cell.{Cell}
 use Rattle.commitment.specs.declared.BestProfit.{BestProfit}
-use Rattle.commitment.specs.declared.BestProfit.the-variants.{Nothing, Profit}
 use Rattle.optimality.specs.Machine.{Quarter, quarter, go, allow, more, valueAlong}
 use Rattle.optimality.specs.Cells.{Sound, InTable, states, afterOff, afterOn, startTakes, startPays, mayRun, gain}
 use Rattle.optimality.specs.Cells.{offCell, onCell, rungs, valueAt, offValue, onValue, onBest}
+use Rattle.optimality.proofs.Values.{more-assoc}
 use Rattle.optimality.proofs.Turns.{more-none, value-turn, value-shut, may-not-run, off-in-table, on-in-table}
 use Rattle.geometry.specs.Layers.{infeasible, swing, Holds, Layer, mostPays}
 use Rattle.intervals.specs.Turns.{net, slope, raised, offStored, roomFor, onStored, cellStored, quarterStored}
 use Rattle.intervals.proofs.Raising.{raised-none, raised-next}
 use Rattle.geometry.proofs.Holding.{Offers, holds-more, offers-plus, holds-stay, holds-none}
-
--- ---- `more` is associative
-
-more-assoc : (u v w : BestProfit) → more (more u v) w ≡ more u (more v w)
-more-assoc Nothing v w = refl
-more-assoc (Profit p) Nothing w = refl
-more-assoc (Profit p) (Profit q) Nothing = more-none (cond (ltZ p q) (Profit q) (Profit p))
-more-assoc (Profit p) (Profit q) (Profit r) =
-    ⊎-elim
-    (λ (i : (ltZ p q ≡ true) × (p <ℤ q)).
-    ⊎-elim
-    (λ (j : (ltZ q r ≡ true) × (q <ℤ r)). let h : p <ℤ r = omega zarith in simp (i .0, j .0, lt-ltZ p r h))
-    (λ (j : (ltZ q r ≡ false) × (r ≤ℤ q)). simp (i .0, j .0))
-    (ltZ-dec q r))
-    (λ (i : (ltZ p q ≡ false) × (q ≤ℤ p)).
-    ⊎-elim
-    (λ (j : (ltZ q r ≡ true) × (q <ℤ r)). simp (i .0, j .0))
-    (λ (j : (ltZ q r ≡ false) × (r ≤ℤ q)). let h : r ≤ℤ p = omega zarith in simp (i .0, j .0, le-ltZ p r h))
-    (ltZ-dec q r))
-    (ltZ-dec p q)
 
 -- ---- where the unit may run
 

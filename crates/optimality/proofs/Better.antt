@@ -17,7 +17,7 @@ pub better-nothing : (a : Plan) → better a nothing ≡ a
 better-nothing nothing = refl
 better-nothing (plan s p) = refl
 
-better-assoc : (a b c : Plan) → better (better a b) c ≡ better a (better b c)
+pub better-assoc : (a b c : Plan) → better (better a b) c ≡ better a (better b c)
 better-assoc nothing b c = refl
 better-assoc (plan s p) nothing c = refl
 better-assoc (plan s p) (plan t q) nothing = better-nothing (cond (ltZ p q) (plan t q) (plan s p))

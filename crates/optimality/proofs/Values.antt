@@ -12,6 +12,7 @@ use Rattle.integers.proofs.Order.{ltZ-dec}
 use Rattle.commitment.specs.Best.{Plan, nothing, plan, better, firstBest, profitOf}
 use Rattle.commitment.specs.declared.BestProfit.{BestProfit}
 use Rattle.commitment.specs.declared.BestProfit.the-variants.{Nothing, Profit}
+use Rattle.optimality.proofs.Better.{better-assoc}
 use Rattle.optimality.specs.Machine.{Step, stop, go, ended, after, along, bestFrom, more, most, plus, valueAlong, valueFrom}
 
 pub no-earning : {p : ℤ} → Nothing ≡ Profit p → ⊥
@@ -35,6 +36,15 @@ value-after m g (plan s p) = refl
 value-ended : (v : BestProfit) → profitOf (ended v) ≡ v
 value-ended Nothing = refl
 value-ended (Profit p) = refl
+
+-- so the larger of two profits is as associative as the better of two plans
+pub more-assoc : (u v w : BestProfit) → more (more u v) w ≡ more u (more v w)
+more-assoc u v w =
+    let a = ended u in
+    let b = ended v in
+    let c = ended w in
+    rw (value-ended u, value-ended v, value-ended w)
+    at (rw (value-better (better a b) c, value-better a b, value-better a (better b c), value-better b c) at (ap profitOf (better-assoc a b c)))
 
 value-along : {State : Type 0} (m : ℕ) (t : Step State) (f : State → Plan) (v : State → BestProfit) → ((x : State) → profitOf (f x) ≡ v x)
     → profitOf (along m t f) ≡ valueAlong t v

@@ -7,10 +7,8 @@ use intervals::rows;
 use layers::states;
 use optimality::Figures;
 ghost use mathlib.Core.Path.{_≡_};
-ghost use mathlib.Core.List.{_++_};
 ghost use Prim.Native.Nat.{_+_, _≤_};
-ghost use lib.IntN.{pos};
-ghost use lib.ListN.{length, drop, replicate};
+ghost use lib.ListN.{length};
 ghost use Rattle.optimality.specs.Machine.{anywhere, quarter};
 ghost use Rattle.geometry.specs.Geometry.{width};
 ghost use Rattle.geometry.specs.Layers.{Layer, inFront};
@@ -58,12 +56,4 @@ fn earlier(scratch: &mut [i64], w: usize, f: Figures, price: i64, opens: bool)
 {
     states::fill_layer(scratch, w, f, price, opens);
     rows::copy(scratch, w, 0, w);
-}
-
-// The two layers back to 0.
-pub fn clear(scratch: &mut [i64], w: usize)
-    requires { ⌜ w + w ≤ length (now scratch) ⌝ }
-    ensures { λ _. ⌜ now (scratch .exit) ≡ replicate (w + w) (pos 0) ++ drop (w + w) (now (scratch .entry)) ⌝ }
-{
-    layers::clear(scratch, w + w);
 }

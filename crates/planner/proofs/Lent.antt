@@ -1,10 +1,10 @@
 -- What is found before any work and by it, in turn; and what it says that a case passed: the slices lent are long enough.
-use mathlib.Core.Path.{_≡_, sym, ap, _∙_}
-use mathlib.Core.Bool.{Bool, true}
+use mathlib.Core.Path.{_≡_, refl, sym, ap, _∙_}
+use mathlib.Core.Bool.{Bool, true, false, cond}
 use mathlib.Core.List.{List, [], _∷_, _++_}
 use Prim.Native.Nat.{ℕ, zero, suc, _+_, _*_, _≤_, _<_}
 use native.Mathlib.Omega.{arith}
-use borrow.Author.Tests.{leb-true, le-leb, lt-leb}
+use borrow.Author.Tests.{leb-true, leb-false, le-leb, lt-leb}
 use lib.Dec.{leb}
 use lib.IntN.{ℤ, pos}
 use lib.ListN.{length, drop, replicate}
@@ -15,29 +15,29 @@ use Rattle.commitment.specs.Causes.{_else_, firstOf}
 use Rattle.commitment.specs.Bounds.{mostIntervals}
 use Rattle.commitment.specs.Cells.{layerCells, cellsNeeded, cellsLong, cellsUsed}
 use Rattle.commitment.specs.Keeping.{opensIn}
-use Rattle.commitment.specs.Ranges.{pricesKept, permitKept, dateKept, caseChecks, caseChecked, Priced}
+use Rattle.commitment.specs.Ranges.{pricesKept, permitKept, dateKept, caseChecks, caseChecked}
 use Rattle.commitment.specs.declared.windows.Hours.{Hours}
 use Rattle.commitment.specs.Windows.{opens, HoursOf}
 use Rattle.commitment.proofs.Causes.{checkedThen, in-turn, unless-passed, then-passed}
-use Rattle.commitment.proofs.Passing.{Passing, passing, prices-small}
+use Rattle.commitment.proofs.Passing.{Passing, passing}
 use Rattle.commitment.proofs.Ranges.{in-range}
 use Rattle.optimality.specs.declared.Figures.{Figures}
-use Rattle.optimality.specs.Machine.{anywhere}
 use Rattle.optimality.specs.Cells.{Sound, figuresOf, quartersOf}
 use Rattle.optimality.proofs.Opening.{figures-sound}
 use Rattle.optimality.proofs.Quarters.{quarters-same}
 use Rattle.optimality.proofs.Ranges.{ranged}
 use Rattle.geometry.specs.Geometry.{width}
-use Rattle.geometry.specs.Layers.{Room, Filled, Layer, inFront}
+use Rattle.geometry.specs.Layers.{Room}
 use Rattle.geometry.proofs.Widths.{width-is}
 use Rattle.layers.specs.Filling.{quartersIn}
 use Rattle.halving.specs.Tasks.{CaseAsked}
 use Rattle.planner.specs.Planning.{slicesChecks, lentChecks, lentChecked, scheduleChecks, scheduleChecked, planChecked, scratchAfter}
 use Rattle.runs.specs.Telling.{Told}
-use Rattle.planner.specs.Tables.{Worked, Paired}
+use Rattle.pair.specs.Rolling as Rolling
+use Rattle.planner.specs.declared.models.Model.{Model}
+use Rattle.planner.specs.Models.{ModelOf, Begun}
 use Rattle.planner.specs.Valuing.{valueLentChecks, valueLent, valueChecked}
 use Rattle.runs.proofs.Telling.{told-in}
-use Rattle.planner.proofs.Worked.{worked}
 
 -- ---- in turn
 
@@ -80,11 +80,11 @@ lent u prices long scratch e =
     let c = unless-passed (leb (cellsNeeded u (length prices)) scratch) Scratch Passed (b .1) in
     record { case = passing u (pricesKept prices) (length prices) (a .0); entries = b .0; cells = leb-true (cellsNeeded u (length prices)) scratch (c .0) }
 
--- ---- what fits what is lent: figures f, layers of w cells
+-- ---- of a case that passed, what its model is made of
 
-module _ (u : UnitRecord) (prices : List ℤ) (scratch : ℕ) (h : Lent u prices true scratch) (f : Figures) (is : f ≡ figuresOf u (length prices)) where
-  pub lent-sound : Sound f
-  lent-sound =
+module _ (u : UnitRecord) (prices : List ℤ) (scratch : ℕ) (h : Lent u prices true scratch) where
+  pub lent-sound : (f : Figures) → f ≡ figuresOf u (length prices) → Sound f
+  lent-sound f is =
       let o = h .case .order in
       rw is (figures-sound u (ranged u (o .ranges) (o .shape)) (length prices) (o .short))
 
@@ -92,112 +92,12 @@ module _ (u : UnitRecord) (prices : List ℤ) (scratch : ℕ) (h : Lent u prices
   pub permitted : (permitKept (u .permit) ≡ true) × (dateKept (u .permit) ≡ true)
   permitted = (in-range u (h .case .order .ranges) .permit, h .case .order .dated)
 
-  -- the cells of a layer
-  pub layer-is : (w : ℕ) → w ≡ width f → w ≡ layerCells u (length prices)
-  layer-is w wide = wide ∙ ap width is ∙ width-is u (length prices)
-
 -- the quarters of the hours are those of the case
 pub quarters-are : (u : UnitRecord) (prices : List ℤ) → length prices ≤ mostIntervals → (hours : Hours) → HoursOf (u .permit) hours
     → quartersIn hours prices ≡ quartersOf u prices
 quarters-are u prices short hours of = quarters-same (opens hours) (opensIn (u .permit)) 0 prices (λ t k. of .same (0 + t) (omega (arith, short)))
 
--- ---- the long table
-
-pub record Fitted (u : UnitRecord) (prices : List ℤ) (scratch : ℕ) (f : Figures) (w : ℕ) : Type 0 where
-  pub room : Room f (length prices) scratch
-  pub priced : Priced prices
-  pub all : (length prices + 1) * w ≡ cellsLong u (length prices)
-  pub most : (length prices + 1) * w ≤ scratch
-  pub works : (hours : Hours) → HoursOf (u .permit) hours
-      → (cells : List ℤ) → length cells ≡ scratch → Filled f anywhere (quartersIn hours prices) cells → Worked u prices cells
-
-pub fitted : (u : UnitRecord) (prices : List ℤ) (scratch : ℕ) → Lent u prices true scratch → cellsLong u (length prices) ≤ scratch
-    → (f : Figures) → f ≡ figuresOf u (length prices) → (w : ℕ) → w ≡ width f → Fitted u prices scratch f w
-fitted u prices scratch h long f is w wide =
-    let o = h .case .order in
-    let all : (length prices + 1) * w ≡ cellsLong u (length prices) =
-    ap (λ (n : ℕ). (length prices + 1) * n) (layer-is u prices scratch h f is w wide) in
-    let priced = prices-small prices (h .case .prices) in
-    record {
-      room = record { sound = lent-sound u prices scratch h f is; short = o .short; fits = rw (is, width-is u (length prices)) long };
-      priced = priced;
-      all = all;
-      most = rw all long;
-      works = λ hours of stored same filled.
-          worked u prices stored o priced (rw same long) (rw (is, quarters-are u prices (o .short) hours of) at filled);
-    }
-
--- ---- two layers
-
-pub paired : (u : UnitRecord) (prices cells : List ℤ) → Lent u prices true (length cells) → (f : Figures) → f ≡ figuresOf u (length prices)
-    → (w : ℕ) → w ≡ width f → (hours : Hours) → HoursOf (u .permit) hours → Paired u f w hours prices cells
-paired u prices cells h f is w wide hours of =
-    let o = h .case .order in
-    record {
-      order = o;
-      some = h .case .some;
-      figures = is;
-      opened = of;
-      lent =
-          record {
-            room = record { sound = lent-sound u prices (length cells) h f is; short = omega arith; fits = rw (is, width-is u (length prices)) (h .cells) };
-            wide = wide;
-            short = o .short;
-            priced = prices-small prices (h .case .prices);
-            clocked = of .clocked;
-          };
-    }
-
--- the first layer, brought to the front, tells
-pub front-told : (u : UnitRecord) (f : Figures) (w : ℕ) (hours : Hours) (prices cells front : List ℤ) → Paired u f w hours prices cells
-    → length front ≡ length cells → Layer f anywhere (quartersIn hours prices) (inFront f front) → Told u prices front
-front-told u f w hours prices cells front p same layer =
-    let fits = p .lent .room .fits in
-    told-in u prices front (p .order) (rw (← p .figures) (omega (arith, fits, same)))
-    (rw (p .figures, quarters-are u prices (p .order .short) hours (p .opened)) at layer)
-
--- and so they are lent on
-pub paired-on : (u : UnitRecord) (f : Figures) (w : ℕ) (hours : Hours) (prices cells front : List ℤ) → Paired u f w hours prices cells
-    → length front ≡ length cells → Paired u f w hours prices front
-paired-on u f w hours prices cells front p same =
-    let l = p .lent in
-    record {
-      order = p .order;
-      some = p .some;
-      figures = p .figures;
-      opened = p .opened;
-      lent = record { room = rw same (l .room); wide = l .wide; short = l .short; priced = l .priced; clocked = l .clocked };
-    }
-
--- a pass over the whole case
-pub case-asked : (u : UnitRecord) (f : Figures) (w : ℕ) (hours : Hours) (prices cells : List ℤ) → Paired u f w hours prices cells
-    → CaseAsked f prices hours w (length cells)
-case-asked u f w hours prices cells p =
-    let l = p .lent in
-    let fits = l .room .fits in
-    record {
-      asked =
-          record {
-            sound = l .room .sound;
-            priced = l .priced;
-            clocked = l .clocked;
-            ordered = omega arith;
-            inside = omega arith;
-            short = l .short;
-            ends = tt;
-          };
-      some = p .some;
-      wide = l .wide;
-      fits = omega (arith, fits, l .wide);
-    }
-
--- where the long table does not fit and two layers do, there are two intervals
-pub two-intervals : (u : UnitRecord) (n cells : ℕ) → cellsNeeded u n ≤ cells → cells < cellsLong u n → 2 ≤ n
-two-intervals u zero cells fits short = absurd (omega (arith, fits, short))
-two-intervals u (suc zero) cells fits short = absurd (omega (arith, fits, short))
-two-intervals u (suc (suc n)) cells fits short = omega arith
-
--- ---- which of the two is used
+-- ---- which cells are used
 
 module _ (u : UnitRecord) (n lent : ℕ) where
   pub long-used : cellsLong u n ≤ lent → cellsLong u n ≡ cellsUsed u n lent
@@ -205,6 +105,111 @@ module _ (u : UnitRecord) (n lent : ℕ) where
 
   pub two-used : lent < cellsLong u n → cellsNeeded u n ≡ cellsUsed u n lent
   two-used short = rw (lt-leb (cellsLong u n) lent short)
+
+-- ---- what the functions below ask, of a model
+
+module _ (u : UnitRecord) (prices : List ℤ) (lent : ℕ) (m : Model) (of : ModelOf u prices lent m) where
+  pub sound : Sound (m .figures)
+  sound =
+      let o = of .order in
+      rw (of .figures) (figures-sound u (ranged u (o .ranges) (o .shape)) (length prices) (o .short))
+
+  -- the cells of a layer
+  layer-is : m .width ≡ layerCells u (length prices)
+  layer-is = of .wide ∙ ap width (of .figures) ∙ width-is u (length prices)
+
+  pub quarters : quartersIn (m .hours) prices ≡ quartersOf u prices
+  quarters = quarters-are u prices (of .order .short) (m .hours) (of .opened)
+
+  -- the long table, where it is used
+  module _ (long : m .long ≡ true) where
+    pub long-fits : cellsLong u (length prices) ≤ lent
+    long-fits = leb-true _ _ (sym (of .long) ∙ long)
+
+    pub long-room : Room (m .figures) (length prices) lent
+    long-room = record { sound = sound; short = of .order .short; fits = rw (of .figures, width-is u (length prices)) long-fits }
+
+    pub table-used : (length prices + 1) * m .width ≡ cellsUsed u (length prices) lent
+    table-used = ap (λ (n : ℕ). (length prices + 1) * n) layer-is ∙ long-used u (length prices) lent long-fits
+
+  -- two layers, which are lent in any case
+  pub two-fit : m .width + m .width ≤ lent
+  two-fit = omega (arith, layer-is, of .needed)
+
+  module _ (short : m .long ≡ false) where
+    too-long : lent < cellsLong u (length prices)
+    too-long = leb-false _ _ (sym (of .long) ∙ short)
+
+    pub layers-used : m .width + m .width ≡ cellsUsed u (length prices) lent
+    layers-used =
+        let twice : m .width + m .width ≡ 2 * m .width = omega arith in
+        twice ∙ ap (λ (k : ℕ). 2 * k) layer-is ∙ two-used u (length prices) lent too-long
+
+    -- where the long table does not fit and two layers do, there are two intervals
+    pub two-intervals : 2 ≤ length prices
+    two-intervals = by (length prices) (of .needed) too-long
+      where
+        by : (n : ℕ) → cellsNeeded u n ≤ lent → lent < cellsLong u n → 2 ≤ n
+        by zero fits less = absurd (omega (arith, fits, less))
+        by (suc zero) fits less = absurd (omega (arith, fits, less))
+        by (suc (suc n)) fits less = omega arith
+
+  pub used-fits : cellsUsed u (length prices) lent ≤ lent
+  used-fits = by (m .long) refl
+    where
+      by : (t : Bool) → m .long ≡ t → cellsUsed u (length prices) lent ≤ lent
+      by true e = rw (sym (of .long) ∙ e) (long-fits e)
+      by false e = rw (sym (of .long) ∙ e) (of .needed)
+
+  -- a pass over the whole case
+  pub case-asked : CaseAsked (m .figures) prices (m .hours) (m .width) lent
+  case-asked =
+      record {
+        asked =
+            record {
+              sound = sound;
+              priced = of .priced;
+              clocked = of .opened .clocked;
+              ordered = omega arith;
+              inside = omega arith;
+              short = of .order .short;
+              ends = tt;
+            };
+        some = of .some;
+        wide = of .wide;
+        fits = two-fit;
+      }
+
+  -- the cells that a call clears
+  pub used-is : {used : ℕ} → used ≡ cond (m .long) (cellsLong u (length prices)) (cellsNeeded u (length prices)) → used ≡ cellsUsed u (length prices) lent
+  used-is e = e ∙ ap (λ (t : Bool). cond t (cellsLong u (length prices)) (cellsNeeded u (length prices))) (of .long)
+
+  -- as many cells serve as well
+  pub model-on : {more : ℕ} → more ≡ lent → ModelOf u prices more m
+  model-on e = rw e of
+
+-- the same over the cells themselves
+module _ (u : UnitRecord) (prices : List ℤ) (m : Model) (cells : List ℤ) (of : ModelOf u prices (length cells) m) where
+  pub rolling : Rolling.Lent (m .figures) (m .width) prices cells (m .hours)
+  rolling =
+      record {
+        room =
+            record {
+              sound = sound u prices (length cells) m of;
+              short = omega arith;
+              fits = rw (of .figures, width-is u (length prices)) (of .needed);
+            };
+        wide = of .wide;
+        short = of .order .short;
+        priced = of .priced;
+        clocked = of .opened .clocked;
+      }
+
+  -- the first layer, brought to the front, tells
+  pub told : {planning : Bool} → Begun m prices planning cells → Told u prices cells
+  told begun =
+      told-in u prices cells (of .order) (omega (arith, two-fit u prices (length cells) m of, ap width (of .figures), of .wide))
+      (rw (of .figures, quarters u prices (length cells) m of) at (begun .layer))
 
 -- ---- the scratch after the cells used are cleared, of which the work left what lies behind them
 

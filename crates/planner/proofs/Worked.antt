@@ -1,7 +1,7 @@
--- What a filled table gives: the plan, and its report.
+-- The best plan, by its profit, in the front of the schedule, and its report.
 use mathlib.Core.Path.{_≡_, refl, sym, ap}
 use mathlib.Core.List.{List, _++_}
-use Prim.Native.Nat.{ℕ, _≤_}
+use Prim.Native.Nat.{ℕ}
 use native.Mathlib.Omega.{arith}
 use lib.IntN.{ℤ}
 use lib.ListN.{length, drop}
@@ -10,23 +10,11 @@ use Rattle.commitment.specs.declared.Outcomes.{Outcomes}
 use Rattle.commitment.specs.declared.UnitRecord.{UnitRecord}
 use Rattle.commitment.specs.declared.Checked.the-variants.{Passed}
 use Rattle.commitment.specs.Best.{Plan, nothing, plan, best, profitOf, scheduleOf}
-use Rattle.commitment.specs.Cells.{cellsLong}
-use Rattle.commitment.specs.Keeping.{opensIn}
-use Rattle.commitment.specs.Ranges.{InOrder, Priced}
-use Rattle.optimality.specs.Machine.{anywhere}
-use Rattle.optimality.specs.Cells.{figuresOf, quartersOf, openingCell}
-use Rattle.optimality.proofs.Quarters.{quarters-priced}
 use Rattle.optimality.proofs.Optimal.{plan-length}
-use Rattle.geometry.specs.Layers.{Filled, Room}
-use Rattle.geometry.proofs.Telling.{first-layer}
-use Rattle.geometry.proofs.Widths.{width-is}
-use Rattle.table.specs.Reading.{PlanFrom}
 use Rattle.planner.specs.declared.Reported.{Reported}
 use Rattle.planner.specs.declared.Reported.the-variants.{Report as Given}
 use Rattle.planner.specs.Planning.{scheduleAfter}
 use Rattle.runs.specs.Telling.{Told}
-use Rattle.runs.proofs.Telling.{told-in, sound, opening-some}
-use Rattle.planner.specs.Tables.{Worked}
 
 -- ---- best profits and plans
 
@@ -43,20 +31,7 @@ pub same-report : {a a′ : ℕ} {p p′ : ℤ} {o o′ : Outcomes} → a ≡ a�
     → _≡_ {A = Reported} (Given (record { count = a; profit = p; outcomes = o })) (Given (record { count = a′; profit = p′; outcomes = o′ }))
 same-report e f g = cc
 
--- ---- a filled table
-
--- of a case in order, the whole table
-pub worked : (u : UnitRecord) (prices cells : List ℤ) → InOrder u (length prices) → Priced prices → cellsLong u (length prices) ≤ length cells
-    → Filled (figuresOf u (length prices)) anywhere (quartersOf u prices) cells → Worked u prices cells
-worked u prices cells order priced room filled =
-    let n = length prices in
-    let f = figuresOf u n in
-    record {
-      told = told-in u prices cells order (omega (arith, width-is u n, room)) (first-layer f anywhere (quartersOf u prices) cells filled);
-      priced = priced;
-      room = room;
-      filled = filled;
-    }
+-- ---- the plan in the schedule's front
 
 -- where there is a schedule, what is read off from the opening cell is the best plan, in the schedule's front
 module _ (u : UnitRecord) (prices cells : List ℤ) (t : Told u prices cells) where
@@ -68,22 +43,3 @@ module _ (u : UnitRecord) (prices cells : List ℤ) (t : Told u prices cells) wh
           → scheduleOf b ++ drop (length prices) was ≡ scheduleAfter Passed b was
       by nothing some long = absurd (some refl)
       by (plan s p) some long = ap (λ (k : ℕ). s ++ drop k was) (sym (long s p refl))
-
-module _ (u : UnitRecord) (prices cells : List ℤ) (w : Worked u prices cells) where
-  pub room : Room (figuresOf u (length prices)) (length prices) (length cells)
-  room =
-      record {
-        sound = sound u prices cells (w .told);
-        short = w .told .order .short;
-        fits = rw (width-is u (length prices)) (w .room);
-      }
-
-  -- where there is a schedule, the plan can be read off from the opening cell
-  pub opening-plans : (profitOf (best u prices) ≡ Nothing → ⊥)
-      → PlanFrom (figuresOf u (length prices)) anywhere prices cells (openingCell u (length prices)) (quartersOf u prices)
-  opening-plans some =
-      record {
-        priced = quarters-priced (opensIn (u .permit)) 0 prices;
-        filled = w .filled;
-        some = opening-some u prices cells (w .told) some;
-      }

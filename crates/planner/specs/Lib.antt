@@ -1,5 +1,5 @@
--- Planning, Valuing and Reporting: the answer of each call and what it leaves. Tables: what the functions behind them ask.
+-- Planning, Valuing and Reporting: the answer of each call and what it leaves. Models: what the functions behind them ask.
 pub mod Planning
 pub mod Valuing
 pub mod Reporting
-pub mod Tables
+pub mod Models

@@ -1,19 +1,17 @@
-// A case that passed its checks: by the long table where it was lent, else by two layers.
+// A case that passed its checks: its first layer is brought to the front and read, and the cells used are cleared.
 
 use crate::Reported;
 use crate::Valued;
-use crate::pairs;
-use crate::tables;
+use crate::models;
+use crate::reading;
 use commitment::UnitRecord;
 ghost use mathlib.Core.Path.{_≡_};
 ghost use mathlib.Core.Bool.{true};
 ghost use Prim.Native.Nat.{_≤_};
-ghost use lib.Dec.{leb};
 ghost use lib.ListN.{length};
 ghost use Rattle.commitment.specs.declared.Checked.the-variants.{Passed};
 ghost use Rattle.commitment.specs.Best.{best};
-ghost use Rattle.commitment.specs.Cells.{cellsLong, cellsUsed};
-ghost use Rattle.commitment.specs.Ranges.{InOrder};
+ghost use Rattle.commitment.specs.Cells.{cellsUsed};
 ghost use Rattle.commitment.specs.Valuing.{outcomesOf};
 ghost use Rattle.planner.specs.Planning.{lentChecked, scheduleChecked, scheduleAfter, scratchAfter};
 ghost use Rattle.planner.specs.Reporting.{reportedBy};
@@ -32,10 +30,12 @@ pub fn report_case(
     ensures { λ _. ⌜ now (scratch .exit)
         ≡ scratchAfter Passed (cellsUsed unit (length (now (prices .entry))) (length (now (scratch .entry)))) (now (scratch .entry)) ⌝ }
 {
-    if long_fits(unit, prices.len(), scratch.len()) {
-        return tables::report_case(unit, prices, scratch, schedule);
-    }
-    pairs::report_case(unit, prices, scratch, schedule)
+    let model = models::model_of(unit, prices, scratch.len());
+    models::first_layer(unit, model, prices, &mut *scratch, true);
+    let answer = reading::read_report(unit, model, prices, &mut *scratch, schedule);
+    let used = models::cells_used(unit, prices.len(), model.long);
+    layers::clear(scratch, used);
+    answer
 }
 
 pub fn value_case(unit: UnitRecord, prices: &[i64], scratch: &mut [i64]) -> Valued
@@ -44,16 +44,11 @@ pub fn value_case(unit: UnitRecord, prices: &[i64], scratch: &mut [i64]) -> Valu
     ensures { λ _. ⌜ now (scratch .exit)
         ≡ scratchAfter Passed (cellsUsed unit (length (now (prices .entry))) (length (now (scratch .entry)))) (now (scratch .entry)) ⌝ }
 {
-    if long_fits(unit, prices.len(), scratch.len()) {
-        return tables::value_case(unit, prices, scratch);
-    }
-    pairs::value_case(unit, prices, scratch)
-}
-
-// Whether the long table of n intervals fits so many cells.
-fn long_fits(unit: UnitRecord, n: usize, lent: usize) -> bool
-    requires { ⌜ InOrder unit n ⌝ }
-    ensures { λ r. ⌜ r ≡ leb (cellsLong unit n) lent ⌝ }
-{
-    budgets::cells_long(unit, n) <= lent
+    let model = models::model_of(unit, prices, scratch.len());
+    models::first_layer(unit, model, prices, &mut *scratch, false);
+    let f = model.figures;
+    let answer = reading::read_outcomes(unit, f, prices, &scratch[..]);
+    let used = models::cells_used(unit, prices.len(), model.long);
+    layers::clear(scratch, used);
+    answer
 }

@@ -1,11 +1,11 @@
 // Planning and valuing: the calls of the outside, none of which has a `requires`. Below them: what an answer holds (contents), what is
-// found before any work (checks), the scratch that is used (cases): the long table filled, read and cleared (tables), or two layers (pairs).
+// found before any work (checks), a case that passed (cases), its first layer in the scratch that is used (models), and what is read from it (reading).
 
 mod cases;
 mod checks;
 pub mod contents;
-mod pairs;
-mod tables;
+mod models;
+mod reading;
 
 use commitment::Cause;
 use commitment::Checked;

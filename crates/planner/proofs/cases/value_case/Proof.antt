@@ -1,52 +1,57 @@
--- Whether the long table fits says which cells are used.
-use mathlib.Core.Path.{sym, ap, _∙_}
-use mathlib.Core.Bool.{true}
-use Prim.Native.Nat.{ℕ, _≤_, _<_}
-use borrow.Author.Tests.{leb-true, leb-false}
+-- The first layer, what is read from it, and the cells used cleared.
+use mathlib.Core.Path.{_≡_, _∙_}
+use native.Mathlib.Omega.{arith}
 use lib.ListN.{length}
-use Rattle.commitment.specs.declared.Checked.the-variants.{Passed}
-use Rattle.commitment.specs.Cells.{cellsLong}
-use Rattle.planner.specs.Planning.{scratchAfter}
-use Rattle.planner.proofs.Lent.{lent, long-used, two-used}
+use Rattle.commitment.specs.Cells.{cellsUsed}
+use Rattle.planner.proofs.Lent.{used-fits, used-is, model-on, told, cleared}
 use borrow.Author.Needs.{needs}
 use Rattle.planner.proofs.cases.value_case.Statement.{statement}
 use Rattle.planner.proofs.cases.value_case.Tie as tie
 
-long-fits-requires : tie.Need-long-fits-requires
-long-fits-requires c κs = lent (c .args .unit) (c .args .prices .now) true (length (c .args .scratch .now)) (c .pre) .case .order
+read-outcomes-requires : tie.Need-read-outcomes-requires
+read-outcomes-requires c κs =
+    let made = c .before .before .before in
+    let model = made .before .before in
+    let a = model .before .args in
+    let on =
+    model-on (a .unit) (a .prices .now) (length (a .scratch .now)) (model .model-of .result) (model .model-of .ensures) (made .first-layer .kept .1 .1 .1 .0) in
+    (told (a .unit) (a .prices .now) (model .model-of .result) (made .first-layer .last .1 .1 .1 .0) on (made .first-layer .ensures .0), on .figures)
 
-fits : (c : tie.Then1) → let a = c .before .before .args in cellsLong (a .unit) (length (a .prices .now)) ≤ length (a .scratch .now)
-fits c = leb-true _ _ (sym (c .before .long-fits .ensures) ∙ c .if1 .taken)
+-- how many cells are used
+used : (c : tie.After-cells-used) →
+    let a = c .before .before .before .before .before .before .before .before .args in
+    c .cells-used .result ≡ cellsUsed (a .unit) (length (a .prices .now)) (length (a .scratch .now))
+used c =
+    let model = c .before .before .before .before .before .before .before in
+    let a = model .before .args in
+    used-is (a .unit) (a .prices .now) (length (a .scratch .now)) (model .model-of .result) (model .model-of .ensures) (c .cells-used .ensures)
 
-short : (c : tie.Else1) → let a = c .before .before .args in length (a .scratch .now) < cellsLong (a .unit) (length (a .prices .now))
-short c = leb-false _ _ (sym (c .before .long-fits .ensures) ∙ c .if1 .left)
-
-value-case-requires : tie.Need-value-case-requires
-value-case-requires c κs = let then = c .before in (then .before .before .pre, fits then)
+clear-requires : tie.Need-clear-requires
+clear-requires c κs =
+    let u = c .before in
+    let made = u .before .before .before .before .before in
+    let model = made .before .before in
+    let a = model .before .args in
+    let most = used-fits (a .unit) (a .prices .now) (length (a .scratch .now)) (model .model-of .result) (model .model-of .ensures) in
+    omega (arith, used u, most, made .first-layer .kept .1 .1 .1 .0)
 
 returns : tie.Need-returns
 returns c =
-    let long = c .before in
-    let then = long .before .before in
-    let a = then .before .before .args in
-    let r = long .value-case .ensures in (
-      r .0,
-      r .1 ∙ ap (λ (used : ℕ). scratchAfter Passed used (a .scratch .now))
-          (long-used (a .unit) (length (a .prices .now)) (length (a .scratch .now)) (fits then)),
-    )
-
-returns-2 : tie.Need-returns-2
-returns-2 c =
-    let two = c .before in
-    let else = two .before .before in
-    let a = else .before .before .args in
-    let r = two .value-case2 .ensures in (
-      r .0,
-      r .1 ∙ ap (λ (used : ℕ). scratchAfter Passed used (a .scratch .now))
-          (two-used (a .unit) (length (a .prices .now)) (length (a .scratch .now)) (short else)),
-    )
+    let clear = c .before in
+    let u = clear .before .before in
+    let read = u .before in
+    let made = read .before .before .before .before in
+    let a = made .before .before .before .args in
+    let scratch = cleared _ _ (a .scratch .now) (made .first-layer .last .1 .1 .1 .0) (used u) (rw (used u) (made .first-layer .ensures .1)) in
+    (read .read-outcomes .ensures, clear .clear .ensures ∙ scratch)
 
 pub value-case-spec : {M : Type 1} → statement M
 value-case-spec =
     tie.close
-    (tie.spec long-fits-requires value-case-requires (λ c. search needs) returns (λ c κs. search needs) (λ c. search needs) returns-2)
+    (tie.spec
+    (λ c κs. search needs) (λ c κs. search needs)
+    read-outcomes-requires
+    (λ c κs. search needs)
+    clear-requires
+    (λ c. search needs)
+    returns)

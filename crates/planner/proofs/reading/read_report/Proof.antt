@@ -1,4 +1,4 @@
--- The best profit says whether there is a schedule; then the outcomes are looked up, and the plan is worked out.
+-- The best profit says whether there is a schedule; then the outcomes are looked up, and the plan follows.
 use mathlib.Core.Path.{refl, sym, ap, _∙_}
 use mathlib.Core.List.{List}
 use Prim.Native.Nat.{ℕ}
@@ -13,10 +13,18 @@ use Rattle.optimality.proofs.Optimal.{plan-length}
 use Rattle.planner.specs.declared.Reported.{Reported}
 use Rattle.planner.specs.Planning.{hasSchedule, scheduleAfter}
 use Rattle.planner.specs.Reporting.{reportedBy}
+use Rattle.runs.specs.Telling.{ToldBy}
+use Rattle.planner.proofs.Lent.{told}
 use Rattle.planner.proofs.Worked.{no-plan, some-plan, same-report}
 use borrow.Author.Needs.{needs}
-use Rattle.planner.proofs.pairs.read_report.Statement.{statement}
-use Rattle.planner.proofs.pairs.read_report.Tie as tie
+use Rattle.planner.proofs.reading.read_report.Statement.{statement}
+use Rattle.planner.proofs.reading.read_report.Tie as tie
+
+tells : (c : tie.Start) → let a = c .args in ToldBy (a .model .figures) (a .unit) (a .prices .now) (a .scratch .now)
+tells c =
+    let a = c .args in
+    let ready = c .pre .0 in
+    (told (a .unit) (a .prices .now) (a .model) (a .scratch .now) (ready .model) (ready .begun), ready .model .figures)
 
 -- answer and schedule by the best plan
 abbrev answer : tie.Start → Plan → Reported
@@ -26,22 +34,22 @@ abbrev schedule : tie.Start → Plan → List ℕ
 schedule c b = scheduleAfter (unless (hasSchedule b) NoSchedule Passed) b (c .args .schedule .now)
 
 whole-profit-requires : tie.Need-whole-profit-requires
-whole-profit-requires c κs = let s = c .before .before in (s .pre .0 .0, s .pre .0 .1 .two .figures)
+whole-profit-requires c κs = tells (c .before .before .before)
 
 outcomes-in-requires : tie.Need-outcomes-in-requires
-outcomes-in-requires c κs = let s = c .before .before .before .before .before .before .before in (s .pre .0 .0, s .pre .0 .1 .two .figures)
+outcomes-in-requires c κs = tells (c .before .before .before .before .before .before .before .before)
 
-work-plan-requires : tie.Need-work-plan-requires
-work-plan-requires c κs =
+read-plan-requires : tie.Need-read-plan-requires
+read-plan-requires c κs =
     let profit = c .before .before .before .before .before in
     let found = profit .before .before in
-    let s = found .before .before .before in
-    (s .pre .0, (s .pre .1, λ none. no-earning (sym none ∙ sym (found .whole-profit .ensures) ∙ profit .profit .given .1)))
+    let s = found .before .before .before .before in
+    (s .pre, λ none. no-earning (sym none ∙ sym (found .whole-profit .ensures) ∙ profit .profit .given .1))
 
 returns : tie.Need-returns
 returns c =
     let found = c .before .before in
-    let s = found .before .before .before in
+    let s = found .before .before .before .before in
     let none = no-plan (best (s .args .unit) (s .args .prices .now)) (sym (found .whole-profit .ensures) ∙ c .enum-told .given .1) in
     (ap (answer s) (sym none), (ap (schedule s) (sym none), refl))
 
@@ -52,17 +60,17 @@ returns-2 c =
     let known = looked .before .before in
     let profit = known .before in
     let found = profit .before .before in
-    let s = found .before .before .before in
+    let s = found .before .before .before .before in
     let a = s .args in
-    let told = profit .profit .given in
-    let some = some-plan (best (a .unit) (a .prices .now)) (told .0 .0) (sym (found .whole-profit .ensures) ∙ told .1) in
-    let order = s .pre .0 .1 .two .order in
-    let long = plan-length (a .unit) (order .ranges) (order .shape) (a .prices .now) (some .0) (told .0 .0) (some .1) in
-    let value = plain-fits {x = told .0 .0} (record { sfits = known .known-told .given .0 .1 }) in (
+    let said = profit .profit .given in
+    let some = some-plan (best (a .unit) (a .prices .now)) (said .0 .0) (sym (found .whole-profit .ensures) ∙ said .1) in
+    let order = s .pre .0 .model .order in
+    let long = plan-length (a .unit) (order .ranges) (order .shape) (a .prices .now) (some .0) (said .0 .0) (some .1) in
+    let value = plain-fits {x = said .0 .0} (record { sfits = known .known-told .given .0 .1 }) in (
       same-report (sym long) value (looked .outcomes-in .ensures) ∙ ap (answer s) (sym (some .1)),
       (
-        worked .work-plan .ensures .1 .0 ∙ ap (λ (b : Plan). scheduleAfter Passed b (a .schedule .now)) (some .1) ∙ ap (schedule s) (sym (some .1)),
-        worked .work-plan .ensures .1 .1,
+        worked .read-plan .ensures .1 .0 ∙ ap (λ (b : Plan). scheduleAfter Passed b (a .schedule .now)) (some .1) ∙ ap (schedule s) (sym (some .1)),
+        worked .read-plan .ensures .1 .1,
       ),
     )
 
@@ -74,7 +82,7 @@ read-report-spec =
     (λ c. search needs)
     (λ c. search needs)
     outcomes-in-requires
-    work-plan-requires
+    read-plan-requires
     (λ c. search needs)
     returns
     (λ c. search needs)

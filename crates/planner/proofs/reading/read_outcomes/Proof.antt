@@ -11,8 +11,8 @@ use Rattle.planner.specs.Planning.{hasSchedule}
 use Rattle.planner.specs.Valuing.{valuedBy}
 use Rattle.planner.proofs.Worked.{no-plan, some-plan}
 use borrow.Author.Needs.{needs}
-use Rattle.planner.proofs.tables.read_outcomes.Statement.{statement}
-use Rattle.planner.proofs.tables.read_outcomes.Tie as tie
+use Rattle.planner.proofs.reading.read_outcomes.Statement.{statement}
+use Rattle.planner.proofs.reading.read_outcomes.Tie as tie
 
 -- the answer by the best plan
 abbrev answer : tie.Start → Plan → Valued
