@@ -1,25 +1,54 @@
--- Worked cases, computed: dates that exist and that do not, Sundays on which time changes, the clock around them and around a new year.
+-- Worked cases, computed: dates that exist and that do not, days of the week, the clock around a change of time and around a new year, the
+-- changes over a year, and its months.
 use mathlib.Core.Path.{_≡_, refl}
-use mathlib.Core.Bool.{true, false}
+use mathlib.Core.Bool.{Bool, true, false, _&&_, not}
 use mathlib.Core.List.{List, [], _∷_, map}
-use Prim.Native.Nat.{ℕ}
+use Prim.Native.Nat.{ℕ, suc, _%_}
+use Rattle.calendar.specs.declared.Date.{Date}
 use Rattle.calendar.specs.Dates.{date, exists, next, dayNumber, isSunday}
-use Rattle.calendar.specs.Clock.{springs, falls, hoursOf, clockAfter, clockOf, clockFrom}
+use Rattle.calendar.specs.Clock.{springs, falls, hoursOf, clockAfter, changeDay, changesBefore, clockOf, clockFrom}
+use Rattle.calendar.specs.Months.{dateAfter, monthOf, monthBegins}
 use Rattle.calendar.specs.Words.{hoursAllowed}
 
--- ---- 29 February
+-- ---- the last day of each month exists and the next does not, from January on: of a common year, of a leap year, and of 2100
 
-leap-day-2024 : exists (date 2024 2 29) ≡ true
-leap-day-2024 = refl
+abbrev monthsEnd : ℕ → ℕ → List ℕ → Bool
+monthsEnd year month [] = true
+monthsEnd year month (last ∷ later) =
+    exists (date year month last) && not (exists (date year month (suc last))) && monthsEnd year (suc month) later
 
-no-leap-day-2023 : exists (date 2023 2 29) ≡ false
-no-leap-day-2023 = refl
+abbrev commonYear : List ℕ
+commonYear = 31 ∷ 28 ∷ 31 ∷ 30 ∷ 31 ∷ 30 ∷ 31 ∷ 31 ∷ 30 ∷ 31 ∷ 30 ∷ 31 ∷ []
 
-no-leap-day-2100 : exists (date 2100 2 29) ≡ false
-no-leap-day-2100 = refl
+abbrev leapYear : List ℕ
+leapYear = 31 ∷ 29 ∷ 31 ∷ 30 ∷ 31 ∷ 30 ∷ 31 ∷ 31 ∷ 30 ∷ 31 ∷ 30 ∷ 31 ∷ []
 
-no-30-february : exists (date 2024 2 30) ≡ false
-no-30-february = refl
+months-end : monthsEnd 2023 1 commonYear ∷ monthsEnd 2024 1 leapYear ∷ monthsEnd 2100 1 commonYear ∷ [] ≡ true ∷ true ∷ true ∷ []
+months-end = refl
+
+-- ---- days of the week, Monday 0 to Sunday 6
+
+abbrev weekday : Date → ℕ
+weekday d = dayNumber d % 7
+
+weekdays
+    : map weekday
+    (date 2007 1 1
+    ∷ date 2008 8 8
+    ∷ date 2010 10 10
+    ∷ date 2012 12 12
+    ∷ date 2016 2 29
+    ∷ date 2019 7 20
+    ∷ date 2020 1 1
+    ∷ date 2024 2 29
+    ∷ date 2026 11 17
+    ∷ date 2099 12 31
+    ∷ date 2100 3 1
+    ∷ date 2101 1 1
+    ∷ [])
+    ≡ 0 ∷ 4 ∷ 6 ∷ 2 ∷ 0 ∷ 5 ∷ 2 ∷ 3 ∷ 1 ∷ 3 ∷ 0 ∷ 5 ∷ []
+unfolding dayNumber
+weekdays = refl
 
 -- ---- the second Sunday of March, the first of November
 
@@ -57,19 +86,29 @@ new-year-hours : map (clockAfter (date 2099 12 31)) around ≡ 0 ∷ 1 ∷ 2 ∷
 unfolding dayNumber isSunday hoursOf clockAfter
 new-year-hours = refl
 
--- ---- clocks that are found: 10 March is nine days after the first, and no time changes in July
+-- ---- the three changes over a year, from a Sunday of March, from one of November and from the last date; the third as the days are counted out
 
-march-clock : clockFrom (date 2024 3 1) ≡ clockOf 218 1
-unfolding dayNumber isSunday clockFrom
-march-clock = refl
+year-clocks
+    : map clockFrom (date 2024 3 10 ∷ date 2024 11 3 ∷ date 2099 12 31 ∷ [])
+    ≡ clockOf 2 5713 8738 1 ∷ clockOf 2 3027 8738 23 ∷ clockOf 1754 7465 10490 1 ∷ []
+unfolding dayNumber changeDay changesBefore clockFrom
+year-clocks = refl
 
-november-clock : clockFrom (date 2024 11 1) ≡ clockOf 50 23
-unfolding dayNumber isSunday clockFrom
-november-clock = refl
+third-change : map (clockAfter (date 2024 3 10)) (8736 ∷ 8737 ∷ 8738 ∷ 8783 ∷ []) ≡ 0 ∷ 1 ∷ 3 ∷ 0 ∷ []
+unfolding dayNumber isSunday hoursOf clockAfter
+third-change = refl
 
-july-clock : clockFrom (date 2024 7 1) ≡ clockOf 768 0
-unfolding dayNumber isSunday clockFrom
-july-clock = refl
+-- ---- months: where those of 2026 begin, with 743 hours in March and 721 in November; and the months around an end, 13 of them in a horizon
+
+months-begin
+    : map (monthBegins (date 2026 1 1)) (1 ∷ 2 ∷ 3 ∷ 4 ∷ 5 ∷ 6 ∷ 7 ∷ 8 ∷ 9 ∷ 10 ∷ 11 ∷ 12 ∷ 13 ∷ [])
+    ≡ 0 ∷ 2976 ∷ 5664 ∷ 8636 ∷ 11516 ∷ 14492 ∷ 17372 ∷ 20348 ∷ 23324 ∷ 26204 ∷ 29180 ∷ 32064 ∷ 35040 ∷ []
+unfolding dayNumber isSunday hoursOf monthBegins
+months-begin = refl
+
+months-around : map (monthOf (date 2026 1 31)) (0 ∷ 95 ∷ 96 ∷ 2783 ∷ 2784 ∷ 35135 ∷ []) ≡ 1 ∷ 1 ∷ 2 ∷ 2 ∷ 3 ∷ 13 ∷ []
+unfolding dayNumber isSunday hoursOf dateAfter monthOf
+months-around = refl
 
 -- ---- words: all hours, none, 6 to 21
 

@@ -1,214 +1,207 @@
--- A clock that runs as the days do: plain days count on, a change of time is met once, and after it come plain days again.
-use mathlib.Core.Path.{_≡_, refl, sym, ap, ap₂, _∙_, subst}
-use mathlib.Core.Logic.{⊎-elim, inl, inr}
+-- The clock that is found runs as the days do. What it is ahead is what daylight time is at the hour, less what it was at the date's midnight; and a
+-- change of time is over at an hour exactly when as many hours have passed as the clock says.
+use mathlib.Core.Path.{_≡_, refl, sym, ap, _∙_}
+use mathlib.Core.Logic.{_⊎_, ⊎-elim}
 use mathlib.Core.Bool.{Bool, true, false, cond}
-use mathlib.Core.List.{List}
-use Prim.Native.Nat.{ℕ, zero, suc, _+_, _-_, _*_, _/_, _%_, _<_, _≤_}
+use Prim.Native.Nat.{ℕ, _+_, _-_, _*_, _%_, _<_, _≤_}
+use native.Mathlib.Nat.{add-zero, eq-or-lt-of-le}
 use native.Mathlib.Omega.{arith}
-use lib.ListN.{length, getD, length-append}
+use borrow.Author.Tests.{lt-ltb, le-ltb, le-leb, lt-leb, eq-eqb, ne-eqb}
 use Rattle.calendar.specs.declared.Date.{Date}
 use Rattle.calendar.specs.declared.Clock.{Clock}
-use Rattle.calendar.specs.Dates.{exists, next, firstYear, lastYear, lastNumbered, dayNumber, Within}
-use Rattle.calendar.specs.Clock.{springs, falls, springHours, fallHours, hoursOf, hoursOver, clockAfter, shown, mostAhead}
-use Rattle.calendar.specs.Clock.{clockOf, searched, clockFound, clockFrom, Follows}
+use Rattle.calendar.specs.Dates.{next, lastYear, dayNumber, Within}
+use Rattle.calendar.specs.Clock.{clockAfter, changeDay, changesBefore, mostPassed, turned, shown, clockFrom, Follows}
 use Rattle.calendar.proofs.Checks.{order}
-use Rattle.calendar.proofs.Dates.{next-exists, next-from, next-number, year-after}
-use Rattle.calendar.proofs.Days.{spring-hours, fall-not-spring, fall-hours, plain-hours, shown-before, shown-after}
-use Rattle.calendar.proofs.Days.{plain-shown, spring-shown, fall-shown}
-use Rattle.calendar.proofs.Days.{in-first, past-first, hours-agree, hours-enough}
-use Rattle.calendar.proofs.Changes.{Quiet, quiet-after}
+use Rattle.calendar.proofs.Dates.{next-exists, next-from, next-number, walk, Walked, walked}
+use Rattle.calendar.proofs.Changes.{Between, between, only, changes-grow, changes-apart, fourth-far}
+use Rattle.calendar.proofs.Days.{At, at, days-few, clock-at, light, hourBy, nowOf, day-shows, hours-long}
 
--- the clock is right over so many days, but for the last hours; a change of time may take one away
-pub record Runs (lost k : ℕ) (d : Date) (clock : Clock) : Type 0 where
-  pub reaches : (p : ℕ) → p + lost < 24 * k → p < length (hoursOver k d)
-  pub shows : (p : ℕ) → p + lost < 24 * k → getD (hoursOver k d) p 0 ≡ shown clock p
+-- ---- the hour that a clock shows
 
-runs-none : (lost : ℕ) (d : Date) (clock : Clock) → Runs lost 0 d clock
-runs-none lost d clock = record { reaches = λ p h. absurd (omega arith); shows = λ p h. absurd (omega arith) }
+pub shown-hour : (clock : Clock) (p : ℕ) → shown clock p < 24
+shown-hour clock p = by (turned clock p)
+  where
+    by : (t : Bool) → cond t ((p + clock .ahead) % 24) (p % 24) < 24
+    by true = omega arith
+    by false = omega arith
 
--- ---- a plain day puts the change off by 24 hours
+module _ (clock : Clock) (p : ℕ) where
+  shown-ahead : turned clock p ≡ true → shown clock p ≡ (p + clock .ahead) % 24
+  shown-ahead t = ap (λ (t : Bool). cond t ((p + clock .ahead) % 24) (p % 24)) t
 
-shown-later : (clock : Clock) (p : ℕ) → 24 ≤ p → shown clock (p - 24) ≡ shown (clockOf (24 + clock .change) (clock .ahead)) p
-shown-later clock p h =
-    let later = clockOf (24 + clock .change) (clock .ahead) in
-    ⊎-elim
-    (λ (l : p - 24 < clock .change).
-    let same : (p - 24) % 24 ≡ p % 24 = omega arith in
-    shown-before clock (p - 24) l ∙ same ∙ sym (shown-before later p (omega arith)))
-    (λ (l : clock .change ≤ p - 24).
-    let same : (p - 24 + clock .ahead) % 24 ≡ (p + clock .ahead) % 24 = omega arith in
-    shown-after clock (p - 24) l ∙ same ∙ sym (shown-after later p (omega arith)))
-    (order (p - 24) (clock .change))
+  shown-plain : turned clock p ≡ false → shown clock p ≡ p % 24
+  shown-plain t = ap (λ (t : Bool). cond t ((p + clock .ahead) % 24) (p % 24)) t
 
-module _ (lost k : ℕ) (d : Date) (clock : Clock) (s : springs d ≡ false) (f : falls d ≡ false) (rest : Runs lost k (next d) clock) where
-  plain-first : Runs lost (suc k) d (clockOf (24 + clock .change) (clock .ahead))
-  plain-first =
-      let later = clockOf (24 + clock .change) (clock .ahead) in
-      let hours = hoursOver k (next d) in
-      let day = plain-hours d s f in
-      let long : length (hoursOf d) ≡ 24 = ap length day in
+-- ---- at an hour: how many changes are over, and what the clock shows by that
+
+-- the hours passed at a change of time, by those over at the first midnight
+abbrev passedAt : ℕ → ℕ → ℕ → ℕ
+passedAt number before j = 24 * (changeDay j - number) + 2 + before % 2 - j % 2
+
+record Over (d : Date) (passed now : ℕ) : Type 0 where
+  hour : clockAfter d passed ≡ (passed + 24 + now % 2 - light d) % 24
+  since : changesBefore d ≤ now
+  till : now ≤ changesBefore d + 3
+  over : (j : ℕ) → changesBefore d ≤ j → j < now → passedAt (dayNumber d) (changesBefore d) j ≤ passed
+  ahead : (j : ℕ) → changesBefore d ≤ j → now ≤ j → passed < passedAt (dayNumber d) (changesBefore d) j
+
+-- in the first two hours of a day as many are over as at its midnight, in the others as many as at the next
+module _ (d : Date) (w : Within lastYear d) (passed : ℕ) (few : passed < mostPassed) (a : At d passed) where
+  abbrev day : Date
+  day = walk (a .days) d
+
+  on : Walked d (a .days) day
+  on = walked (a .days) d (w .there) (w .since)
+
+  first : Between d (changesBefore d)
+  first = between d (w .there) (w .since)
+
+  here : Between day (changesBefore day)
+  here = between day (on .there) (on .since)
+
+  there : Between (next day) (changesBefore (next day))
+  there = between (next day) (next-exists day (on .there)) (next-from day (on .since))
+
+  -- so many hours have passed
+  counted : passed + light day ≡ 24 * a .days + light d + a .hour
+  counted = omega (arith, a .is, hours-long (a .days) d (w .there) (w .since))
+
+  -- the clock hour
+  hour-is : (now : ℕ) → nowOf (light day) (light (next day)) (a .hour) ≡ now → clockAfter d passed ≡ (passed + 24 + now - light d) % 24
+  hour-is now is =
+      clock-at d passed a
+      ∙ day-shows day (on .there) (on .since) .shows (a .hour) (a .within)
+      ∙ ap (λ (n : ℕ). hourBy (light day) n (a .hour)) is
+      ∙ (let turn : hourBy (light day) now (a .hour) ≡ (passed + 24 + now - light d) % 24 = omega (arith, counted) in turn)
+
+  -- a change on the day itself
+  today : (j : ℕ) → dayNumber day ≡ changeDay j → changesBefore day ≡ j
+  today j is = only day (on .there) (on .since) j (record { over = λ i h. omega (arith, changes-apart i j h); ahead = omega arith })
+
+  to-come : (j : ℕ) → changesBefore d ≤ j → dayNumber d ≤ changeDay j
+  to-come j h = omega (arith, first .ahead, changes-grow (changesBefore d) j h)
+
+  -- as many as are over at a midnight of the horizon: as many as at the first, and three more at most
+  some : (now : ℕ) → dayNumber d ≤ changeDay now → changesBefore d ≤ now
+  some now h =
+      ⊎-elim (λ (l : now < changesBefore d). absurd (omega (arith, first .over now l))) (λ (l : changesBefore d ≤ now). l) (order now (changesBefore d))
+
+  three : (now : ℕ) → ((j : ℕ) → j < now → changeDay j < dayNumber d + 474) → now ≤ changesBefore d + 3
+  three now h =
+      let fourth = changesBefore d + 3 in
+      ⊎-elim (λ (l : fourth < now). absurd (omega (arith, h fourth l, first .ahead, fourth-far (changesBefore d)))) (λ (l : now ≤ fourth). l) (order fourth now)
+
+  early : a .hour < 2 → Over d passed (changesBefore day)
+  early h =
+      let now = changesBefore day in
       record {
-        reaches =
-            λ p h.
-            ⊎-elim (λ (l : p < 24). omega (arith, length-append (hoursOf d) hours, long))
-            (λ (l : 24 ≤ p). omega (arith, length-append (hoursOf d) hours, long, rest .reaches (p - 24) (omega arith)))
-            (order p 24);
-        shows =
-            λ p h.
-            ⊎-elim
-            (λ (l : p < 24).
-            in-first (hoursOf d) hours 24 p long l ∙ ap (λ (t : List ℕ). getD t p 0) day ∙ plain-shown p l ∙ sym (shown-before later p (omega arith)))
-            (λ (l : 24 ≤ p). past-first (hoursOf d) hours 24 p long l ∙ rest .shows (p - 24) (omega arith) ∙ shown-later clock p l)
-            (order p 24);
+        hour = hour-is (light day) (ap (λ (t : Bool). cond t (light day) (light (next day))) (lt-ltb (a .hour) 2 h));
+        since = some now (omega (arith, here .ahead, on .number));
+        till = three now (λ j k. omega (arith, here .over j k, on .number, days-few d passed a));
+        over = λ j s k. omega (arith, counted, to-come j s, here .over j k, on .number);
+        ahead =
+            λ j s k.
+            let up : dayNumber day ≤ changeDay j = omega (arith, here .ahead, changes-grow now j k) in
+            ⊎-elim (λ (q : dayNumber day ≡ changeDay j). omega (arith, counted, today j q, on .number))
+            (λ (l : dayNumber day < changeDay j). omega (arith, counted, on .number))
+            (eq-or-lt-of-le up);
       }
 
--- days on which no time changes
-quiet-runs : (k : ℕ) (d : Date) → Quiet k d → Runs 0 k d (clockOf (24 * k) 0)
-quiet-runs zero d q = runs-none 0 d (clockOf 0 0)
-quiet-runs (suc k) d q =
-    let rest = quiet-runs k (next d) (record { no-spring = λ i l. q .no-spring (suc i) (omega arith); no-fall = λ i l. q .no-fall (suc i) (omega arith) }) in
-    let at : 24 + 24 * k ≡ 24 * suc k = omega arith in
-    subst (λ (n : ℕ). Runs 0 (suc k) d (clockOf n 0)) at
-    (plain-first 0 k d (clockOf (24 * k) 0) (q .no-spring 0 (omega arith)) (q .no-fall 0 (omega arith)) rest)
-
--- ---- a day on which time changes: after it the days count on, so many hours ahead
-
-module _ (k : ℕ) (d : Date) (hours : List ℕ) (is : hoursOf d ≡ hours) (n ahead : ℕ) (long : length hours ≡ n) (least : 23 ≤ n)
-    (day : (p : ℕ) → p < n → getD hours p 0 ≡ shown (clockOf 2 ahead) p) (turn : (q : ℕ) → q % 24 ≡ (q + n + ahead) % 24)
-    (rest : Runs 0 k (next d) (clockOf (24 * k) 0)) where
-  change-first : Runs 1 (suc k) d (clockOf 2 ahead)
-  change-first =
-      let left = hoursOver k (next d) in
-      let long′ : length (hoursOf d) ≡ n = ap length is ∙ long in
+  late : 2 ≤ a .hour → Over d passed (changesBefore (next day))
+  late h =
+      let now = changesBefore (next day) in
+      let one = next-number day (on .there) (on .since) in
       record {
-        reaches =
-            λ p h.
-            ⊎-elim (λ (l : p < n). omega (arith, length-append (hoursOf d) left, long′))
-            (λ (l : n ≤ p). omega (arith, length-append (hoursOf d) left, long′, rest .reaches (p - n) (omega arith)))
-            (order p n);
-        shows =
-            λ p h.
-            ⊎-elim (λ (l : p < n). in-first (hoursOf d) left n p long′ l ∙ ap (λ (t : List ℕ). getD t p 0) is ∙ day p l)
-            (λ (l : n ≤ p).
-            let back : p - n + n ≡ p = omega arith in
-            past-first (hoursOf d) left n p long′ l
-            ∙ rest .shows (p - n) (omega arith)
-            ∙ shown-before (clockOf (24 * k) 0) (p - n) (omega arith)
-            ∙ turn (p - n)
-            ∙ ap (λ (q : ℕ). (q + ahead) % 24) back
-            ∙ sym (shown-after (clockOf 2 ahead) p (omega arith)))
-            (order p n);
+        hour = hour-is (light (next day)) (ap (λ (t : Bool). cond t (light day) (light (next day))) (le-ltb (a .hour) 2 h));
+        since = some now (omega (arith, there .ahead, one, on .number));
+        till = three now (λ j k. omega (arith, there .over j k, one, on .number, days-few d passed a));
+        over =
+            λ j s k.
+            let down : changeDay j ≤ dayNumber day = omega (arith, there .over j k, one) in
+            ⊎-elim (λ (q : changeDay j ≡ dayNumber day). omega (arith, counted, today j (sym q), on .number))
+            (λ (l : changeDay j < dayNumber day). omega (arith, counted, to-come j s, on .number))
+            (eq-or-lt-of-le down);
+        ahead =
+            λ j s k.
+            omega (arith, counted, a .within, day-shows day (on .there) (on .since) .long, there .ahead, one, on .number, changes-grow now j k);
       }
 
-module _ (k : ℕ) (few : k ≤ searched) (d : Date) (e : exists d ≡ true) (since : firstYear ≤ d .year) where
-  spring-first : springs d ≡ true → Runs 1 (suc k) d (clockOf 2 1)
-  spring-first s =
-      change-first k d springHours (spring-hours d s) 23 1 refl (omega arith) spring-shown (λ q. omega arith)
-      (quiet-runs k (next d) (quiet-after d e since (inl s) k few))
+  moment : (now : ℕ) × Over d passed now
+  moment = ⊎-elim (λ (h : a .hour < 2). (changesBefore day, early h)) (λ (h : 2 ≤ a .hour). (changesBefore (next day), late h)) (order (a .hour) 2)
 
-  fall-first : falls d ≡ true → Runs 1 (suc k) d (clockOf 2 23)
-  fall-first f =
-      change-first k d fallHours (fall-hours d f) 25 23 refl (omega arith) fall-shown (λ q. omega arith)
-      (quiet-runs k (next d) (quiet-after d e since (inr f) k few))
+-- ---- so the clock shows it
 
--- ---- the walk of `clock_from`, one day after the other until one on which time changes
+-- whether an odd number of the three is over
+module _ (clock : Clock) (p : ℕ) where
+  none-over : p < clock .first → turned clock p ≡ false
+  none-over a = simp (lt-leb (clock .first) p a)
 
-abbrev later : ℕ → Clock → Clock
-later days clock = clockOf (24 * days + clock .change) (clock .ahead)
+  one-over : clock .first ≤ p → p < clock .second → turned clock p ≡ true
+  one-over a b = simp (le-leb (clock .first) p a, lt-ltb p (clock .second) b)
 
--- what holds so many plain days on
-pub record Leads (d : Date) (days : ℕ) (on : Date) : Type 0 where
-  pub there : exists on ≡ true
-  pub since : firstYear ≤ on .year
-  pub number : dayNumber on ≡ dayNumber d + days
-  pub found : clockFound days (searched - days) on ≡ clockFrom d
-  pub runs : (clock : Clock) → Runs 1 (searched - days) on clock → Runs 1 searched d (later days clock)
+  two-over : clock .first ≤ p → clock .second ≤ p → p < clock .third → turned clock p ≡ false
+  two-over a b c = simp (le-leb (clock .first) p a, le-ltb p (clock .second) b, lt-leb (clock .third) p c)
 
--- how the search ends
-pub record Ends (d : Date) (clock : Clock) : Type 0 where
-  pub found : clock ≡ clockFrom d
-  pub runs : Runs 1 searched d clock
+  three-over : clock .first ≤ p → clock .second ≤ p → clock .third ≤ p → turned clock p ≡ true
+  three-over a b c = simp (le-leb (clock .first) p a, le-ltb p (clock .second) b, le-leb (clock .third) p c)
 
-pub leads-start : (d : Date) → Within lastYear d → Leads d 0 d
+-- a clock by the hours passed at the next three changes
+record Timed (d : Date) (clock : Clock) : Type 0 where
+  first : clock .first ≡ passedAt (dayNumber d) (changesBefore d) (changesBefore d + 0)
+  second : clock .second ≡ passedAt (dayNumber d) (changesBefore d) (changesBefore d + 1)
+  third : clock .third ≡ passedAt (dayNumber d) (changesBefore d) (changesBefore d + 2)
+  ahead : clock .ahead + 2 * light d ≡ 1 + 24 * light d
+
+timed : (d : Date) → Timed d (clockFrom d)
 unfolding clockFrom
-leads-start d w = record {
-  there = w .there;
-  since = w .since;
-  number = omega arith;
+timed d =
+    let before = changesBefore d in
+    let first = ap changeDay (add-zero before) in
+    ⊎-elim
+    (λ (even : before % 2 < 1).
+    rw (eq-eqb (before % 2) 0 (omega arith))
+    (record { first = omega arith; second = omega arith; third = omega arith; ahead = omega arith }))
+    (λ (odd : 1 ≤ before % 2).
+    rw (ne-eqb (before % 2) 0 (λ (z : before % 2 ≡ 0). omega arith))
+    (record { first = omega arith; second = omega arith; third = omega arith; ahead = omega arith }))
+    (order (before % 2) 1)
+
+module _ (d : Date) (passed now : ℕ) (o : Over d passed now) (clock : Clock) (t : Timed d clock) where
+  -- which of the three are over
+  in-turn : (i at : ℕ) → at ≡ passedAt (dayNumber d) (changesBefore d) (changesBefore d + i)
+      → (changesBefore d + i < now → at ≤ passed) × (now ≤ changesBefore d + i → passed < at)
+  in-turn i at is =
+      (λ h. omega (arith, is, o .over (changesBefore d + i) (omega arith) h), λ h. omega (arith, is, o .ahead (changesBefore d + i) (omega arith) h))
+
+  even : turned clock passed ≡ false → now % 2 ≡ light d → clockAfter d passed ≡ shown clock passed
+  even is same = let e : (passed + 24 + now % 2 - light d) % 24 ≡ passed % 24 = omega arith in o .hour ∙ e ∙ sym (shown-plain clock passed is)
+
+  odd : turned clock passed ≡ true → now % 2 + light d ≡ 1 → clockAfter d passed ≡ shown clock passed
+  odd is other =
+      let e : (passed + 24 + now % 2 - light d) % 24 ≡ (passed + clock .ahead) % 24 = omega (arith, t .ahead) in
+      o .hour ∙ e ∙ sym (shown-ahead clock passed is)
+
+  same-hour : clockAfter d passed ≡ shown clock passed
+  same-hour =
+      let before = changesBefore d in
+      let one = in-turn 0 (clock .first) (t .first) in
+      let two = in-turn 1 (clock .second) (t .second) in
+      let three = in-turn 2 (clock .third) (t .third) in
+      ⊎-elim
+      (λ (a : before + 0 < now).
+      ⊎-elim
+      (λ (b : before + 1 < now).
+      ⊎-elim (λ (c : before + 2 < now). odd (three-over clock passed (one .0 a) (two .0 b) (three .0 c)) (omega (arith, o .till)))
+      (λ (c : now ≤ before + 2). even (two-over clock passed (one .0 a) (two .0 b) (three .1 c)) (omega arith))
+      (order (before + 2) now))
+      (λ (b : now ≤ before + 1). odd (one-over clock passed (one .0 a) (two .1 b)) (omega arith))
+      (order (before + 1) now))
+      (λ (a : now ≤ before + 0). even (none-over clock passed (one .1 a)) (omega (arith, o .since)))
+      (order (before + 0) now)
+
+pub follows : (d : Date) → Within lastYear d → Follows d (clockFrom d)
+follows d w = record {
   found = refl;
-  runs =
-      λ clock r.
-      let at : clock .change ≡ 24 * 0 + clock .change = omega arith in
-      subst (λ (n : ℕ). Runs 1 searched d (clockOf n (clock .ahead))) at r;
-}
-
-module _ (d : Date) (days : ℕ) (on : Date) (w : Leads d days on) where
-  pub leads-within : Within lastYear d → days ≤ searched → Within lastNumbered on
-  leads-within first h = record {
-    there = w .there;
-    since = w .since;
-    till = omega (arith, first .till, year-after d on (first .there) (first .since) (omega (arith, w .number)));
-  }
-
-  module _ (h : days < searched) where
-    left-is : suc (searched - (days + 1)) ≡ searched - days
-    left-is = omega arith
-
-    -- what is found is found on this day, or from the next on
-    here : (springs-is falls-is : Bool) → springs on ≡ springs-is → falls on ≡ falls-is
-        → cond springs-is (clockOf (24 * days + 2) 1)
-        (cond falls-is (clockOf (24 * days + 2) 23) (clockFound (days + 1) (searched - (days + 1)) (next on)))
-        ≡ clockFrom d
-    here s f is-s is-f =
-        let on-from = clockFound (days + 1) (searched - (days + 1)) (next on) in
-        sym
-        (ap₂ (λ (s f : Bool). cond s (clockOf (24 * days + 2) 1) (cond f (clockOf (24 * days + 2) 23) on-from)) is-s is-f)
-        ∙ ap (λ (k : ℕ). clockFound days k on) left-is
-        ∙ w .found
-
-    pub leads-next : springs on ≡ false → falls on ≡ false → Leads d (days + 1) (next on)
-    leads-next s f = record {
-      there = next-exists on (w .there);
-      since = next-from on (w .since);
-      number = omega (arith, w .number, next-number on (w .there) (w .since));
-      found = here false false s f;
-      runs =
-          λ clock r.
-          let one = plain-first 1 (searched - (days + 1)) on clock s f r in
-          let at : 24 * days + (24 + clock .change) ≡ 24 * (days + 1) + clock .change = omega arith in
-          let more = clockOf (24 + clock .change) (clock .ahead) in
-          subst (λ (n : ℕ). Runs 1 searched d (clockOf n (clock .ahead))) at
-          (w .runs more (subst (λ (k : ℕ). Runs 1 k on more) left-is one));
-    }
-
-    pub leads-spring : springs on ≡ true → Ends d (clockOf (24 * days + 2) 1)
-    leads-spring s = record {
-      found = here true (falls on) s refl;
-      runs =
-          w .runs (clockOf 2 1)
-          (subst (λ (k : ℕ). Runs 1 k on (clockOf 2 1)) left-is (spring-first (searched - (days + 1)) (omega arith) on (w .there) (w .since) s));
-    }
-
-    pub leads-fall : falls on ≡ true → Ends d (clockOf (24 * days + 2) 23)
-    leads-fall f = record {
-      found = here false true (fall-not-spring on f) f;
-      runs =
-          w .runs (clockOf 2 23)
-          (subst (λ (k : ℕ). Runs 1 k on (clockOf 2 23)) left-is (fall-first (searched - (days + 1)) (omega arith) on (w .there) (w .since) f));
-    }
-
-pub leads-end : (d on : Date) → Leads d searched on → Ends d (clockOf (24 * searched) 0)
-leads-end d on w = record { found = w .found; runs = w .runs (clockOf 0 0) (runs-none 1 on (clockOf 0 0)) }
-
--- ---- over a horizon
-
-pub follows : (d : Date) (clock : Clock) → Ends d clock → clock .ahead ≤ mostAhead → Follows d clock
-unfolding clockAfter
-follows d clock ends small = record {
-  found = ends .found;
-  same =
-      λ p h.
-      hours-agree (suc (p / 23)) searched d p (hours-enough (suc (p / 23)) d p (omega arith)) (ends .runs .reaches p (omega arith))
-      ∙ ends .runs .shows p (omega arith);
-  small = small;
+  same = λ p h. let m = moment d w p h (at p d p (omega arith)) in same-hour d p (m .0) (m .1) (clockFrom d) (timed d);
+  small = omega (arith, timed d .ahead);
 }

@@ -2,7 +2,7 @@
 use mathlib.Core.Path.{_≡_}
 use mathlib.Core.Bool.{Bool, true, _&&_, _||_, not, cond}
 use mathlib.Core.List.{List, [], _∷_}
-use Prim.Native.Nat.{ℕ, zero, suc, _+_, _-_, _%_, _≤_}
+use Prim.Native.Nat.{ℕ, zero, suc, _+_, _-_, _%_, _<_, _≤_}
 use lib.Dec.{leb, ltb, eqb}
 use lib.ListN.{getD, take}
 use Rattle.calendar.specs.declared.Date.{Date}
@@ -41,9 +41,9 @@ firstYear = 2007
 abbrev pub lastYear : ℕ
 lastYear = 2099
 
--- days are counted into the year after it
+-- days are counted beyond it: a year from its last day on ends two years later
 abbrev pub lastNumbered : ℕ
-lastNumbered = 2100
+lastNumbered = 2101
 
 -- a date that exists, from the first year to this one
 pub record Within (last : ℕ) (d : Date) : Type 0 where
@@ -66,6 +66,14 @@ daysBefore leap month = sum (take (month - 1) (months leap))
 
 unfoldable pub dayNumber : Date → ℕ
 dayNumber d = daysOfYears (d .year - firstYear) + daysBefore (leap (d .year)) (d .month) + (d .day - 1)
+
+-- more than any within the years that are numbered
+abbrev pub pastNumbers : ℕ
+pastNumbers = 40000
+
+pub record Numbered (d : Date) (number : ℕ) : Type 0 where
+  pub is : number ≡ dayNumber d
+  pub small : number < pastNumbers
 
 unfoldable pub isSunday : Date → Bool
 isSunday d = eqb (dayNumber d % 7) 6

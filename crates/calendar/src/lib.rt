@@ -1,9 +1,11 @@
-// Dates and clock hours: which dates exist, and the hour that the clock shows so many hours after a date's midnight.
+// Dates, clock hours and months: which dates exist, the hour that the clock shows so many hours after a date's midnight, and the calendar months of
+// the intervals from there on. Nothing is searched day by day: a day has a number, and so have the Sundays on which time changes.
 
 ghost use mathlib.Core.Path.{_≡_};
 ghost use Prim.Native.Nat.{suc, _≤_, _<_};
 ghost use Rattle.calendar.specs.Dates as dates;
 ghost use Rattle.calendar.specs.Clock as clocks;
+ghost use Rattle.calendar.specs.Months as months;
 ghost use Rattle.calendar.specs.Words as words;
 
 pub struct Date {
@@ -12,9 +14,12 @@ pub struct Date {
     pub day: u64,
 }
 
-// How the clock runs over a horizon: as the hours are counted up to the change of time, from there on so many hours ahead.
+// How the clock runs over a horizon: as the hours are counted, but so many hours ahead from the first change of time to the second, and from the
+// third on.
 pub struct Clock {
-    pub change: u64,
+    pub first: u64,
+    pub second: u64,
+    pub third: u64,
     pub ahead: u64,
 }
 
@@ -25,8 +30,13 @@ const BEFORE_LEAP: [u64; 13] = [0, 31, 60, 91, 121, 152, 182, 213, 244, 274, 305
 
 const FIRST_YEAR: u64 = 2007;
 
-// The days in which a change of time is looked for: more than a horizon has.
-const SEARCHED: u64 = 32;
+// The leap days before it, by the rule of leap years.
+const FIRST_LEAPS: u64 = 486;
+
+// A year's horizon has no more months.
+const MOST_MONTHS: u64 = 13;
+
+// ---- dates
 
 pub fn exists(date: Date) -> bool
     ensures { λ r. ⌜ r ≡ dates.exists date ⌝ }
@@ -66,97 +76,115 @@ fn is_leap(year: u64) -> bool
     (year % 4 == 0) & ((year % 100 != 0) | (year % 400 == 0))
 }
 
-// The days since the first day of the first year. Up to 2100 every fourth year before it was leap.
+// The days since the first day of the first year: 365 for each year, the leap days of the years before, and those of its own.
 fn day_number(date: Date) -> u64
     requires { ⌜ dates.Within dates.lastNumbered date ⌝ }
-    ensures { λ r. ⌜ r ≡ dates.dayNumber date ⌝ }
-{
-    let years = date.year - FIRST_YEAR;
-    let months = (date.month - 1) as usize;
-    let before = days_before(is_leap(date.year), months);
-    365 * years + (years + 2) / 4 + before + (date.day - 1)
-}
-
-fn is_sunday(date: Date) -> bool
-    requires { ⌜ dates.Within dates.lastNumbered date ⌝ }
-    ensures { λ r. ⌜ r ≡ dates.isSunday date ⌝ }
-{
-    day_number(date) % 7 == 6
-}
-
-// The day after a date.
-fn following(date: Date) -> Date
-    requires { ⌜ date .year ≤ dates.lastNumbered ⌝ }
-    ensures { λ r. ⌜ r ≡ dates.next date ⌝ }
+    ensures { λ r. ⌜ dates.Numbered date r ⌝ }
 {
     let year = date.year;
-    let month = date.month;
-    let day = date.day;
-    if day < days_in(year, month) {
-        return Date {
-            year,
-            month,
-            day: day + 1,
-        };
-    }
-    if month < 12 {
-        return Date {
-            year,
-            month: month + 1,
-            day: 1,
-        };
-    }
-    Date {
-        year: year + 1,
-        month: 1,
+    let last = year - 1;
+    let leaps = last / 4 + last / 400 - last / 100 - FIRST_LEAPS;
+    let months = (date.month - 1) as usize;
+    let before = days_before(is_leap(year), months);
+    365 * (year - FIRST_YEAR) + leaps + before + (date.day - 1)
+}
+
+// ---- changes of time
+
+// The first Sunday from a day on, by their numbers.
+fn sunday_from(day: u64) -> u64
+    requires { ⌜ day < dates.pastNumbers ⌝ }
+    ensures { λ r. ⌜ r ≡ clocks.sundayFrom day ⌝ }
+{
+    day + (6 - day % 7)
+}
+
+// The second Sunday of March.
+fn spring_day(year: u64) -> u64
+    requires { ⌜ (dates.firstYear ≤ year) × (year ≤ dates.lastNumbered) ⌝ }
+    ensures { λ r. ⌜ r ≡ clocks.springDay year ⌝ }
+{
+    sunday_from(day_number(Date {
+        year,
+        month: 3,
+        day: 8,
+    }))
+}
+
+// The first Sunday of November.
+fn fall_day(year: u64) -> u64
+    requires { ⌜ (dates.firstYear ≤ year) × (year ≤ dates.lastNumbered) ⌝ }
+    ensures { λ r. ⌜ r ≡ clocks.fallDay year ⌝ }
+{
+    sunday_from(day_number(Date {
+        year,
+        month: 11,
         day: 1,
+    }))
+}
+
+// The day of the change of time after so many from the first year on.
+fn change_day(before: u64) -> u64
+    requires { ⌜ before ≤ clocks.mostChanges ⌝ }
+    ensures { λ r. ⌜ r ≡ clocks.changeDay before ⌝ }
+{
+    let year = FIRST_YEAR + before / 2;
+    if before % 2 == 0 {
+        return spring_day(year);
     }
+    fall_day(year)
 }
 
-// Whether clocks go forward on a date: the second Sunday of March.
-fn springs(date: Date) -> bool
+// The changes of time that are over at a date's midnight, from the first year on: an odd number when daylight time is on.
+fn changes_before(date: Date) -> u64
     requires { ⌜ dates.Within dates.lastNumbered date ⌝ }
-    ensures { λ r. ⌜ r ≡ clocks.springs date ⌝ }
+    ensures { λ r. ⌜ r ≡ clocks.changesBefore date ⌝ }
 {
-    let sunday = is_sunday(date);
-    (date.month == 3) & (8 <= date.day) & (date.day <= 14) & sunday
+    let year = date.year;
+    let number = day_number(date);
+    let before = 2 * (year - FIRST_YEAR);
+    if number <= spring_day(year) {
+        return before;
+    }
+    if number <= fall_day(year) {
+        return before + 1;
+    }
+    before + 2
 }
 
-// Whether clocks go back on a date: the first Sunday of November.
-fn falls(date: Date) -> bool
-    requires { ⌜ dates.Within dates.lastNumbered date ⌝ }
-    ensures { λ r. ⌜ r ≡ clocks.falls date ⌝ }
+// ---- the clock
+
+// The hours from a day's midnight to 2 o'clock on the day of a change, by days of 24.
+fn hours_to(number: u64, before: u64) -> u64
+    requires { ⌜ (before ≤ clocks.mostChanges) × (number ≤ clocks.changeDay before) ⌝ }
+    ensures { λ r. ⌜ r ≡ clocks.hoursTo number before ⌝ }
 {
-    let sunday = is_sunday(date);
-    (date.month == 11) & (date.day <= 7) & sunday
+    24 * (change_day(before) - number) + 2
 }
 
-// The clock from a date's midnight on, over a horizon: day by day until one on which time changes. No second one follows in time.
+// The clock from a date's midnight on, by the next three changes of time: by the second an hour is missing, or one came twice.
 pub fn clock_from(date: Date) -> Clock
     requires { ⌜ dates.Within dates.lastYear date ⌝ }
     ensures { λ r. ⌜ clocks.Follows date r ⌝ }
 {
-    let mut on = date;
-    let mut days: u64 = 0;
-    while days < SEARCHED {
-        if springs(on) {
-            return Clock {
-                change: 24 * days + 2,
-                ahead: 1,
-            };
-        }
-        if falls(on) {
-            return Clock {
-                change: 24 * days + 2,
-                ahead: 23,
-            };
-        }
-        on = following(on);
-        days = days + 1;
+    let number = day_number(date);
+    let before = changes_before(date);
+    let first = hours_to(number, before);
+    let second = hours_to(number, before + 1);
+    let third = hours_to(number, before + 2);
+    if before % 2 == 0 {
+        return Clock {
+            first,
+            second: second - 1,
+            third,
+            ahead: 1,
+        };
     }
     Clock {
-        change: 24 * SEARCHED,
-        ahead: 0,
+        first,
+        second: second + 1,
+        third,
+        ahead: 23,
     }
 }
 
@@ -165,12 +193,58 @@ pub fn hour_after(clock: Clock, passed: u64) -> u64
     requires { ⌜ (passed ≤ clocks.mostPassed) × (clock .ahead ≤ clocks.mostAhead) ⌝ }
     ensures { λ r. ⌜ r ≡ clocks.shown clock passed ⌝ }
 {
-    let ahead = clock.ahead;
-    if passed < clock.change {
-        return passed % 24;
+    if (clock.first <= passed) & ((passed < clock.second) | (clock.third <= passed)) {
+        return (passed + clock.ahead) % 24;
     }
-    (passed + ahead) % 24
+    passed % 24
 }
+
+// ---- months
+
+// The date itself, or the first day of the month so many months on.
+fn month_on(date: Date, on: u64) -> Date
+    requires { ⌜ (dates.Within dates.lastYear date) × (on ≤ months.mostMonths) ⌝ }
+    ensures { λ r. ⌜ r ≡ months.monthsOn on date ⌝ }
+{
+    if on == 0 {
+        return date;
+    }
+    let before = date.month - 1 + on;
+    Date {
+        year: date.year + before / 12,
+        month: before % 12 + 1,
+        day: 1,
+    }
+}
+
+// The interval, counted from 0, at which a month begins; the date's own is month 1, and where the last one ends month 14 begins. Daylight time that
+// is on at one of the two midnights alone has taken an hour away, or given one back.
+pub fn month_begins(date: Date, month: u64) -> u64
+    requires { ⌜ (dates.Within dates.lastYear date) × (1 ≤ month) × (month ≤ suc months.mostMonths) ⌝ }
+    ensures { λ r. ⌜ r ≡ months.monthBegins date month ⌝ }
+{
+    let first = month_on(date, month - 1);
+    let end = 24 * day_number(first) + changes_before(date) % 2;
+    let start = 24 * day_number(date) + changes_before(first) % 2;
+    4 * (end - start)
+}
+
+// The month in which an interval, counted from 0, falls; the date's own is month 1.
+pub fn month_of(date: Date, interval: u64) -> u64
+    requires { ⌜ (dates.Within dates.lastYear date) × (interval < months.yearIntervals) ⌝ }
+    ensures { λ r. ⌜ r ≡ months.monthOf date interval ⌝ }
+{
+    let mut month: u64 = 1;
+    while month < MOST_MONTHS {
+        if interval < month_begins(date, month + 1) {
+            return month;
+        }
+        month += 1;
+    }
+    month
+}
+
+// ---- words of permitted hours
 
 // Whether a word of permitted hours allows an hour.
 pub fn allows(word: u64, hour: u64) -> bool

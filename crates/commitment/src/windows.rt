@@ -1,6 +1,5 @@
 // The hours of a permit over a horizon, asked interval by interval.
 
-use crate::Cause;
 use crate::Permit;
 use crate::Window;
 use calendar::Clock;
@@ -24,12 +23,6 @@ pub struct Allowed {
 pub enum Hours {
     All,
     Of(Allowed),
-}
-
-// The clock hour of an interval, or why there is none.
-pub enum ClockRead {
-    Hour(u64),
-    Refused(Cause),
 }
 
 // The hours of a permit in its ranges, whose date exists.

@@ -7,8 +7,8 @@ use Rattle.casefile.specs.declared.CaseRead.{CaseRead}
 use Rattle.casefile.specs.declared.CaseRead.the-variants as read
 use Rattle.commitment.specs.declared.Checked.{Checked}
 use Rattle.commitment.specs.declared.Checked.the-variants.{Passed, Refused}
-use Rattle.commitment.specs.declared.windows.ClockRead.{ClockRead}
-use Rattle.commitment.specs.Windows.{clockNumber, hourIn}
+use Rattle.checking.specs.declared.clock.ClockRead.{ClockRead}
+use Rattle.checking.specs.Clock.{clockNumber, hourIn}
 use Rattle.commitment.specs.Causes.{numberOf}
 use Rattle.costs.specs.declared.Costed.{Costed}
 use Rattle.costs.specs.Answers.{costedNumber, costedVec, costedSuc, costedMlc}
@@ -28,6 +28,7 @@ use Rattle.exports.specs.declared.numbers.CellsNumbers.{CellsNumbers}
 use Rattle.exports.specs.declared.numbers.ClockNumbers.{ClockNumbers}
 use Rattle.exports.specs.declared.numbers.CurveNumbers.{CurveNumbers}
 use Rattle.exports.specs.declared.numbers.FiguresNumbers.{FiguresNumbers}
+use Rattle.exports.specs.declared.numbers.HoursNumbers.{HoursNumbers}
 use Rattle.exports.specs.declared.numbers.PlanNumbers.{PlanNumbers}
 use Rattle.exports.specs.declared.numbers.ReportNumbers.{ReportNumbers}
 use Rattle.exports.specs.declared.numbers.ValueNumbers.{ValueNumbers}
@@ -66,6 +67,12 @@ reportNumbers answer =
 
 abbrev pub clockNumbers : ClockRead → ClockNumbers
 clockNumbers answer = record { number = clockNumber answer; hour = hourIn answer }
+
+-- ---- the clock hours of a slice of so many entries, where the check of its date and intervals passes
+
+abbrev pub hoursNumbers : Checked → ℕ → HoursNumbers
+hoursNumbers Passed entries = record { number = 0; count = entries }
+hoursNumbers (Refused cause) entries = record { number = numberOf cause; count = 0 }
 
 -- ---- the cells that a case of so many intervals needs, and those of its long table, where its check passes
 

@@ -13,6 +13,7 @@ use numbers::CellsNumbers;
 use numbers::ClockNumbers;
 use numbers::CurveNumbers;
 use numbers::FiguresNumbers;
+use numbers::HoursNumbers;
 use numbers::OutcomesNumbers;
 use numbers::PlanNumbers;
 use numbers::ReportNumbers;
@@ -25,7 +26,7 @@ ghost use mathlib.Core.Bool.{true};
 ghost use Rattle.commitment.specs.Cells.{cellsNeeded, cellsLong};
 ghost use Rattle.calendar.specs.Dates.{date};
 ghost use Rattle.commitment.specs.Ranges.{caseChecked};
-ghost use Rattle.commitment.specs.Windows.{clockHour};
+ghost use Rattle.checking.specs.Clock.{clockHour, clockChecked, hoursLeft};
 ghost use Rattle.assessment.specs.Assessed.{assessed};
 ghost use Rattle.casefile.specs.Answers.{readCase, readPrices};
 ghost use Rattle.costs.specs.Answers.{costed};
@@ -35,7 +36,7 @@ ghost use Rattle.planner.specs.Planning.{planned, scheduleLeft, scratchLeft};
 ghost use Rattle.planner.specs.Reporting.{reported};
 ghost use Rattle.planner.specs.Valuing.{valued, scratchValued};
 ghost use Rattle.exports.specs.Records.{recordOf, outcomesFrom, wordFrom};
-ghost use Rattle.exports.specs.Answers.{assessNumbers, caseNumbers, cellsNumbers, clockNumbers, curveNumbers, figuresNumbers};
+ghost use Rattle.exports.specs.Answers.{assessNumbers, caseNumbers, cellsNumbers, clockNumbers, curveNumbers, figuresNumbers, hoursNumbers};
 ghost use Rattle.exports.specs.Answers.{planNumbers, reportNumbers, valueNumbers, writtenNumbers};
 
 // The text of a case into its record, its prices into the front of the slice.
@@ -164,6 +165,24 @@ pub extern "C" fn ralwinga_clock_hour(
     ensures { λ r. ⌜ r ≡ clockNumbers (clockHour (date year month day) interval) ⌝ }
 {
     numbers::of_clock(checking::clock::clock_hour(Date { year, month, day }, interval))
+}
+
+// The clock hours of the first intervals, one in each entry of the slice; or 3 or 12, and the slice is as it was.
+#[no_mangle]
+pub extern "C" fn ralwinga_clock_hours(
+    year: u64,
+    month: u64,
+    day: u64,
+    hours: &mut [u64],
+) -> HoursNumbers
+    ensures { λ r. ⌜ r ≡ hoursNumbers (clockChecked (date year month day) (length (now (hours .entry)))) (length (now (hours .entry))) ⌝ }
+    ensures { λ _. ⌜ now (hours .exit) ≡ hoursLeft (date year month day) (now (hours .entry)) ⌝ }
+{
+    let entries = hours.len();
+    numbers::of_hours(
+        checking::clock::hours_into(Date { year, month, day }, hours),
+        entries,
+    )
 }
 
 // The listing of a plan into the front of the buffer, with the hour word of its case, `none` where it has none.

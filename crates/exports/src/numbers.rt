@@ -3,6 +3,8 @@
 use assessment::Assessed;
 use calendar::Date;
 use casefile::CaseRead;
+use checking::clock::ClockRead;
+use commitment::Checked;
 use commitment::Costs;
 use commitment::Generator;
 use commitment::Limit;
@@ -13,7 +15,6 @@ use commitment::Outcomes;
 use commitment::Permit;
 use commitment::UnitRecord;
 use commitment::Window;
-use commitment::windows::ClockRead;
 use costs::Costed;
 use curves::Curved;
 use listing::HourWord;
@@ -103,6 +104,12 @@ pub struct CellsNumbers {
 pub struct ClockNumbers {
     pub number: u64,
     pub hour: u64,
+}
+
+#[repr(C)]
+pub struct HoursNumbers {
+    pub number: u64,
+    pub count: usize,
 }
 
 #[repr(C)]
@@ -401,6 +408,22 @@ pub fn of_clock(answer: ClockRead) -> ClockNumbers
     ClockNumbers {
         number: checking::clock::number_of(answer),
         hour: checking::clock::hour_in(answer),
+    }
+}
+
+// The hours of a lent slice, as many as it has entries.
+pub fn of_hours(answer: Checked, entries: usize) -> HoursNumbers
+    ensures { λ r. ⌜ r ≡ answers.hoursNumbers answer entries ⌝ }
+{
+    match answer {
+        Checked::Passed => HoursNumbers {
+            number: 0,
+            count: entries,
+        },
+        Checked::Refused(cause) => HoursNumbers {
+            number: commitment::number_of(cause),
+            count: 0,
+        },
     }
 }
 

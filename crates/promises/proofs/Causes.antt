@@ -13,8 +13,8 @@ use Rattle.lists.proofs.Conjunctions.{both}
 use Rattle.calendar.specs.declared.Date.{Date}
 use Rattle.calendar.specs.Clock.{clockAfter}
 use Rattle.commitment.specs.declared.Cause.{Cause}
-use Rattle.commitment.specs.declared.windows.ClockRead.the-variants as clock
-use Rattle.commitment.specs.Windows.{clockChecks, clockBy, clockHour}
+use Rattle.checking.specs.declared.clock.ClockRead.the-variants as clock
+use Rattle.checking.specs.Clock.{clockChecks, clockChecked, clockBy, clockHour}
 use Rattle.commitment.specs.declared.Cause.the-variants.{Range, Length, Scratch, NoSchedule}
 use Rattle.commitment.specs.declared.Checked.{Checked}
 use Rattle.commitment.specs.declared.Checked.the-variants.{Passed, Refused}
@@ -293,7 +293,7 @@ module _ (text : List ℕ) where
       Iff·trans (report-given (unitIn text) (pricesIn text) (allFound text) answer-found)
       (passed-none (answerChecks text) (answeringCauses text) answer-judged)
 
--- ---- the clock hour
+-- ---- the clock hour of an interval, and those of as many intervals as a slice has entries
 
 module _ (d : Date) (interval : ℕ) where
   clock-judged : Judged (clockChecks d interval) (clockCauses d interval)
@@ -308,6 +308,9 @@ module _ (d : Date) (interval : ℕ) where
 
   pub clock-answered : (clockHour d interval ≡ clock.Hour (clockAfter d ((interval - 1) / 4))) ↔ NoneOf (clockCauses d interval)
   clock-answered = answer-given clock-answers (clockChecks d interval) (clockCauses d interval) clock-judged
+
+  pub hours-refused : {cause : Cause} → (clockChecked d interval ≡ Refused cause) ↔ FirstOf (clockCauses d interval) cause
+  hours-refused = refused-first (clockChecks d interval) (clockCauses d interval) clock-judged
 
 -- ---- a text into a buffer, and a listing, whose word is judged first
 

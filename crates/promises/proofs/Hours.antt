@@ -1,28 +1,34 @@
--- Permitted hours (specification 22), clause by clause: the calendar, the clock hour of an interval, the rivals held to the hours, and the listing's line.
+-- Permitted hours (specification 22), clause by clause: the calendar, the clock hours of intervals, their months, the rivals held to the hours, and
+-- the listing's line.
 use mathlib.Core.Path.{_≡_, refl, sym, ap, _∙_}
 use mathlib.Core.Bool.{Bool, true, false, _&&_, false≢true}
 use mathlib.Core.List.{List, [], _∷_, _++_, append-assoc, append-nil}
 use mathlib.Core.Logic.{_↔_}
-use Prim.Native.Nat.{ℕ, zero, suc, _+_, _-_, _/_}
+use Prim.Native.Nat.{ℕ, zero, suc, _+_, _-_, _/_, _<_, _≤_}
 use native.Mathlib.Omega.{arith}
 use lib.IntN.{ℤ}
 use lib.ListN.{getD}
 use Rattle.lists.proofs.Conjunctions.{both}
 use Rattle.calendar.specs.declared.Date.{Date}
-use Rattle.calendar.specs.Dates.{exists}
+use Rattle.calendar.specs.Dates.{exists, firstYear}
 use Rattle.calendar.specs.Tables.{existsByTable}
 use Rattle.calendar.specs.Clock.{springs, falls, hoursOf, clockAfter}
+use Rattle.calendar.specs.Months.{monthOf, monthBegins}
 use Rattle.calendar.proofs.Tables as tables
 use Rattle.calendar.proofs.Days as days
+use Rattle.calendar.proofs.Months as months
 use Rattle.commitment.specs.declared.Cause.{Cause}
+use Rattle.commitment.specs.declared.Checked.{Checked}
+use Rattle.commitment.specs.declared.Checked.the-variants.{Passed, Refused}
 use Rattle.commitment.specs.declared.Outcomes.{Outcomes}
 use Rattle.commitment.specs.declared.Permit.the-variants.{AnyHour}
 use Rattle.commitment.specs.declared.UnitRecord.{UnitRecord}
-use Rattle.commitment.specs.declared.windows.ClockRead.the-variants as clock
+use Rattle.checking.specs.declared.clock.ClockRead.the-variants as clock
 use Rattle.commitment.specs.Causes.{numberOf}
 use Rattle.commitment.specs.Keeping.{opensIn, offWhereShut, keepsStarts, keepsRuns, keepsSpells, keepsHours, keepsMwh, keepsWindow}
 use Rattle.commitment.specs.Rivals.{Rival}
-use Rattle.commitment.specs.Windows.{clockHour, clockNumber, hourIn}
+use Rattle.checking.specs.Clock.{clockChecked, clockHour, clockNumber, hourIn, hoursBy, hoursLeft}
+use Rattle.checking.proofs.Clocks as clocks
 use Rattle.listing.specs.declared.HourWord.the-variants as word
 use Rattle.listing.specs.Listing.{intervalHeading, valueHeading, intervalLines, profitLine, outcomeLines, hoursLine, listing}
 use Rattle.promises.specs.Causes.{FirstOf, NoneOf, clockCauses}
@@ -57,6 +63,26 @@ clock-answered = causes.clock-answered
 
 pub clock-refusal : (cause : Cause) → (clockNumber (clock.Refused cause) ≡ numberOf cause) × (hourIn (clock.Refused cause) ≡ 0)
 clock-refusal cause = (refl, refl)
+
+-- ---- the clock hours in a lent slice: refused as for the last of its intervals, and the slice is as it was; else each entry is the answer for its
+-- interval
+
+pub hours-refused : (d : Date) (was : List ℕ) (cause : Cause) → (clockChecked d (length was) ≡ Refused cause) ↔ FirstOf (clockCauses d (length was)) cause
+hours-refused d was cause = causes.hours-refused d (length was)
+
+pub hours-untouched : (d : Date) (was : List ℕ) (cause : Cause) → clockChecked d (length was) ≡ Refused cause → hoursLeft d was ≡ was
+unfolding hoursLeft
+hours-untouched d was cause e = ap (λ (k : Checked). hoursBy k d was) e
+
+pub hours-filled : (d : Date) (was : List ℕ) (i : ℕ) → clockChecked d (length was) ≡ Passed → i < length was
+    → clockHour d (suc i) ≡ clock.Hour (getD (hoursLeft d was) i 0)
+hours-filled = clocks.entry-is
+
+-- ---- months of the calendar: an interval, counted from 0, lies in a month exactly when the month has begun and the next has not
+
+pub in-month : (d : Date) → exists d ≡ true → firstYear ≤ d .year → (interval month : ℕ) → 1 ≤ month
+    → (monthOf d interval ≡ month) ↔ ((monthBegins d month ≤ interval) × (interval < monthBegins d (suc month)))
+in-month = months.in-month
 
 -- ---- a schedule that is on in a shut hour is no rival
 

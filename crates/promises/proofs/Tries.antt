@@ -1,5 +1,5 @@
--- The tries of reading off a plan (specification 23), clause by clause. No call tells them: `planner::tables::read_plan`, which reads a plan off the long
--- table, and `planner::pairs::work_plan`, which works it out in two layers, return their sum, `planTries` by their contracts.
+-- The tries of reading off a plan (specification 23), clause by clause. No call tells them: `planner::reading::read_plan`, which reads a plan off the long
+-- table or works it out in two layers, returns their sum, `planTries` by its contract.
 use mathlib.Core.Path.{_≡_, sym, ap, _∙_}
 use mathlib.Core.Bool.{_&&_}
 use mathlib.Core.List.{List, [], map}

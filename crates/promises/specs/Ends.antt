@@ -10,7 +10,7 @@ use Rattle.commitment.specs.declared.Limit.the-variants.{At}
 use Rattle.commitment.specs.declared.Permit.the-variants.{Within}
 use Rattle.commitment.specs.declared.UnitRecord.{UnitRecord}
 use Rattle.commitment.specs.Valuing.{noOutcomes}
-use Rattle.commitment.specs.Windows.{clockHour, clockNumber}
+use Rattle.checking.specs.Clock.{clockHour, clockNumber}
 use Rattle.assessment.specs.Assessed.{assessed, assessedNumber}
 use Rattle.costs.specs.Answers.{costed, costedNumber}
 use Rattle.curves.specs.Answers.{curved, curvedNumber}

@@ -1,86 +1,75 @@
--- The invariant: so many plain days have passed, so that the clock is known once it is known from the day at hand on.
-use mathlib.Core.Path.{_≡_, sym, _∙_, subst}
-use mathlib.Core.Bool.{false}
-use Prim.Native.Nat.{ℕ, _+_, _-_, _*_, _≤_}
+-- The next three changes of time are numbered, and none of them is over; the clock is then the definition's, which follows the days.
+use mathlib.Core.Path.{_≡_, sym, ap₂, _∙_, subst}
+use Prim.Native.Nat.{ℕ, _+_, _%_, _≤_}
 use native.Mathlib.Omega.{arith}
 use borrow.Author.Needs.{needs}
-use Rattle.calendar.specs.declared.Date.{Date}
-use Rattle.calendar.specs.Dates.{lastNumbered, Within}
-use Rattle.calendar.specs.Clock.{springs, falls, clockOf, searched}
-use Rattle.calendar.proofs.Running.{Leads, leads-start, leads-within, leads-next, leads-spring, leads-fall, leads-end, follows}
+use borrow.Author.Tests.{eq-eqb, ne-eqb}
+use Rattle.calendar.specs.declared.Clock.{Clock}
+use Rattle.calendar.specs.Clock.{changeDay, changesBefore, mostChanges, clockByChanges, clockFrom, Follows}
+use Rattle.calendar.proofs.Changes.{between, changes-grow, changes-few}
+use Rattle.calendar.proofs.Running.{follows}
 use Rattle.calendar.proofs.clock_from.Statement.{statement}
 use Rattle.calendar.proofs.clock_from.Tie as tie
 
-abbrev Inv-loop : tie.InvT-loop
-Inv-loop on₀ days₀ on days = (days ≤ searched) × Leads on₀ days on
+numbered : (c : tie.After-changes-before) → c .changes-before .result + 3 ≤ mostChanges
+numbered c = omega (arith, c .changes-before .ensures, changes-few (c .before .before .args .date), c .before .before .pre .till)
 
-abbrev μ-loop : tie.MeasureT-loop
-μ-loop on₀ days₀ on days = searched - days
+-- the next change, and any after it
+to-come : (c : tie.After-changes-before) (j : ℕ) → c .changes-before .result ≤ j → c .before .day-number .result ≤ changeDay j
+to-come c j h =
+    let o = c .before .before in
+    let d = o .args .date in
+    omega (
+      arith,
+      c .before .day-number .ensures .is,
+      between d (o .pre .there) (o .pre .since) .ahead,
+      changes-grow (changesBefore d) j (omega (arith, c .changes-before .ensures)),
+    )
 
-loop-holds : tie.Need-loop-holds Inv-loop μ-loop
-loop-holds c = (omega arith, leads-start (c .args .date) (c .pre))
+hours-to-requires : tie.Need-hours-to-requires
+hours-to-requires c κs = (omega (arith, numbered c), to-come c _ (omega arith))
 
--- the day at hand is one whose number the code finds
-within : (c : tie.In-loop Inv-loop μ-loop) → Within lastNumbered (c .before .loop .on)
-within c =
-    let loop = c .before .loop in
-    leads-within (c .before .before .args .date) (loop .days) (loop .on) (loop .inv .1) (c .before .before .pre) (loop .inv .0)
+hours-to-requires-2 : tie.Need-hours-to-requires-2
+hours-to-requires-2 c κs = let told = c .before in (omega (arith, numbered told), to-come told _ (omega arith))
 
-not-spring : (c : tie.Else1 Inv-loop μ-loop) → springs (c .before .before .before .loop .on) ≡ false
-not-spring c = sym (c .before .springs .ensures) ∙ c .if1 .left
+hours-to-requires-3 : tie.Need-hours-to-requires-3
+hours-to-requires-3 c κs = let told = c .before .before in (omega (arith, numbered told), to-come told _ (omega arith))
 
-returns : tie.Need-returns Inv-loop μ-loop
+-- the definition's clock
+found : (c : tie.After-hours-to3) (clock : Clock)
+    → let told = c .before .before .before in
+    clock ≡ clockByChanges (told .before .day-number .result) (told .changes-before .result) → Follows (told .before .before .args .date) clock
+unfolding clockFrom
+found c clock is =
+    let told = c .before .before .before in
+    let o = told .before .before in
+    subst (Follows (o .args .date)) (sym (is ∙ ap₂ clockByChanges (told .before .day-number .ensures .is) (told .changes-before .ensures)))
+    (follows (o .args .date) (o .pre))
+
+returns : tie.Need-returns
 returns c =
-    let turn = c .before .before in
-    let loop = turn .before .loop in
-    follows _ (clockOf (24 * loop .days + 2) 1)
-    (leads-spring _ (loop .days) (loop .on) (loop .inv .1) (turn .loop-test .taken) (sym (c .before .springs .ensures) ∙ c .if1 .taken))
-    (omega arith)
+    let last = c .before in
+    let even = eq-eqb (last .before .before .before .changes-before .result % 2) 0 (c .if1 .taken) in
+    found last _ (simp (last .before .before .hours-to .ensures, last .before .hours-to2 .ensures, last .hours-to3 .ensures, even))
 
-returns-2 : tie.Need-returns-2 Inv-loop μ-loop
+returns-2 : tie.Need-returns-2
 returns-2 c =
-    let turn = c .before .before .before .before in
-    let loop = turn .before .loop in
-    follows _ (clockOf (24 * loop .days + 2) 23)
-    (leads-fall _ (loop .days) (loop .on) (loop .inv .1) (turn .loop-test .taken) (sym (c .before .falls .ensures) ∙ c .if2 .taken))
-    (omega arith)
-
-loop-again : tie.Need-loop-again Inv-loop μ-loop
-loop-again c =
-    let told = c .before .before in
-    let turn = told .before .before .before in
-    let loop = turn .before .loop in
-    let first = turn .before .before .args .date in
-    let next-day =
-    leads-next first (loop .days) (loop .on) (loop .inv .1) (turn .loop-test .taken) (not-spring (told .before))
-    (sym (told .falls .ensures) ∙ c .before .if2 .left) in
-    (omega arith, subst (λ (d : Date). Leads first (loop .days + 1) d) (sym (c .following .ensures)) next-day)
-
-returns-3 : tie.Need-returns-3 Inv-loop μ-loop
-returns-3 c =
-    let loop = c .before .loop in
-    let first = c .before .before .args .date in
-    let at : loop .days ≡ searched = omega arith in
-    follows first (clockOf (24 * searched) 0) (leads-end first (loop .on) (subst (λ (n : ℕ). Leads first n (loop .on)) at (loop .inv .1))) (omega arith)
+    let last = c .before in
+    let odd = ne-eqb (last .before .before .before .changes-before .result % 2) 0 (c .if1 .left) in
+    found last _ (simp (last .before .before .hours-to .ensures, last .before .hours-to2 .ensures, last .hours-to3 .ensures, odd))
 
 pub clock-from-spec : {M : Type 1} → statement M
 clock-from-spec =
     tie.close
     (tie.spec
-    Inv-loop
-    μ-loop
-    loop-holds
-    (λ c κs. within c)
-    (λ c. search needs)
+    (λ c κs. search needs)
+    (λ c κs. search needs)
+    hours-to-requires
+    (λ c. omega (arith, numbered (c .before)))
+    hours-to-requires-2
+    (λ c. omega (arith, numbered (c .before .before)))
+    hours-to-requires-3
     (λ c. search needs)
     returns
-    (λ c κs. within (c .before .before))
     (λ c. search needs)
-    (λ c. search needs)
-    returns-2
-    (λ c κs. within (c .before .before .before .before) .till)
-    (λ c. search needs)
-    (λ c. search needs)
-    loop-again
-    (λ c. search needs)
-    returns-3)
+    returns-2)

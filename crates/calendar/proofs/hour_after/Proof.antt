@@ -1,14 +1,13 @@
--- Before the change of time, and from it on.
+-- The test is that of the definition.
 use borrow.Author.Needs.{needs}
-use borrow.Author.Tests.{lt-ltb, le-ltb}
 use Rattle.calendar.proofs.hour_after.Statement.{statement}
 use Rattle.calendar.proofs.hour_after.Tie as tie
 
 returns : tie.Need-returns
-returns c = simp (lt-ltb _ _ (c .if1 .taken))
+returns c = simp (c .before .if1 .taken)
 
 returns-2 : tie.Need-returns-2
-returns-2 c = simp (le-ltb _ _ (c .if1 .left))
+returns-2 c = simp (c .if1 .left)
 
 pub hour-after-spec : {M : Type 1} → statement M
-hour-after-spec = tie.close (tie.spec returns (λ c. search needs) returns-2)
+hour-after-spec = tie.close (tie.spec (λ c. search needs) returns returns-2)

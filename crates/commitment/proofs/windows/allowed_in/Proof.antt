@@ -3,7 +3,7 @@ use mathlib.Core.Path.{ap, _∙_}
 use Prim.Native.Nat.{_/_}
 use borrow.Author.Needs.{needs}
 use Rattle.calendar.specs.Words.{allows}
-use Rattle.calendar.proofs.Days.{shown-hour}
+use Rattle.calendar.proofs.Running.{shown-hour}
 use Rattle.commitment.proofs.windows.allowed_in.Statement.{statement}
 use Rattle.commitment.proofs.windows.allowed_in.Tie as tie
 
