@@ -20,31 +20,31 @@ use Rattle.calendar.proofs.Changes.{fall-parts, Kind, plain, spring, fa
 
 -- ---- a day has 23 hours, 25 or 24
 
-spring-hours : (d : Date) → springs d ≡ true → hoursOf d ≡ springHours
+pub spring-hours : (d : Date) → springs d ≡ true → hoursOf d ≡ springHours
 unfolding hoursOf
 spring-hours d s = ap (λ (t : Bool). cond t springHours (cond (falls d) fallHours plainHours)) s
 
 fall-not-spring : (d : Date) → falls d ≡ true → springs d ≡ false
 fall-not-spring d f = ap (λ (m : ℕ). eqb m 3 && leb 8 (d .day) && leb (d .day) 14 && isSunday d) (fall-parts d f .0)
 
-fall-hours : (d : Date) → falls d ≡ true → hoursOf d ≡ fallHours
+pub fall-hours : (d : Date) → falls d ≡ true → hoursOf d ≡ fallHours
 unfolding hoursOf
 fall-hours d f =
     ap (λ (t : Bool). cond t springHours (cond (falls d) fallHours plainHours)) (fall-not-spring d f)
     ∙ ap (λ (t : Bool). cond t fallHours plainHours) f
 
-plain-hours : (d : Date) → springs d ≡ false → falls d ≡ false → hoursOf d ≡ plainHours
+pub plain-hours : (d : Date) → springs d ≡ false → falls d ≡ false → hoursOf d ≡ plainHours
 unfolding hoursOf
 plain-hours d s f =
     ap (λ (t : Bool). cond t springHours (cond (falls d) fallHours plainHours)) s ∙ ap (λ (t : Bool). cond t fallHours plainHours) f
 
-pub spring-long : (d : Date) → springs d ≡ true → length (hoursOf d) ≡ 23
+spring-long : (d : Date) → springs d ≡ true → length (hoursOf d) ≡ 23
 spring-long d s = ap length (spring-hours d s)
 
-pub fall-long : (d : Date) → falls d ≡ true → length (hoursOf d) ≡ 25
+fall-long : (d : Date) → falls d ≡ true → length (hoursOf d) ≡ 25
 fall-long d f = ap length (fall-hours d f)
 
-pub plain-long : (d : Date) → springs d ≡ false → falls d ≡ false → length (hoursOf d) ≡ 24
+plain-long : (d : Date) → springs d ≡ false → falls d ≡ false → length (hoursOf d) ≡ 24
 plain-long d s f = ap length (plain-hours d s f)
 
 -- ---- as the clock runs: a day's first two hours as at its midnight, the others as at the next

@@ -9,13 +9,17 @@ use Rattle.commitment.specs.Profit.{margin}
 use Rattle.optimality.specs.declared.Figures.{Figures}
 use Rattle.optimality.specs.declared.Cell.{Cell}
 use Rattle.optimality.specs.Machine.{Quarter}
-use Rattle.optimality.specs.Cells.{Sound, states, afterOff, startPays, gain, mayRun, offCell, onCell, rungs}
+use Rattle.optimality.specs.Cells.{Sound, states, afterOff, startTakes, startPays, gain, mayRun, offCell, onCell, rungs}
 use Rattle.geometry.specs.Layers.{infeasible}
 
 -- a unit in its ranges, and a price in its range
 pub record Interval (f : Figures) (price : ℤ) : Type 0 where
   pub sound : Sound f
   pub priced : natAbs price ≤ mostPrice
+
+-- a cell has what an interval on with so many blocks takes
+abbrev pub Affords : Figures → Cell → ℕ → Type 0
+Affords f c k = (startTakes f (c .state) ≤ c .starts) × (f .peron ≤ c .ons) × (k * f .perblock ≤ c .blocks)
 
 -- what an on-interval with k blocks adds, less what a start costs
 abbrev pub net : Figures → ℤ → ℕ → ℕ → ℤ

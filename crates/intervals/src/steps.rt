@@ -1,12 +1,13 @@
 // One interval of the cells' machine: the states that it leads to, what a start takes and costs, what an output brings.
 
 use crate::rows::Ladder;
+use optimality::Cell;
 use optimality::Figures;
 ghost use mathlib.Core.Path.{_≡_};
 ghost use Prim.Native.Nat.{_≤_, _<_};
 ghost use Rattle.geometry.specs.Layers.{mostPays};
-ghost use Rattle.optimality.specs.Cells.{Sound, states, afterOff, afterOn, startTakes, startPays};
-ghost use Rattle.intervals.specs.Turns.{Interval};
+ghost use Rattle.optimality.specs.Cells.{Sound, states, afterOff, afterOn, startTakes, startPays, offCell, onCell};
+ghost use Rattle.intervals.specs.Turns.{Affords, Interval};
 ghost use Rattle.intervals.specs.Turns as turns;
 ghost use Rattle.intervals.specs.Ladders.{ladderOf};
 
@@ -57,6 +58,36 @@ pub fn start_pays(f: Figures, s: usize) -> usize
     ensures { λ r. ⌜ r ≡ startPays f s ⌝ }
 {
     if s < f.mot { 0 } else { 4 * f.suc }
+}
+
+// The cell that an interval off leads to.
+pub fn off_cell(f: Figures, c: Cell) -> Cell
+    requires { ⌜ (Sound f) × (c .state < states f) ⌝ }
+    ensures { λ r. ⌜ r ≡ offCell f c ⌝ }
+{
+    let state = after_off(f, c.state);
+    Cell {
+        state,
+        starts: c.starts,
+        ons: c.ons,
+        blocks: c.blocks,
+    }
+}
+
+// The cell that an interval on with k blocks leads to.
+pub fn on_cell(f: Figures, c: Cell, k: usize) -> Cell
+    requires { ⌜ (Sound f) × (c .state < states f) ⌝ }
+    requires { ⌜ Affords f c k ⌝ }
+    ensures { λ r. ⌜ r ≡ onCell f c k ⌝ }
+{
+    let state = after_on(f, c.state);
+    let starts = c.starts - start_takes(f, c.state);
+    Cell {
+        state,
+        starts,
+        ons: c.ons - f.peron,
+        blocks: c.blocks - k * f.perblock,
+    }
 }
 
 // What an interval on with k blocks brings, less what its start costs.

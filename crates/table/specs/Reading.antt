@@ -16,7 +16,7 @@ use Rattle.optimality.specs.declared.Figures.{Figures}
 use Rattle.optimality.specs.declared.Cell.{Cell}
 use Rattle.optimality.specs.Machine.{Quarter}
 use Rattle.optimality.specs.Cells.{startTakes, mayRun, offCell, onCell, rungs, planAt, valueAt}
-use Rattle.intervals.specs.Turns.{net, offStored, roomFor, onStored}
+use Rattle.intervals.specs.Turns.{Affords, net, offStored, roomFor, onStored}
 
 module _ (f : Figures) (stored : Cell → ℤ) (c : Cell) where
   -- whether the blocks left allow k, and it reaches the best
@@ -47,7 +47,7 @@ reachesBest f cells row z price pays best k =
 
 -- what an interval with so many blocks takes is left, none where it is off
 abbrev pub Allowed : Figures → Cell → ℕ → Type 0
-Allowed f c k = (k ≡ 0 → ⊥) → (startTakes f (c .state) ≤ c .starts) × (f .peron ≤ c .ons) × (k * f .perblock ≤ c .blocks)
+Allowed f c k = (k ≡ 0 → ⊥) → Affords f c k
 
 -- where so many blocks lead
 abbrev pub nextCell : Figures → Cell → ℕ → Cell

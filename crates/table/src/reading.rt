@@ -45,20 +45,11 @@ fn off_stored(scratch: &[i64], at: usize, f: Figures, c: Cell) -> i64
     requires { ⌜ (Sound f) × (InTable f c) × (at + width f ≤ length (now scratch)) ⌝ }
     ensures { λ r. ⌜ r ≡ offStored f (storedAt f (now (scratch .entry)) at) c ⌝ }
 {
-    let s = steps::after_off(f, c.state);
-    if f.mot + f.mdt <= s {
+    let next = steps::off_cell(f, c);
+    if f.mot + f.mdt <= next.state {
         return geometry::INFEASIBLE;
     }
-    let i = at
-        + geometry::index(
-            f,
-            Cell {
-                state: s,
-                starts: c.starts,
-                ons: c.ons,
-                blocks: c.blocks,
-            },
-        );
+    let i = at + geometry::index(f, next);
     scratch[i]
 }
 
@@ -92,18 +83,13 @@ fn on_row(f: Figures, c: Cell) -> usize
     requires { ⌜ (Sound f) × (InTable f c) × (mayRun f c ≡ true) ⌝ }
     ensures { λ r. ⌜ r ≡ geometry.index f (cell (afterOn f (c .state)) (c .starts - startTakes f (c .state)) (c .ons - f .peron) 0) ⌝ }
 {
-    let s = steps::after_on(f, c.state);
-    let starts = c.starts - steps::start_takes(f, c.state);
-    let ons = c.ons - f.peron;
-    geometry::index(
-        f,
-        Cell {
-            state: s,
-            starts: starts,
-            ons: ons,
-            blocks: 0,
-        },
-    )
+    let first = Cell {
+        state: c.state,
+        starts: c.starts,
+        ons: c.ons,
+        blocks: 0,
+    };
+    geometry::index(f, steps::on_cell(f, first, 0))
 }
 
 // Whether the blocks left allow k, and it reaches the best.
@@ -139,20 +125,7 @@ pub fn moved(f: Figures, c: Cell, k: usize) -> Cell
     ensures { λ r. ⌜ r ≡ nextCell f c k ⌝ }
 {
     if k == 0 {
-        let s = steps::after_off(f, c.state);
-        return Cell {
-            state: s,
-            starts: c.starts,
-            ons: c.ons,
-            blocks: c.blocks,
-        };
+        return steps::off_cell(f, c);
     }
-    let s = steps::after_on(f, c.state);
-    let starts = c.starts - steps::start_takes(f, c.state);
-    Cell {
-        state: s,
-        starts: starts,
-        ons: c.ons - f.peron,
-        blocks: c.blocks - k * f.perblock,
-    }
+    steps::on_cell(f, c, k)
 }
