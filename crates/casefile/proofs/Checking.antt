@@ -1,7 +1,7 @@
 -- The first cause of a text, by the tests in order; and what the answer and the slice then are.
 use mathlib.Core.Path.{_≡_, refl, sym, ap, ap₂, _∙_}
-use mathlib.Core.Bool.{Bool, true, false, _&&_}
-use mathlib.Core.List.{List, [], _∷_, _++_, map}
+use mathlib.Core.Bool.{true, false}
+use mathlib.Core.List.{List, _++_}
 use Prim.Native.Nat.{ℕ, _≤_, _<_}
 use native.Mathlib.Omega.{arith}
 use lib.Dec.{leb}
@@ -15,7 +15,6 @@ use Rattle.commitment.specs.declared.Checked.{Checked}
 use Rattle.commitment.specs.declared.Checked.the-variants.{Passed, Refused}
 use Rattle.commitment.specs.declared.UnitRecord.{UnitRecord}
 use Rattle.commitment.specs.Ranges.{pricesKept, caseChecked}
-use Rattle.lists.specs.Every.{every}
 use Rattle.commitment.specs.Causes.{firstOf}
 use Rattle.commitment.proofs.Causes.{checkedThen, in-turn, unless-passed, then-passed}
 use Rattle.casefile.specs.declared.CaseRead.{CaseRead}
@@ -151,8 +150,3 @@ module _ (text : List ℕ) (slice : List ℤ) where
       go : (k : Checked) → take (readCount (readBy k (unitIn text) (length (pricesIn text)))) (pricesLeft k (pricesIn text) slice) ≡ frontPart k (pricesIn text)
       go Passed = take-append-seam (pricesIn text) (drop (length (pricesIn text)) slice)
       go (Refused cause) = refl
-
--- ---- a test of what a rule makes of each element is a test of the elements
-pub every-map : {A B : Type 0} (test : B → Bool) (f : A → B) (xs : List A) → every (λ x. test (f x)) xs ≡ every test (map f xs)
-every-map test f [] = refl
-every-map test f (x ∷ xs) = ap (λ (t : Bool). test (f x) && t) (every-map test f xs)

@@ -1,13 +1,13 @@
 -- The lines of a text, its form and its names (specification 11).
-use mathlib.Core.Bool.{Bool, true, false, _&&_, _||_}
-use mathlib.Core.List.{List, [], _∷_, _++_}
+use mathlib.Core.Bool.{Bool, true, false, _&&_}
+use mathlib.Core.List.{List, [], _∷_}
 use Prim.Native.Nat.{ℕ}
 use lib.Dec.{leb}
 use lib.ListN.{length, getD, drop}
 use Rattle.lists.specs.Every.{every}
 use Rattle.tabletext.specs.Pieces.{linesOf, lastClosed, fieldsOf}
 use Rattle.tabletext.specs.Tables.{nameLine, valueLine, named}
-use Rattle.casetext.specs.Names.{unitNames, unitOptional, datedNames, priceNames, priceOptional}
+use Rattle.casetext.specs.Names.{unitNames, unitGroups, priceNames}
 
 -- the bytes that a text has at most
 abbrev pub mostBytes : ℕ
@@ -50,9 +50,6 @@ formKept text =
 
 -- ---- 2: the names, each once, in any sequence, and no other
 
--- the thirteen alone, or the thirteen and the four of a date: all four or none
-abbrev pub unitNamed : List (List ℕ) → Bool
-unitNamed head = named unitNames unitOptional head || named (unitNames ++ datedNames) unitOptional head
-
+-- the thirteen alone, or with the four of a date, all of them; and the price's
 unfoldable pub namesKept : List ℕ → Bool
-namesKept text = unitNamed (fieldsOf (unitHead text)) && named priceNames priceOptional (fieldsOf (priceHead text))
+namesKept text = named unitNames unitGroups (fieldsOf (unitHead text)) && named priceNames [] (fieldsOf (priceHead text))

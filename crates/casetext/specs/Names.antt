@@ -58,7 +58,7 @@ windowName = bytes "window"
 abbrev pub priceName : List ℕ
 priceName = bytes "price"
 
--- ---- the names of each table: those that it must have, in any sequence, and those that it may have
+-- ---- the names of each table: those that it must have, and groups of which it has all names or none, in any sequence
 
 -- the unit's table has the thirteen
 abbrev pub unitNames : List (List ℕ)
@@ -78,16 +78,14 @@ unitNames =
     ∷ mwhName
     ∷ []
 
-abbrev pub unitOptional : List (List ℕ)
-unitOptional = []
-
 -- those that a date and its permitted hours stand under
 abbrev pub datedNames : List (List ℕ)
 datedNames = yearName ∷ monthName ∷ dayName ∷ windowName ∷ []
 
+-- a name that may be missing is a group of its own
+abbrev pub unitGroups : List (List (List ℕ))
+unitGroups = datedNames ∷ []
+
 -- the second table has one
 abbrev pub priceNames : List (List ℕ)
 priceNames = priceName ∷ []
-
-abbrev pub priceOptional : List (List ℕ)
-priceOptional = []

@@ -19,8 +19,8 @@ use Rattle.tabletext.specs.Pieces.{onto, linesOf, lastClosed, fieldsOf}
 use Rattle.tabletext.specs.Tables.{nameLine, valueLine}
 use Rattle.tabletext.specs.Values.{isName, isValue, valueOf, numeral, leadKept, fromDigits, negative, noneWord, wellFormed}
 use Rattle.tabletext.proofs.Alike.{same-eq}
+use Rattle.tabletext.proofs.Groups.{every-map}
 use Rattle.casetext.specs.Form.{mostBytes, unitHead, unitRow, priceHead, priceRows, isEmpty, tableFormed, formKept}
-use Rattle.casefile.proofs.Checking.{every-map}
 use Rattle.writing.specs.Writing.{joined, closing}
 use Rattle.writing.proofs.AsWritten.{formed-is, lines-are}
 use Rattle.writing.proofs.Back.{some-fields}
@@ -157,7 +157,7 @@ module _ (mark : Class) (no-letter : eqb 1 (rank mark) ≡ false) (no-digit : eq
 
 -- ---- from the form to the tables
 
-pub every-also : {A : Type 0} (p q : A → Bool) (xs : List A) → ((x : A) → p x ≡ true → q x ≡ true) → every p xs ≡ true → every q xs ≡ true
+every-also : {A : Type 0} (p q : A → Bool) (xs : List A) → ((x : A) → p x ≡ true → q x ≡ true) → every p xs ≡ true → every q xs ≡ true
 every-also p q [] h e = refl
 every-also p q (x ∷ xs) h e =
     let f = both (p x) (every p xs) e in

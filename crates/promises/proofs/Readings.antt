@@ -2,7 +2,7 @@
 -- in it.
 use mathlib.Core.Path.{_≡_}
 use mathlib.Core.Bool.{true, not}
-use mathlib.Core.List.{List, _++_}
+use mathlib.Core.List.{List, [], _++_}
 use mathlib.Core.Logic.{_↔_, _⊎_}
 use Prim.Native.Nat.{ℕ, _≤_}
 use lib.IntN.{ℤ}
@@ -15,7 +15,7 @@ use Rattle.casefile.specs.Answers.{readCase, readPrices}
 use Rattle.writing.specs.AsWritten.{AsWritten}
 use Rattle.tabletext.specs.Tables.{named}
 use Rattle.tabletext.specs.Pieces.{fieldsOf}
-use Rattle.casetext.specs.Names.{unitNames, unitOptional, datedNames, priceNames}
+use Rattle.casetext.specs.Names.{unitNames, datedNames, priceNames}
 use Rattle.casetext.specs.Form.{mostBytes, unitHead, priceHead, formKept, namesKept}
 use Rattle.writing.specs.Writing.{namesFor, written}
 use Rattle.writing.proofs.AsWritten.{read-as-written}
@@ -48,7 +48,7 @@ as-written = read-as-written
 -- and what a writer of the format writes, with the names in any sequence, and with the four where the record has them, is read back
 
 pub written-is-read : (u : UnitRecord) (prices : List ℤ) (names : List (List ℕ)) (slice : List ℤ) → caseChecked u (pricesKept prices) (length prices) ≡ Passed
-    → named (namesFor (u .permit)) unitOptional names ≡ true → length (written names u prices) ≤ mostBytes → length prices ≤ length slice
+    → named (namesFor (u .permit)) [] names ≡ true → length (written names u prices) ≤ mostBytes → length prices ≤ length slice
     → (readCase (written names u prices) (length slice) ≡ reading.Case u (length prices))
     × (readPrices (written names u prices) slice ≡ prices ++ drop (length prices) slice)
 written-is-read = written-read

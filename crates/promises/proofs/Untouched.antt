@@ -72,7 +72,8 @@ module _ (u : UnitRecord) (prices : List ℤ) (cells : ℕ) (slice : List ℕ) w
 abbrev without : ℕ → Check → Bool
 without number check = not (eqb (numberOf (check .cause)) number)
 
-not-found : (number : ℕ) (checks : List Check) → every (without number) checks ≡ true → (cause : Cause) → firstOf checks ≡ Refused cause → numberOf cause ≡ number → ⊥
+not-found : (number : ℕ) (checks : List Check) → every (without number) checks ≡ true
+    → (cause : Cause) → firstOf checks ≡ Refused cause → numberOf cause ≡ number → ⊥
 not-found number [] away cause e is = let z : _≡_ {A = ℕ} 0 1 = cc in absurd (omega arith)
 not-found number (check ∷ checks) away cause e is =
     let k = both (without number check) (every (without number) checks) away in

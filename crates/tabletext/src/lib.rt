@@ -1,6 +1,6 @@
 // The text of a table: what its bytes, fields and values are. Every function takes bytes as they are.
-// `bytes` sorts bytes and compares strings, `values` reads a field, `walking` goes from piece to piece, `tables` has a table's lines
-// and names.
+// `bytes` sorts bytes and compares strings, `values` reads a field, `walking` goes from piece to piece, `tables` has a table's lines,
+// `names` judges the names of a line.
 
 // What a byte is to the format.
 pub enum Class {
@@ -32,16 +32,24 @@ pub enum Counted {
     Alike,
 }
 
-// What a walk asks of every piece: to be a name; to be a line with so many values; to be a name that stands in a line so often at
-// least, and at most once; to be a name of one of two tables.
+// What a walk asks of every piece: to be a name; to be a line with so many values; to be a name that stands so often in a line; to be
+// a line that lacks a name.
 pub enum Asked {
     Name,
     Row(usize),
     Standing(usize),
+    Lacking,
+}
+
+// What the walk above those asks of every piece: to be a name of a table of names; to be a group of which all names stand in a line,
+// or none.
+pub enum Judged {
     Known,
+    Together,
 }
 
 pub mod bytes;
+pub mod names;
 pub mod tables;
 pub mod values;
 pub mod walking;

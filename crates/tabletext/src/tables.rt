@@ -1,4 +1,4 @@
-// A table's lines, its names, and the value under a name.
+// A table's lines, and the value under a name.
 
 use crate::Asked;
 use crate::Counted;
@@ -11,7 +11,7 @@ ghost use mathlib.Core.Path.{_≡_};
 ghost use lib.ListN.{length};
 ghost use Rattle.lists.specs.Every.{every};
 ghost use Rattle.tabletext.specs.Pieces.{fieldsOf, linesOf, piecesOf};
-ghost use Rattle.tabletext.specs.Tables.{nameLine, valueLine, tally, standing, known, named, under};
+ghost use Rattle.tabletext.specs.Tables.{nameLine, valueLine, tally, standing, under};
 ghost use Rattle.tabletext.specs.Values.{isValue};
 ghost use Rattle.tabletext.specs.Walks.{passes};
 
@@ -19,34 +19,25 @@ ghost use Rattle.tabletext.specs.Walks.{passes};
 pub fn name_line(line: &[u8]) -> bool
     ensures { λ r. ⌜ r ≡ nameLine (now (line .entry)) ⌝ }
 {
-    every_piece(Pieces::Fields, Asked::Name, line, b"", b"")
+    every_piece(Pieces::Fields, Asked::Name, line, b"")
 }
 
 // Every line has as many values as there are names.
 pub fn value_lines(names: usize, rows: &[u8]) -> bool
     ensures { λ r. ⌜ r ≡ every (valueLine names) (linesOf (now (rows .entry))) ⌝ }
 {
-    every_piece(Pieces::Lines, Asked::Row(names), rows, b"", b"")
+    every_piece(Pieces::Lines, Asked::Row(names), rows, b"")
 }
 
-// Each required name once, each optional one at most once, and no other. A name stands on a line of its table.
-pub fn names_in(required: &[u8], optional: &[u8], line: &[u8]) -> bool
-    ensures { λ r. ⌜ r ≡ named (linesOf (now (required .entry))) (linesOf (now (optional .entry))) (fieldsOf (now (line .entry))) ⌝ }
-{
-    every_piece(Pieces::Lines, Asked::Standing(1), required, line, b"")
-        & every_piece(Pieces::Lines, Asked::Standing(0), optional, line, b"")
-        & every_piece(Pieces::Fields, Asked::Known, line, required, optional)
-}
-
-// Every piece passes a test, which may look at two other texts.
-fn every_piece(pieces: Pieces, asked: Asked, s: &[u8], first: &[u8], second: &[u8]) -> bool
-    ensures { λ r. ⌜ r ≡ every (passes asked (now (first .entry)) (now (second .entry))) (piecesOf pieces (now (s .entry))) ⌝ }
+// Every piece passes a test, which may look at a text beside.
+pub fn every_piece(pieces: Pieces, asked: Asked, s: &[u8], beside: &[u8]) -> bool
+    ensures { λ r. ⌜ r ≡ every (passes asked (now (beside .entry))) (piecesOf pieces (now (s .entry))) ⌝ }
 {
     let below = walking::starts_below(pieces, s);
     let mut at = 0;
     while at < below {
         let end = walking::piece_end(pieces, s, at);
-        if !passes_piece(asked, &s[at..end], first, second) {
+        if !passes_piece(asked, &s[at..end], beside) {
             return false;
         }
         at = end + 1;
@@ -54,14 +45,14 @@ fn every_piece(pieces: Pieces, asked: Asked, s: &[u8], first: &[u8], second: &[u
     true
 }
 
-fn passes_piece(asked: Asked, s: &[u8], first: &[u8], second: &[u8]) -> bool
-    ensures { λ r. ⌜ r ≡ passes asked (now (first .entry)) (now (second .entry)) (now (s .entry)) ⌝ }
+fn passes_piece(asked: Asked, s: &[u8], beside: &[u8]) -> bool
+    ensures { λ r. ⌜ r ≡ passes asked (now (beside .entry)) (now (s .entry)) ⌝ }
 {
     match asked {
         Asked::Name => values::is_name(s),
         Asked::Row(names) => value_line(names, s),
-        Asked::Standing(least) => stands(least, first, s),
-        Asked::Known => is_known(first, second, s),
+        Asked::Standing(times) => stands(times, beside, s),
+        Asked::Lacking => stands(0, s, beside),
     }
 }
 
@@ -84,20 +75,11 @@ fn values_in(line: &[u8]) -> usize
     walking::count(Pieces::Fields, Counted::Values, line, b"")
 }
 
-// A name stands in a line at least so often, and at most once.
-pub fn stands(least: usize, line: &[u8], name: &[u8]) -> bool
-    ensures { λ r. ⌜ r ≡ standing least (fieldsOf (now (line .entry))) (now (name .entry)) ⌝ }
+// A name stands so often in a line.
+pub fn stands(times: usize, line: &[u8], name: &[u8]) -> bool
+    ensures { λ r. ⌜ r ≡ standing times (fieldsOf (now (line .entry))) (now (name .entry)) ⌝ }
 {
-    let times = walking::count(Pieces::Fields, Counted::Alike, line, name);
-    (least <= times) & (times <= 1)
-}
-
-// A name stands in one of two tables.
-fn is_known(required: &[u8], optional: &[u8], name: &[u8]) -> bool
-    ensures { λ r. ⌜ r ≡ known (linesOf (now (required .entry))) (linesOf (now (optional .entry))) (now (name .entry)) ⌝ }
-{
-    (1 <= walking::count(Pieces::Lines, Counted::Alike, required, name))
-        | (1 <= walking::count(Pieces::Lines, Counted::Alike, optional, name))
+    walking::count(Pieces::Fields, Counted::Alike, line, name) == times
 }
 
 // The value under a name.

@@ -32,8 +32,8 @@ use Rattle.casefile.specs.declared.CaseRead.the-variants.{Case}
 use Rattle.casefile.specs.Answers.{readCase, readPrices}
 use Rattle.casetext.specs.Names.{blockName, pminName, pmaxName, motName, mdtName, wasName, heldName, vecName, mlcName, sucName}
 use Rattle.casetext.specs.Names.{startsName, hoursName, mwhName, yearName, monthName, dayName, windowName}
-use Rattle.casetext.specs.Names.{priceName, unitNames, unitOptional, priceNames, priceOptional}
-use Rattle.casetext.specs.Form.{mostBytes, unitHead, unitRow, emptyLine, priceHead, priceRows, isEmpty, tableFormed, formKept, unitNamed, namesKept}
+use Rattle.casetext.specs.Names.{priceName, unitNames, unitGroups, priceNames}
+use Rattle.casetext.specs.Form.{mostBytes, unitHead, unitRow, emptyLine, priceHead, priceRows, isEmpty, tableFormed, formKept, namesKept}
 use Rattle.casefile.specs.Reading.{beyond, wholeOf, limitOf, centsOf, windowOf, permitOf, unitIn, priceOf, pricesIn, textChecked}
 use Rattle.casefile.proofs.Checking.{text-passed, read-case, answer-read}
 use Rattle.writing.specs.AsWritten.{StandsUnder, limitValue, StandsNowhere, PermitWritten, AsWritten}
@@ -131,7 +131,7 @@ row-length names row e = eqb-true (length (fieldsOf row)) names (both (eqb (leng
 -- a line of one name, which is this one
 one-name : (name : List ℕ) (line : List ℕ) → named (name ∷ []) [] (fieldsOf line) ≡ true → line ≡ name
 one-name name line e =
-    let n = names-are (name ∷ []) [] (fieldsOf line) e in
+    let n = names-are (name ∷ []) (fieldsOf line) e in
     let o = n .once 0 (omega arith) in
     let f = one-field line (sym (all-this name (fieldsOf line) (n .no-other)) ∙ o) in
     same-eq line name (sole (same line name) (ap (occurs name) (sym f) ∙ o))
@@ -163,12 +163,12 @@ module _ (text : List ℕ) (form : formKept text ≡ true) (names-once : namesKe
   formed : Formed text
   formed = formed-is text form
 
-  both-named : (unitNamed (namesIn text) ≡ true) × (named priceNames priceOptional (fieldsOf (priceHead text)) ≡ true)
+  both-named : (named unitNames unitGroups (namesIn text) ≡ true) × (named priceNames [] (fieldsOf (priceHead text)) ≡ true)
   unfolding namesKept
-  both-named = both (unitNamed (namesIn text)) (named priceNames priceOptional (fieldsOf (priceHead text))) names-once
+  both-named = both (named unitNames unitGroups (namesIn text)) (named priceNames [] (fieldsOf (priceHead text))) names-once
 
-  names-for : Named (namesFor (permitOf (namesIn text) (valuesIn text))) unitOptional (namesIn text)
-  names-for = names-are _ unitOptional (namesIn text) (named-for (namesIn text) (valuesIn text) (both-named .0))
+  names-for : Named (namesFor (permitOf (namesIn text) (valuesIn text))) (namesIn text)
+  names-for = names-are _ (namesIn text) (named-for (namesIn text) (valuesIn text) (both-named .0))
 
   -- under a name that stands once
   under-name : (name : List ℕ) → occurs name (namesIn text) ≡ 1 → Standing text name (found text name)
@@ -190,7 +190,7 @@ module _ (text : List ℕ) (form : formKept text ≡ true) (names-once : namesKe
   -- the permit, by whether the four names are there
   permit-at : (t : Bool) →
       let p = cond t (Within (windowOf (namesIn text) (valuesIn text))) AnyHour in
-      Named (namesFor p) unitOptional (namesIn text) → permitKept p ≡ true → PermitWritten (namesIn text) (valuesIn text) p
+      Named (namesFor p) (namesIn text) → permitKept p ≡ true → PermitWritten (namesIn text) (valuesIn text) p
   permit-at true n k =
       let r = window-ranges (windowOf (namesIn text) (valuesIn text)) k in
       record {
@@ -201,8 +201,8 @@ module _ (text : List ℕ) (form : formKept text ≡ true) (names-once : namesKe
       }
   permit-at false n k = record { no-year = missing refl; no-month = missing refl; no-day = missing refl; no-window = missing refl }
     where
-      missing : {name : List ℕ} → known unitNames unitOptional name ≡ false → StandsNowhere (namesIn text) name
-      missing {name} u = nowhere name (namesIn text) (none-of unitNames unitOptional name u (namesIn text) (n .no-other))
+      missing : {name : List ℕ} → known unitNames [] name ≡ false → StandsNowhere (namesIn text) name
+      missing {name} u = nowhere name (namesIn text) (none-of unitNames [] (namesIn text) (n .no-other) name u)
 
   head-is : priceHead text ≡ priceName
   head-is = one-name priceName (priceHead text) (both-named .1)

@@ -34,16 +34,17 @@ use Rattle.tabletext.specs.Pieces.{linesOf, fieldsOf}
 use Rattle.tabletext.specs.Tables.{valueLine, occurs, named, under}
 use Rattle.tabletext.specs.Values.{isName, valueOf, wellFormed, isValue}
 use Rattle.tabletext.proofs.Alike.{same-eq}
+use Rattle.tabletext.proofs.Groups.{every-map}
 use Rattle.commitment.specs.Causes.{firstOf}
 use Rattle.commitment.proofs.Causes.{checkedThen}
 use Rattle.casefile.specs.declared.CaseRead.the-variants.{Case}
 use Rattle.casefile.specs.Answers.{readBy, readCase, readPrices}
 use Rattle.casetext.specs.Names.{blockName, pminName, pmaxName, motName, mdtName, wasName, heldName, vecName, mlcName, sucName}
 use Rattle.casetext.specs.Names.{startsName, hoursName, mwhName, yearName, monthName, dayName, windowName}
-use Rattle.casetext.specs.Names.{priceName, unitNames, unitOptional, datedNames, priceNames, priceOptional}
-use Rattle.casetext.specs.Form.{mostBytes, isEmpty, unitHead, unitRow, priceHead, priceRows, tableFormed, formKept, unitNamed, namesKept}
+use Rattle.casetext.specs.Names.{priceName, unitNames, datedNames, unitGroups, priceNames}
+use Rattle.casetext.specs.Form.{mostBytes, isEmpty, unitHead, unitRow, priceHead, priceRows, tableFormed, formKept, namesKept}
 use Rattle.casefile.specs.Reading.{wholeOf, limitOf, centsOf, windowOf, permitOf, unitOf, unitIn, priceOf, pricesIn, caseIn, roomChecks, textChecked}
-use Rattle.casefile.proofs.Checking.{every-map, case-decides, text-in-turn, answer-read}
+use Rattle.casefile.proofs.Checking.{case-decides, text-in-turn, answer-read}
 use Rattle.writing.specs.Writing.{joined, shownWhole, shownPrice, shownLimit, shownDated, shownField, datedFor, namesFor, written}
 use Rattle.writing.specs.AsWritten.{limitValue}
 use Rattle.writing.proofs.Numbers.{whole-back, price-back, limit-back, whole-unparted, price-unparted, limit-unparted}
@@ -114,20 +115,19 @@ unit-alike p q r s t = cc
 -- ---- a record and prices within range, and the names in some sequence
 
 module _ (u : UnitRecord) (prices : List ℤ) (names : List (List ℕ))
-    (kept : caseChecked u (pricesKept prices) (length prices) ≡ Passed) (each : named (namesFor (u .permit)) unitOptional names ≡ true) where
-  names-for : (p : Permit) → u .permit ≡ p → Named (namesFor p) unitOptional names
-  names-for p is = names-are (namesFor p) unitOptional names (ap (λ (q : Permit). named (namesFor q) unitOptional names) (sym is) ∙ each)
+    (kept : caseChecked u (pricesKept prices) (length prices) ≡ Passed) (each : named (namesFor (u .permit)) [] names ≡ true) where
+  names-for : (p : Permit) → u .permit ≡ p → Named (namesFor p) names
+  names-for p is = names-are (namesFor p) names (ap (λ (q : Permit). named (namesFor q) [] names) (sym is) ∙ each)
 
-  names-kept : Named (namesFor (u .permit)) unitOptional names
+  names-kept : Named (namesFor (u .permit)) names
   names-kept = names-for (u .permit) refl
 
   some : 0 < length names
-  some = some-name (namesFor (u .permit)) unitOptional names names-kept (omega arith)
+  some = some-name (namesFor (u .permit)) names names-kept (omega arith)
 
   -- a test that each name of the tables passes, every name passes
   names-pass : (test : List ℕ → Bool) → every test unitNames ≡ true → every test (unitNames ++ datedNames) ≡ true → every test names ≡ true
-  names-pass test plain dated =
-      of-names test (namesFor (u .permit)) unitOptional (every-name test plain dated (u .permit)) refl names (names-kept .no-other)
+  names-pass test plain dated = of-names (namesFor (u .permit)) names test (every-name test plain dated (u .permit)) (names-kept .no-other)
 
   case-kept : Passing u (pricesKept prices) (length prices)
   case-kept = passing u (pricesKept prices) (length prices) kept
@@ -187,7 +187,7 @@ module _ (u : UnitRecord) (prices : List ℤ) (names : List (List ℕ))
   values-pass : (test : List ℕ → Bool) → every (λ name. test (shownField u name)) (namesFor (u .permit)) ≡ true → every test values ≡ true
   values-pass test h =
       sym (every-map test (shownField u) names)
-      ∙ of-names (λ name. test (shownField u name)) (namesFor (u .permit)) unitOptional h refl names (names-kept .no-other)
+      ∙ of-names (namesFor (u .permit)) names (λ name. test (shownField u name)) h (names-kept .no-other)
 
   rows-pass : (test : List ℕ → Bool) → ((z : ℤ) → natAbs z < 10 ^ 10 → test (shownPrice z) ≡ true) → every test rows ≡ true
   rows-pass test price =
@@ -284,8 +284,8 @@ module _ (u : UnitRecord) (prices : List ℤ) (names : List (List ℕ))
     named-text : namesKept text ≡ true
     unfolding namesKept isOf
     named-text =
-        conj (ap (λ (head : List ℕ). unitNamed (fieldsOf head)) head-is ∙ ap unitNamed names-back ∙ unit-named names (u .permit) each)
-        (ap (λ (head : List ℕ). named priceNames priceOptional (fieldsOf head)) price-head-is)
+        conj (ap (named unitNames unitGroups) (ap fieldsOf head-is ∙ names-back) ∙ unit-named names (u .permit) each)
+        (ap (λ (head : List ℕ). named priceNames [] (fieldsOf head)) price-head-is)
 
     -- ---- the record and the prices
 
@@ -370,7 +370,7 @@ module _ (u : UnitRecord) (prices : List ℤ) (names : List (List ℕ))
 
 -- what is written is read: the answer is the record, and the slice has the prices in front and behind them what was there
 pub written-read : (u : UnitRecord) (prices : List ℤ) (names : List (List ℕ)) (slice : List ℤ) → caseChecked u (pricesKept prices) (length prices) ≡ Passed
-    → named (namesFor (u .permit)) unitOptional names ≡ true → length (written names u prices) ≤ mostBytes → length prices ≤ length slice
+    → named (namesFor (u .permit)) [] names ≡ true → length (written names u prices) ≤ mostBytes → length prices ≤ length slice
     → (readCase (written names u prices) (length slice) ≡ Case u (length prices))
     × (readPrices (written names u prices) slice ≡ prices ++ drop (length prices) slice)
 written-read u prices names slice kept each short fits =

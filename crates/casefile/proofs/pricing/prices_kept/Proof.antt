@@ -6,7 +6,7 @@ use Rattle.commitment.specs.Ranges.{priceKept, pricesKept}
 use Rattle.lists.specs.Every.{every}
 use Rattle.casefile.specs.Reading.{priceOf, pricesIn}
 use Rattle.casetext.specs.Form.{priceHead, priceRows}
-use Rattle.casefile.proofs.Checking.{every-map}
+use Rattle.tabletext.proofs.Groups.{every-map}
 use borrow.Author.Needs.{needs}
 use Rattle.casefile.proofs.pricing.prices_kept.Statement.{statement}
 use Rattle.casefile.proofs.pricing.prices_kept.Tie as tie

@@ -1,13 +1,13 @@
--- The unit's names, with the four of a date or without them, and those of the prices.
+-- The unit's names, and those of the prices.
 use mathlib.Core.Path.{ap, ap₂, _∙_}
-use mathlib.Core.Bool.{_&&_, _||_}
-use mathlib.Core.List.{List}
+use mathlib.Core.Bool.{_&&_}
+use mathlib.Core.List.{List, []}
 use Prim.Native.Nat.{ℕ}
 use Rattle.tabletext.specs.Bytes.{isOf}
 use Rattle.tabletext.specs.Pieces.{fieldsOf}
 use Rattle.tabletext.specs.Tables.{named}
-use Rattle.casetext.specs.Names.{priceNames, priceOptional}
-use Rattle.casetext.specs.Form.{unitNamed, namesKept}
+use Rattle.casetext.specs.Names.{unitNames, unitGroups, priceNames}
+use Rattle.casetext.specs.Form.{namesKept}
 use borrow.Author.Needs.{needs}
 use Rattle.casetext.proofs.naming.names_kept.Statement.{statement}
 use Rattle.casetext.proofs.naming.names_kept.Tie as tie
@@ -15,17 +15,16 @@ use Rattle.casetext.proofs.naming.names_kept.Tie as tie
 returns : tie.Need-returns
 unfolding namesKept isOf
 returns c =
-    let dated = c .before .before .before in
-    let plain = dated .before in
-    let prices = plain .before in
+    let unit = c .before .before .before in
+    let prices = unit .before in
     let head = prices .before in
-    ap₂ _&&_ (ap₂ _||_ (plain .plain-names .ensures) (dated .dated-names .ensures) ∙ ap (λ (l : List ℕ). unitNamed (fieldsOf l)) (head .line .ensures))
-    (c .names-in .ensures ∙ ap (λ (l : List ℕ). named priceNames priceOptional (fieldsOf l)) (prices .line2 .ensures))
+    ap₂ _&&_ (unit .unit-names .ensures ∙ ap (λ (l : List ℕ). named unitNames unitGroups (fieldsOf l)) (head .line .ensures))
+    (c .names-in .ensures ∙ ap (λ (l : List ℕ). named priceNames [] (fieldsOf l)) (prices .line2 .ensures))
 
 pub names-kept-spec : {M : Type 1} → statement M
 names-kept-spec =
     tie.close
     (tie.spec
-    (λ c κs. search needs) (λ c κs. search needs) (λ c κs. search needs) (λ c κs. search needs)
+    (λ c κs. search needs) (λ c κs. search needs) (λ c κs. search needs)
     (λ c. search needs) (λ c. search needs) (λ c κs. search needs)
     returns)

@@ -9,10 +9,10 @@ use Rattle.tabletext.proofs.tables.every_piece.Statement.{statement}
 use Rattle.tabletext.proofs.tables.every_piece.Tie as tie
 
 abbrev Inv-loop : tie.InvT-loop
-Inv-loop pieces asked s first second below at₀ at = Testing pieces (passes asked first second) s at
+Inv-loop pieces asked s beside below at₀ at = Testing pieces (passes asked beside) s at
 
 abbrev μ-loop : tie.MeasureT-loop
-μ-loop pieces asked s first second below at₀ at = length s + 1 - at
+μ-loop pieces asked s beside below at₀ at = length s + 1 - at
 
 pub every-piece-spec : {M : Type 1} → statement M
 every-piece-spec =
