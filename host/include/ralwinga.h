@@ -2,7 +2,8 @@
  *
  * Every call answers, whatever record, text or slices it is given. A slice is a pointer and a length in entries; the pointer is to that many
  * entries that live through the call and that no other argument shares, and is aligned and not null even where the length is 0.
- * `number` in an answer is 0, or that of the refusal's cause (README.md); then every other number is 0, and limitations, date, word and outcomes are none.
+ * `number` in an answer is 0, or that of the refusal's cause (docs/CASE.md); then limitations and outcomes are none, and every other number is 0,
+ * year, month, day and window too.
  * Profits and gaps are in quarter-cents.
  */
 #ifndef RALWINGA_H
@@ -94,6 +95,11 @@ struct ralwinga_clock {
     uint64_t number, hour;
 };
 
+struct ralwinga_hours {
+    uint64_t number;
+    size_t count;
+};
+
 struct ralwinga_written {
     uint64_t number;
     size_t bytes;
@@ -135,6 +141,9 @@ struct ralwinga_report ralwinga_report(struct ralwinga_unit unit, const int64_t 
 
 /* The clock hour of an interval, counted from 1, where interval 1 begins at midnight of the date. */
 struct ralwinga_clock ralwinga_clock_hour(uint64_t year, uint64_t month, uint64_t day, uint64_t interval);
+
+/* The clock hours of the first hours_len intervals, 1 to 2,976 of them, where interval 1 begins at midnight of the date. */
+struct ralwinga_hours ralwinga_clock_hours(uint64_t year, uint64_t month, uint64_t day, uint64_t *hours, size_t hours_len);
 
 /* The listing of a plan into the front of `out`. `window` is its unit's, RALWINGA_NONE where that has none. */
 struct ralwinga_written ralwinga_listing(const uint64_t *schedule, size_t schedule_len, int64_t profit,

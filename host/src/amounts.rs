@@ -5,12 +5,35 @@ pub const PER_DAY: usize = 24 * PER_HOUR;
 
 /// Dollars of quarter-cents, exact: two decimals, or four where the cents are not whole.
 pub fn dollars(quarter_cents: i64) -> String {
-    let sign = if quarter_cents < 0 { "-" } else { "" };
     let amount = quarter_cents.unsigned_abs();
-    let (whole, rest) = (grouped(amount / 400), amount % 400);
+    let (whole, decimals) = (grouped(amount / 400), decimals(amount));
+    format!("{}${whole}.{decimals}", sign(quarter_cents))
+}
+
+/// The same for a column that is headed by the unit: no sign of dollars, no comma.
+pub fn plain_dollars(quarter_cents: i64) -> String {
+    let amount = quarter_cents.unsigned_abs();
+    format!(
+        "{}{}.{}",
+        sign(quarter_cents),
+        amount / 400,
+        decimals(amount)
+    )
+}
+
+fn sign(amount: i64) -> &'static str {
+    if amount < 0 {
+        "-"
+    } else {
+        ""
+    }
+}
+
+fn decimals(quarter_cents: u64) -> String {
+    let rest = quarter_cents % 400;
     match rest % 4 {
-        0 => format!("{sign}${whole}.{:02}", rest / 4),
-        _ => format!("{sign}${whole}.{:04}", rest * 25),
+        0 => format!("{:02}", rest / 4),
+        _ => format!("{:04}", rest * 25),
     }
 }
 
@@ -29,8 +52,16 @@ pub fn grouped(number: u64) -> String {
 
 /// A number of quarters as a decimal.
 pub fn quarters(count: u64) -> String {
-    let part = ["", ".25", ".5", ".75"][(count % 4) as usize];
-    format!("{}{part}", grouped(count / 4))
+    format!("{}{}", grouped(count / 4), part(count))
+}
+
+/// The same without a comma.
+pub fn plain_quarters(count: u64) -> String {
+    format!("{}{}", count / 4, part(count))
+}
+
+fn part(quarters: u64) -> &'static str {
+    ["", ".25", ".5", ".75"][(quarters % 4) as usize]
 }
 
 /// When the interval at this place, counted from 0, begins in days of 24 hours. Interval 1 begins at midnight of day 1.
@@ -71,6 +102,8 @@ mod tests {
             assert_eq!(dollars(amount), said);
         }
         assert_eq!(dollars(i64::MIN), "-$23,058,430,092,136,939.52");
+        assert_eq!(plain_dollars(i64::MIN), "-23058430092136939.52");
+        assert_eq!(plain_dollars(1_234_567_403), "3086418.5075");
     }
 
     #[test]
@@ -78,6 +111,7 @@ mod tests {
         assert_eq!(quarters(0), "0");
         assert_eq!(quarters(4001), "1,000.25");
         assert_eq!(quarters(7), "1.75");
+        assert_eq!(plain_quarters(4001), "1000.25");
         assert_eq!(beginning(0), "day 1 00:00");
         assert_eq!(beginning(96), "day 2 00:00");
         assert_eq!(ending(94), "day 1 23:45");

@@ -2,7 +2,7 @@
 //! are put together here.
 
 use crate::amounts::{beginning, ending, time_of_day, PER_HOUR};
-use crate::{clock_hour, Unit, Window};
+use crate::{clock_hour, clock_hours, Unit, Window};
 use std::fmt;
 use std::ops::Range;
 
@@ -97,9 +97,10 @@ pub struct Dated {
 
 impl Dated {
     fn new(window: Window, intervals: usize) -> Dated {
+        let hours = hours_of(&window, intervals);
         let mut moments: Vec<Moment> = Vec::with_capacity(intervals + 1);
         for place in 0..=intervals {
-            let moment = moment(&window, place, moments.last());
+            let moment = moment(&window, place, hours.get(place), moments.last());
             moments.push(moment);
         }
         Dated { window, moments }
@@ -154,21 +155,33 @@ impl Dated {
     }
 }
 
-/// The moment at which the interval at a place begins, counted from 0, by the one before it.
-fn moment(window: &Window, place: usize, before: Option<&Moment>) -> Moment {
-    let quarter = place % PER_HOUR;
+/// The clock hours of so many intervals, and of the one behind them where the library goes that far.
+fn hours_of(window: &Window, intervals: usize) -> Vec<u64> {
     let Date { year, month, day } = Date::of(window);
-    let asked = clock_hour(year, month, day, place as u64 + 1);
+    let mut hours = vec![0; intervals + 1];
+    if clock_hours(year, month, day, &mut hours).is_err() {
+        hours.pop();
+        clock_hours(year, month, day, &mut hours)
+            .expect("a case with a plan has a date that exists and a horizon in range");
+    }
+    hours
+}
+
+/// The moment at which the interval at a place begins, counted from 0, by its clock hour and the moment before it.
+fn moment(window: &Window, place: usize, hour: Option<&u64>, before: Option<&Moment>) -> Moment {
+    let quarter = place % PER_HOUR;
     let Some(before) = before else {
         return Moment {
-            date: Date { year, month, day },
-            hour: asked.expect("a case with a plan has a date that exists"),
+            date: Date::of(window),
+            hour: hour.copied().unwrap_or(0),
             quarter,
             again: false,
         };
     };
     // behind the longest horizon no clock is changed: it ends about midnight
-    let hour = asked.unwrap_or((before.hour + u64::from(quarter == 0)) % HOURS);
+    let hour = hour
+        .copied()
+        .unwrap_or((before.hour + u64::from(quarter == 0)) % HOURS);
     let again = match quarter {
         0 => hour == before.hour,
         _ => before.again,

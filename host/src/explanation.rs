@@ -61,7 +61,7 @@ impl Explanation {
             intervals: schedule.len(),
             calendar: Calendar::of(&case.unit, schedule.len()),
             profit: report.profit,
-            usages: usages(&case.unit, &runs),
+            usages: usages_of(&case.unit, &runs),
             adders: adders(report),
             runs,
         }
@@ -75,7 +75,12 @@ impl Explanation {
     }
 }
 
-fn usages(unit: &Unit, runs: &[Run]) -> [Usage; 3] {
+/// What a schedule that keeps a case uses of each limitation.
+pub fn usages(case: &Case, schedule: &[u64]) -> [Usage; 3] {
+    usages_of(&case.unit, &runs(case, schedule))
+}
+
+fn usages_of(unit: &Unit, runs: &[Run]) -> [Usage; 3] {
     let starts = runs.iter().filter(|run| run.start.is_some()).count();
     let usage = |name, used, limit| Usage { name, used, limit };
     [

@@ -102,6 +102,12 @@ pub struct ClockNumbers {
 }
 
 #[repr(C)]
+pub struct HoursNumbers {
+    pub number: u64,
+    pub count: usize,
+}
+
+#[repr(C)]
 pub struct WrittenNumbers {
     pub number: u64,
     pub bytes: usize,
@@ -176,6 +182,14 @@ extern "C" {
     ) -> ReportNumbers;
 
     pub fn ralwinga_clock_hour(year: u64, month: u64, day: u64, interval: u64) -> ClockNumbers;
+
+    pub fn ralwinga_clock_hours(
+        year: u64,
+        month: u64,
+        day: u64,
+        hours: *mut u64,
+        hours_len: usize,
+    ) -> HoursNumbers;
 
     pub fn ralwinga_listing(
         schedule: *const u64,

@@ -2,7 +2,8 @@
 
 use crate::amounts::dollars;
 use crate::explanation::{Explanation, Usage};
-use crate::{listing, svg, Case, Refusal, Report};
+use crate::markup::escaped;
+use crate::{listing, svg, Case, Report};
 use std::fmt::Write;
 
 const STYLE: &str =
@@ -49,12 +50,11 @@ pub fn plan_page(title: &str, case: &Case, schedule: &[u64], report: &Report) ->
     page(title, &body, times)
 }
 
-/// The page of a case that is refused: the number, its meaning, and the line with its place or what would help.
-pub fn refusal_page(title: &str, refusal: Refusal, said: &str) -> String {
+/// The page of a case that has no plan: why, and the line with the place or what would help.
+pub fn notice_page(title: &str, why: &str, said: &str) -> String {
     let body = format!(
-        "<p class=\"refusal\" id=\"refusal\">Refused, {}: {}</p>\n<p id=\"said\">{}</p>\n",
-        refusal.number(),
-        refusal.meaning(),
+        "<p class=\"refusal\" id=\"refusal\">{}</p>\n<p id=\"said\">{}</p>\n",
+        escaped(why),
         escaped(said)
     );
     page(title, &body, COUNTED_DAYS)
@@ -108,18 +108,4 @@ fn meter(usage: &Usage) -> String {
         ),
         _ => String::new(),
     }
-}
-
-fn escaped(text: &str) -> String {
-    let mut out = String::with_capacity(text.len());
-    for character in text.chars() {
-        match character {
-            '&' => out.push_str("&amp;"),
-            '<' => out.push_str("&lt;"),
-            '>' => out.push_str("&gt;"),
-            '"' => out.push_str("&quot;"),
-            other => out.push(other),
-        }
-    }
-    out
 }

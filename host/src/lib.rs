@@ -1,15 +1,19 @@
 //! A safe wrapper over the proved static library: types, the refusals with their meaning, and the calls over slices.
 //!
 //! The calls are proved to meet their contracts for any record and any slices. What is not proved is this crate: the
-//! wrapper, the readers (`reader`, over `text`), what is told of a plan (`explanation`), dates (`calendar`), the drawing, the page and the command.
+//! wrapper, the readers (`reader`, over `text`), what is told of a plan (`explanation`) and of a schedule that is refused (`rules`), dates
+//! (`calendar`), the drawing, the page and the command.
 
 pub mod amounts;
 pub mod calendar;
 pub mod explanation;
 mod ffi;
 pub mod html;
+mod markup;
+pub mod nearest;
 pub mod reader;
 mod refusal;
+pub mod rules;
 pub mod runs;
 pub mod svg;
 pub mod text;
@@ -463,6 +467,14 @@ pub fn clock_hour(year: u64, month: u64, day: u64, interval: u64) -> Result<u64,
     // Sound: only numbers go over.
     let answer = unsafe { ffi::ralwinga_clock_hour(year, month, day, interval) };
     unless_refused(answer.number, answer.hour)
+}
+
+/// The clock hours of the first intervals, as many as the slice has entries; refused, the slice is as it was.
+pub fn clock_hours(year: u64, month: u64, day: u64, hours: &mut [u64]) -> Result<usize, Refusal> {
+    // Sound: as in `read_into`.
+    let answer =
+        unsafe { ffi::ralwinga_clock_hours(year, month, day, hours.as_mut_ptr(), hours.len()) };
+    unless_refused(answer.number, answer.count)
 }
 
 /// The listing of a plan into the front of `out`: its bytes. `word` is that of its unit's permitted hours.

@@ -61,7 +61,7 @@ impl Refusal {
             Refusal::Levels => "the levels do not rise strictly",
             Refusal::Shape => "pmin is over pmax, or pmax times block is over 500 MW",
             Refusal::Date => "the date does not exist",
-            Refusal::Horizon => "there are no prices, or more than 2,976",
+            Refusal::Horizon => "there are no prices, or more than a case may have",
             Refusal::Segments => "the segments' MW do not add up",
             Refusal::Length => "a slice is too short, or lists are of unequal length",
             Refusal::Scratch => "the scratch is shorter than the case needs",

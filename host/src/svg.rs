@@ -6,6 +6,7 @@ pub mod curve;
 use crate::amounts::{dollars, quarters, time_of_day, PER_DAY, PER_HOUR};
 use crate::calendar::{Calendar, Dated};
 use crate::explanation::Explanation;
+use crate::markup::escaped;
 use crate::runs::Run;
 use std::fmt::Write;
 
@@ -142,6 +143,42 @@ fn open(out: &mut String, said: &str) {
 <rect width="{WIDTH}" height="{HEIGHT}" fill="white"/>
 <text x="{LEFT}" y="28" font-size="17">{said}</text>"##
     );
+}
+
+/// The letters of a line of a notice.
+const NOTICE_LETTERS: usize = 150;
+
+/// The drawing of what has none: a sheet with what it is of, why there is none, and the line with the place or what would help.
+pub fn notice(title: &str, why: &str, said: &str) -> String {
+    let mut out = String::new();
+    open(&mut out, &escaped(title));
+    let lines = wrapped(why).into_iter().chain(wrapped(said));
+    for (line, row) in lines.zip(1u8..) {
+        let (y, line) = (PRICE_TOP + 24.0 * f64::from(row), escaped(&line));
+        let _ = writeln!(
+            out,
+            r##"<text class="notice" x="{LEFT}" y="{y:.1}" font-size="15" fill="#a01515">{line}</text>"##
+        );
+    }
+    out.push_str("</svg>\n");
+    out
+}
+
+/// A text in lines that go on the sheet, broken between words.
+fn wrapped(text: &str) -> Vec<String> {
+    let mut lines = vec![String::new()];
+    for word in text.split(' ') {
+        let line = lines.last_mut().expect("one is there");
+        if !line.is_empty() && line.chars().count() + word.chars().count() >= NOTICE_LETTERS {
+            lines.push(word.to_string());
+        } else {
+            if !line.is_empty() {
+                line.push(' ');
+            }
+            line.push_str(word);
+        }
+    }
+    lines
 }
 
 /// The least width at which a run can be pointed at.

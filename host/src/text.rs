@@ -1,8 +1,15 @@
-//! The texts' form and what is said of its faults: lines, fields and values, each with its place, and tables by the names of their columns.
-//! The case, the schedule handed in, the cost inputs and a curve's points are all read by this module (`reader`).
+//! The texts' form and what is said of its faults: fields and values, each with its place here, lines as they are read (`lines`), and tables by the
+//! names of their columns (`tables`). The case, the schedule handed in, the cost inputs and a curve's points are all read by this module (`reader`).
+
+mod advice;
+mod lines;
+mod tables;
+
+pub use tables::{leading_table, two_tables, FirstTable, Names};
 
 use crate::Refusal;
 use std::fmt;
+use std::io;
 
 /// Where a text is wrong, and how. Lines and columns count from 1, columns in bytes.
 #[derive(Clone, Debug, PartialEq, Eq)]
@@ -75,6 +82,34 @@ impl Fault {
     }
 }
 
+/// Why a text gives no answer: the system did not give its bytes, or the memory to hold them; or it is refused.
+#[derive(Debug)]
+pub enum ReadError {
+    Unread(io::Error),
+    Refused(Fault),
+}
+
+impl From<io::Error> for ReadError {
+    fn from(error: io::Error) -> ReadError {
+        ReadError::Unread(error)
+    }
+}
+
+impl From<Fault> for ReadError {
+    fn from(fault: Fault) -> ReadError {
+        ReadError::Refused(fault)
+    }
+}
+
+/// Memory for so many entries more, or the error of a text that is not held.
+pub fn reserve<T>(list: &mut Vec<T>, entries: usize) -> io::Result<()> {
+    list.try_reserve(entries).map_err(|_| {
+        let bytes = entries.saturating_mul(size_of::<T>());
+        let said = format!("the system gives no {bytes} bytes of memory for it");
+        io::Error::new(io::ErrorKind::OutOfMemory, said)
+    })
+}
+
 /// What stands between two commas of a line.
 #[derive(Clone, Copy, Debug)]
 pub struct Field<'a> {
@@ -98,6 +133,10 @@ impl fmt::Display for Field<'_> {
 /// A value of a text: `None` is the word `none`.
 pub type Value = Option<i64>;
 
+/// The digits of the longest value, and the largest value that they write.
+const MOST_DIGITS: usize = 10;
+pub const LARGEST: i64 = 9_999_999_999;
+
 /// A value with the field that it was read from.
 #[derive(Clone, Copy, Debug)]
 pub struct Cell<'a> {
@@ -117,16 +156,15 @@ impl<'a> Field<'a> {
         }
     }
 
-    fn cell(self) -> Result<Cell<'a>, Fault> {
+    /// The value under a name.
+    fn cell(self, name: Option<&Field>) -> Result<Cell<'a>, Fault> {
         match value(self.bytes) {
             Some(value) => Ok(Cell { field: self, value }),
-            None => Err(Fault::at(
-                Refusal::Form,
-                self,
-                format!(
-                    "{self} is no value: none, or 1 to 10 digits without a needless 0 in front"
-                ),
-            )),
+            None => {
+                let name = name.map_or(&b""[..], |name| name.bytes);
+                let said = format!("{self} is no value: {}", advice::of_value(self.bytes, name));
+                Err(Fault::at(Refusal::Form, self, said))
+            }
         }
     }
 }
@@ -145,148 +183,11 @@ fn value(bytes: &[u8]) -> Option<Value> {
         [b'0'] => !negative,
         [first, ..] => *first != b'0',
     };
-    if !leads || digits.len() > 10 || !digits.iter().all(u8::is_ascii_digit) {
+    if !leads || digits.len() > MOST_DIGITS || !digits.iter().all(u8::is_ascii_digit) {
         return None;
     }
     let number = digits
         .iter()
         .fold(0, |number, digit| number * 10 + i64::from(digit - b'0'));
     Some(Some(if negative { -number } else { number }))
-}
-
-/// A line without its end, and its number.
-#[derive(Clone, Copy)]
-struct Line<'a> {
-    bytes: &'a [u8],
-    number: usize,
-}
-
-impl<'a> Line<'a> {
-    fn fields(self) -> impl Iterator<Item = Field<'a>> {
-        let mut column = 1;
-        self.bytes.split(|byte| *byte == b',').map(move |bytes| {
-            let field = Field {
-                bytes,
-                line: self.number,
-                column,
-            };
-            column += bytes.len() + 1;
-            field
-        })
-    }
-}
-
-/// A line end closes each line, the last too.
-fn lines(text: &[u8]) -> Result<Vec<Line<'_>>, Fault> {
-    let Some(closed) = text.strip_suffix(b"\n") else {
-        let last = 1 + text.iter().filter(|byte| **byte == b'\n').count();
-        let said = match text {
-            [] => "the text is empty",
-            _ => "no line end closes the last line",
-        };
-        return Err(Fault::in_line(Refusal::Form, last, said));
-    };
-    let lines = closed.split(|byte| *byte == b'\n').zip(1..);
-    Ok(lines
-        .map(|(bytes, number)| Line { bytes, number })
-        .collect())
-}
-
-/// A line of names and lines of values, of the form but not yet judged by its names.
-pub struct Table<'a> {
-    line: usize,
-    names: Vec<Field<'a>>,
-    rows: Vec<Vec<Cell<'a>>>,
-}
-
-impl<'a> Table<'a> {
-    fn read(head: Line<'a>, rows: &[Line<'a>]) -> Result<Table<'a>, Fault> {
-        let names: Vec<Field> = head.fields().map(Field::name).collect::<Result<_, _>>()?;
-        let rows = rows
-            .iter()
-            .map(|row| {
-                let cells: Vec<Cell> = row.fields().map(Field::cell).collect::<Result<_, _>>()?;
-                if cells.len() != names.len() {
-                    let counts = format!("{} values under {} names", cells.len(), names.len());
-                    return Err(Fault::in_line(Refusal::Form, row.number, counts));
-                }
-                Ok(cells)
-            })
-            .collect::<Result<_, _>>()?;
-        Ok(Table {
-            line: head.number,
-            names,
-            rows,
-        })
-    }
-
-    /// The number of the line of names.
-    pub fn line(&self) -> usize {
-        self.line
-    }
-
-    pub fn has(&self, name: &str) -> bool {
-        self.names
-            .iter()
-            .any(|field| field.bytes == name.as_bytes())
-    }
-
-    /// The rows with their cells in the sequence of `names`, each of which has to stand once, and no other.
-    pub fn rows<const N: usize>(&self, names: [&str; N]) -> Result<Vec<[Cell<'a>; N]>, Fault> {
-        let places = self.places(names)?;
-        let in_sequence = |row: &Vec<Cell<'a>>| places.map(|place| row[place]);
-        Ok(self.rows.iter().map(in_sequence).collect())
-    }
-
-    fn places<const N: usize>(&self, names: [&str; N]) -> Result<[usize; N], Fault> {
-        let place = |name: &str| self.names.iter().position(|f| f.bytes == name.as_bytes());
-        let missing: Vec<String> = names
-            .iter()
-            .filter(|name| place(name).is_none())
-            .map(|name| format!("'{name}' is missing"))
-            .collect();
-        for (i, field) in self.names.iter().enumerate() {
-            let known = names.iter().any(|name| name.as_bytes() == field.bytes);
-            let before = self.names[..i].iter().any(|f| f.bytes == field.bytes);
-            let wrong = match (known, before) {
-                (false, _) => format!("{field} is unknown"),
-                (true, true) => format!("{field} is repeated"),
-                (true, false) => continue,
-            };
-            let said = std::iter::once(wrong).chain(missing).collect::<Vec<_>>();
-            return Err(Fault::at(Refusal::Name, *field, said.join(", ")));
-        }
-        if !missing.is_empty() {
-            return Err(Fault::in_line(Refusal::Name, self.line, missing.join(", ")));
-        }
-        Ok(names.map(|name| place(name).expect("none is missing")))
-    }
-}
-
-/// A table of one row, an empty line and a table of any number of rows. `second` is that one's line of names, for what is said where it is missing.
-pub fn two_tables<'a>(text: &'a [u8], second: &str) -> Result<(Table<'a>, Table<'a>), Fault> {
-    let lines = lines(text)?;
-    let [head, row, gap, second_head, rows @ ..] = lines.as_slice() else {
-        let lacks = match lines.len() {
-            1 => "the line of values is missing".to_string(),
-            2 => "the empty line is missing".to_string(),
-            _ => format!("'{second}' is missing"),
-        };
-        return Err(Fault::in_line(Refusal::Form, lines.len() + 1, lacks));
-    };
-    let first = Table::read(*head, &[*row])?;
-    if !gap.bytes.is_empty() {
-        let said = "this line has to be empty";
-        return Err(Fault::in_line(Refusal::Form, gap.number, said));
-    }
-    let second = Table::read(*second_head, rows)?;
-    Ok((first, second))
-}
-
-/// A table by itself, up to the end of the text or to the first empty line, behind which nothing is read.
-pub fn leading_table(text: &[u8]) -> Result<Table<'_>, Fault> {
-    let end = text.windows(2).position(|pair| pair == b"\n\n");
-    let lines = lines(end.map_or(text, |end| &text[..=end]))?;
-    let (head, rows) = lines.split_first().expect("a text has a line");
-    Table::read(*head, rows)
 }

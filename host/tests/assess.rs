@@ -163,10 +163,11 @@ fn damaged_listings() {
         seen[expected.as_ref().err().map_or(0, |n| *n as usize)] += 1;
         let answer = read_schedule(text.as_bytes());
         match (&answer, &expected) {
-            (Ok(outputs), Ok(fields)) => {
+            (Ok(handed_in), Ok(fields)) => {
                 let beyond = 10_000_000_000u64;
                 let read = fields.iter().map(|field| field.parse().unwrap_or(beyond));
-                assert!(outputs.iter().copied().eq(read), "{text}");
+                assert!(handed_in.outputs.iter().copied().eq(read), "{text}");
+                assert_eq!(handed_in.count, fields.len());
             }
             (Err(fault), Err(number)) => {
                 assert_eq!(fault.refusal.number(), *number, "{text}");

@@ -2,7 +2,7 @@
 
 mod support;
 
-use ralwinga::clock_hour;
+use ralwinga::{clock_hour, clock_hours};
 use support::calendar::{changes, days_after, exists, shown, Date};
 
 const MOST_INTERVALS: u64 = 2976;
@@ -15,12 +15,25 @@ fn every_date() -> impl Iterator<Item = Date> {
     })
 }
 
-/// All intervals of so many from a date on.
+/// What stands past a slice that is lent.
+const CANARY: u64 = 99;
+
+/// All intervals of so many from a date on, in one call; the last of them and one drawn by the date asked for alone as well.
 fn agrees(date: Date, intervals: u64) {
     let (year, month, day) = date;
-    for (shown, interval) in shown(date, intervals as usize).iter().zip(1..) {
+    let expected = shown(date, intervals as usize);
+    let mut hours = vec![CANARY; intervals as usize + 1];
+    let lent = &mut hours[..intervals as usize];
+    assert_eq!(clock_hours(year, month, day, lent), Ok(intervals as usize));
+    assert!(expected.iter().map(|s| &s.hour).eq(lent.iter()), "{date:?}");
+    assert_eq!(hours[intervals as usize], CANARY);
+    for interval in [
+        intervals,
+        1 + (year * 7 + month * 31 + day * 97) % intervals,
+    ] {
         let hour = clock_hour(year, month, day, interval);
-        assert_eq!(hour, Ok(shown.hour), "{date:?}, interval {interval}");
+        let shown = expected[interval as usize - 1].hour;
+        assert_eq!(hour, Ok(shown), "{date:?}, interval {interval}");
     }
 }
 
@@ -70,6 +83,18 @@ fn known_hours() {
     assert_eq!(of_two_days((2024, 11, 3))[100].date, (2024, 11, 4));
 }
 
+/// One interval after the other, on the days on which time changes.
+#[test]
+fn interval_by_interval() {
+    for date in (2007..=2099).flat_map(changes) {
+        let (year, month, day) = date;
+        for (shown, interval) in shown(date, 104).iter().zip(1..) {
+            let hour = clock_hour(year, month, day, interval);
+            assert_eq!(hour, Ok(shown.hour), "{date:?}, interval {interval}");
+        }
+    }
+}
+
 #[test]
 fn three_days_from_every_date() {
     every_date().for_each(|date| agrees(date, 288));
@@ -114,6 +139,13 @@ fn what_is_refused() {
         let number = answer.err().map(|refusal| refusal.number());
         let expected = refused(date, interval);
         assert_eq!(number, expected, "{date:?}, interval {interval}");
+        if interval <= MOST_INTERVALS + 1 {
+            let mut hours = vec![CANARY; interval as usize];
+            let number = clock_hours(year, month, day, &mut hours).err();
+            assert_eq!(number.map(|refusal| refusal.number()), expected, "{date:?}");
+            let untouched = hours.iter().all(|hour| *hour == CANARY);
+            assert!(untouched == expected.is_some() || interval == 0, "{date:?}");
+        }
         seen[expected.unwrap_or(0) as usize] += 1;
     };
     for year in 2006..=2100 {

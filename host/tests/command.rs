@@ -5,7 +5,7 @@ mod support;
 use std::path::Path;
 use std::process::{Command, Output, Stdio};
 use support::{answer_on, any_case, damage_text, month, paper, proved_program, ralwinga};
-use support::{run_on, run_unread, text_of, Folder, Random, C1};
+use support::{limited, run_on, run_unread, text_of, Folder, Random, C1};
 
 const CASES: usize = 500;
 
@@ -106,7 +106,7 @@ fn refusals_and_drawings_that_fail() {
         "(refused, 1: the text",
     );
     let answer = answer_on(&["-"], C1.replacen("mot", "mob", 1).as_bytes());
-    let said = "standard input: line 1, column 17: 'mob' is unknown";
+    let said = "standard input: line 1, column 17: 'mob' is unknown (did you mean 'mot'?), 'mot' is missing";
     stops(&answer, 1, "refused,2\n", said);
     let drawing = "/no/such/folder/drawing";
     let answer = answer_on(&["-", "--svg", drawing], C1.as_bytes());
@@ -124,8 +124,8 @@ const HELP: [(&[&str], &str); 8] = [
     (&["--help"], "What is proved: "),
     (&["-h"], "Usage: ralwinga [OPTIONS] <CASE>..."),
     (&["plan", "--help"], "Usage: ralwinga plan [OPTIONS] <CASE>..."),
-    (&["assess", "--help"], "Usage: ralwinga assess <CASE> <LISTING>"),
-    (&["costs", "--help"], "Usage: ralwinga costs <INPUTS>"),
+    (&["assess", "--help"], "Usage: ralwinga assess [OPTIONS] <CASE> <LISTING>"),
+    (&["costs", "--help"], "Usage: ralwinga costs [OPTIONS] <INPUTS>"),
     (&["curve", "--help"], "Usage: ralwinga curve [OPTIONS] <INPUTS>"),
     (&["explain", "--help"], "Usage: ralwinga explain [OPTIONS] <CASE>"),
     (&["completion", "--help"], "Usage: ralwinga completion <SHELL>"),
@@ -161,11 +161,8 @@ fn memory_is_said_and_capped() {
 }
 
 /// What the command makes of a case where the system gives it so many KiB for all it has.
-fn limited(case: &Path, kib: u32) -> Output {
-    let line = format!("ulimit -v {kib}; exec \"$0\" \"$1\"");
-    let mut shell = Command::new("sh");
-    shell.args(["-c", &line, env!("CARGO_BIN_EXE_ralwinga")]);
-    shell.arg(case).output().expect("a shell")
+fn in_kib(case: &Path, kib: u32) -> Output {
+    limited(&format!("'{}'", case.display()), kib, |_| ())
 }
 
 /// Where the system does not give what it says is free, the case is planned in two layers too.
@@ -179,7 +176,7 @@ fn memory_that_is_not_given() {
     let said = "ralwinga: 1047904 cells, 8.0 MiB of scratch\n";
     assert_eq!(String::from_utf8_lossy(&expected.stderr), said);
     // less and less, until the long table does not go beside the command itself
-    let mut answers = (4..=20).rev().map(|times| limited(&case, 2000 * times));
+    let mut answers = (4..=20).rev().map(|times| in_kib(&case, 2000 * times));
     let answer = answers
         .find(|answer| answer.stderr != expected.stderr)
         .expect("a limit too low");
@@ -200,11 +197,11 @@ fn two_layers_that_are_not_given() {
     text = text.replacen(",2,2,none", ",none,none,5000", 1);
     text.push_str(&"9000\n".repeat(12));
     let case = folder.file("wide.csv", &text);
-    let answer = limited(&case, 100_000);
+    let answer = in_kib(&case, 100_000);
     assert_eq!(answer.status.code(), Some(0));
     let said = "ralwinga: 2304384 cells, 17.6 MiB of scratch: two layers, which are faster than the long table of 14978496 cells\n";
     assert_eq!(String::from_utf8_lossy(&answer.stderr), said);
-    let answer = limited(&case, 20_000);
+    let answer = in_kib(&case, 20_000);
     assert_eq!(answer.stdout, b"refused,8\n");
     let said = String::from_utf8_lossy(&answer.stderr).to_string();
     assert!(
@@ -268,6 +265,10 @@ fn completion() {
     for (words, offered) in [
         ("ex", "explain"),
         ("plan --o", "--out"),
+        ("plan --ra", "--raw"),
+        ("plan --no", "--no-header"),
+        ("explain --q", "--quiet"),
+        ("costs --cr", "--crlf"),
         ("--ht", "--html"),
         ("cu", "curve"),
         ("curve --s", "--svg"),

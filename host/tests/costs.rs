@@ -115,8 +115,8 @@ const FAULTS: [(&str, &str, u64, &str); 7] = [
     ("80,9790", "80", 1, "line 5: 1 values under 2 names"),
     ("mw,heat\n80,9790\n", "", 1, "line 4: 'mw,heat' is missing"),
     ("mw,heat", "mw,rate", 2, "line 4, column 4: 'rate' is unknown, 'heat' is missing"),
-    ("80,9790", "501,9790", 3, "line 5, column 1: mw '501' is outside its range"),
-    ("80,9790", "80,0", 3, "line 5, column 4: heat '0' is outside its range"),
+    ("80,9790", "501,9790", 3, "line 5, column 1: mw '501' is outside its range, 1 to 500 ("),
+    ("80,9790", "80,0", 3, "line 5, column 4: heat '0' is outside its range, 1 to 50000 ("),
     ("80,9790\n", "8,1\n8,1\n8,1\n8,1\n8,1\n8,1\n8,1\n8,1\n8,1\n4,1\n4,1\n", 3, "line 4: 11 segments, more than there may be"),
     ("80,9790", "79,9790", 6, "refused, 6: "),
 ];

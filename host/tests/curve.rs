@@ -410,11 +410,11 @@ const FAULTS: [(&str, &str, u64, &str); 15] = [
     ("gas,om", "gas,fuel", 2, "line 1, column 5: 'fuel' is unknown, 'om' is missing"),
     ("gas,om", "gas,gas", 2, "line 1, column 5: 'gas' is repeated, 'om' is missing"),
     ("level,rate", "mw,rate", 2, "line 4, column 1: 'mw' is unknown, 'level' is missing"),
-    ("550", "10001", 3, "line 2, column 1: gas '10001' is outside its range"),
-    ("2500", "-1", 3, "line 2, column 12: adder '-1' is outside its range"),
-    ("280", "none", 3, "line 2, column 5: om 'none' is outside its range"),
-    ("300,10909", "501,10909", 3, "line 7, column 1: level '501' is outside its range"),
-    ("300,10909", "300,0", 3, "line 7, column 5: rate '0' is outside its range"),
+    ("550", "10001", 3, "line 2, column 1: gas '10001' is outside its range, 0 to 10000 ("),
+    ("2500", "-1", 3, "line 2, column 12: adder '-1' is outside its range, 0 to 1000000 ("),
+    ("280", "none", 3, "line 2, column 5: om 'none' is outside its range, 0 to 10000 ("),
+    ("300,10909", "501,10909", 3, "line 7, column 1: level '501' is outside its range, 1 to 500 ("),
+    ("300,10909", "300,0", 3, "line 7, column 5: rate '0' is outside its range, 1 to 50000 ("),
     ("150,11960\n300,10909\n", "", 3, "line 4: the number of points, 1, is outside its range"),
     ("70,", "1,1\n2,1\n3,1\n4,1\n5,1\n6,1\n7,1\n8,1\n9,1\n70,", 3, "line 4: the number of points, 12, is outside its range"),
     ("150,11960", "70,11960", 11, "line 6, column 1: level '70' is not over '70'"),
@@ -530,12 +530,16 @@ fn a_drawing_by_the_command() {
     let svg = folder.read("unit.svg");
     assert!(svg.starts_with("<svg") && svg.ends_with("</svg>\n"));
     is_drawn(&segments(&[(70, 150, 8214), (150, 300, 8252)]), &svg);
-    // what cannot be written is told behind the answer, and what is refused has no drawing
+    // what cannot be written is told behind the answer, and the drawing of what is refused says so
     let answer = run(inputs.as_os_str(), "/no/such/folder/drawing".as_ref());
     assert_eq!(String::from_utf8_lossy(&answer.stdout), table);
     assert_eq!(answer.status.code(), Some(1));
     let refused = folder.file("refused.csv", WORKED.replacen("150", "70", 1));
     let answer = run(refused.as_os_str(), folder.path("refused.svg").as_os_str());
     assert_eq!(answer.stdout, b"refused,11\n");
-    assert!(!folder.path("refused.svg").exists());
+    let svg = folder.read("refused.svg");
+    assert!(
+        svg.contains("Refused, 11: the levels do not rise strictly"),
+        "{svg}"
+    );
 }

@@ -329,7 +329,7 @@ fn many_cases() {
     );
     let (refused, said) = run(&["plan", "--jobs", "1", "--cells", "167"]);
     let refused = String::from_utf8(refused).expect("text");
-    assert_eq!(refused.matches(",8,0,none,none,none\n").count(), 2);
+    assert_eq!(refused.matches(",8,,,,,,,,,,\n").count(), 2);
     assert_eq!(said.matches(": the case needs 168 cells, ").count(), 2);
 }
 

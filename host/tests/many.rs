@@ -35,9 +35,10 @@ fn text(bytes: &[u8]) -> String {
     String::from_utf8(bytes.to_vec()).expect("text")
 }
 
-/// The table printed and the exit status.
+/// The table in quarter-cents and the exit status.
 fn table_of(words: &[&str], files: &[PathBuf]) -> (String, Output) {
-    let output = ralwinga(words).args(files).output().expect("runs");
+    let mut command = ralwinga(words);
+    let output = command.arg("--raw").args(files).output().expect("runs");
     (text(&output.stdout), output)
 }
 
@@ -174,7 +175,7 @@ fn a_listing_among_the_cases() {
     let listing = folder.path("x.listing.csv");
     let (table, output) = table_of(&["plan", "--out", &out], &[case, listing]);
     assert_eq!((table.as_str(), output.status.code()), ("", Some(2)));
-    assert!(text(&output.stderr).contains("x.listing.csv is a case itself"));
+    assert!(text(&output.stderr).contains("x.listing.csv is the input "));
     let (table, output) = table_of(&["plan"], &["-".into(), "-".into()]);
     assert_eq!((table.as_str(), output.status.code()), ("", Some(2)));
 }
@@ -187,7 +188,8 @@ fn names_of_any_kind() {
     let odd = OsStr::from_bytes(b"\xff.csv");
     std::fs::write(folder.path("").join(odd), C1).expect("written");
     let mut command = ralwinga(["plan".as_ref(), "--out".as_ref(), ".".as_ref(), odd]);
-    command.arg("a,\"b\".csv").current_dir(folder.path(""));
+    command.args(["a,\"b\".csv", "--raw"]);
+    command.current_dir(folder.path(""));
     let table = command.output().expect("runs").stdout;
     let expected = [
         HEAD.as_bytes(),

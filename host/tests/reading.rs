@@ -53,10 +53,10 @@ fn both_readers_agree() {
             answer.as_ref().map_err(|r| *r),
             "{shown}"
         );
-        // the command's reader gives the proved one's number, and a place for each of 1 to 3 and for a date
+        // the command's reader gives the proved one's number, and a place for each of 1 to 3, for a date and for the number of prices
         assert_eq!(read_case(&text), long, "{shown}");
         let placed = long.is_err_and(|fault| fault.place.is_some());
-        assert_eq!(placed, [1, 2, 3, 12].contains(&refused), "{shown}");
+        assert_eq!(placed, [1, 2, 3, 5, 12].contains(&refused), "{shown}");
     }
     each_came_up(&seen, &[0, 1, 2, 3, 4, 5, 12]);
 }
@@ -249,18 +249,18 @@ const FAULTS: [(&str, &str, u64, &str); 18] = [
     ("5000,2,2", "5000,2 ,2", 1, "line 2, column 32: '2 ' is no value"),
     ("10,1,2", "10,1", 1, "line 2: 12 values under 13 names"),
     ("\n\n", "\n", 1, "line 3: this line has to be empty"),
-    ("\n\n", "\r\n\n", 1, "line 2, column 36: 'none\\r' is no value"),
+    ("\n\n", "\r\n\n", 1, "line 2: the line ends with CR LF, and lines end with LF: give --crlf, or convert"),
     ("8000", "", 1, "line 7, column 1: '' is no value"),
     ("8000", "99999999999", 1, "line 7, column 1: '99999999999' is no value"),
-    ("mot", "mob", 2, "line 1, column 17: 'mob' is unknown, 'mot' is missing"),
+    ("mot", "mob", 2, "line 1, column 17: 'mob' is unknown (did you mean 'mot'?), 'mot' is missing"),
     ("mot", "mdt", 2, "line 1, column 21: 'mdt' is repeated, 'mot' is missing"),
-    ("price", "prices", 2, "line 4, column 1: 'prices' is unknown, 'price' is missing"),
-    ("10,1,2,2", "10,1,2,97", 3, "line 2, column 8: mot '97' is outside its range"),
-    ("10,1,2,2", "10,2,2,97", 3, "line 2, column 8: mot '97' is outside its range"),
-    ("10,1,2", "10,none,2", 3, "line 2, column 4: pmin 'none' is outside its range"),
-    ("2,none", "2,-1", 3, "line 2, column 36: mwh '-1' is outside its range"),
-    ("8000", "200001", 3, "line 7, column 1: price '200001' is outside its range"),
-    ("8000", "none", 3, "line 7, column 1: price 'none' is outside its range"),
+    ("price", "prices", 2, "line 4, column 1: 'prices' is unknown (did you mean 'price'?), 'price' is missing"),
+    ("10,1,2,2", "10,1,2,97", 3, "line 2, column 8: mot '97' is outside its range, 1 to 96 ("),
+    ("10,1,2,2", "10,2,2,97", 3, "line 2, column 8: mot '97' is outside its range, 1 to 96 ("),
+    ("10,1,2", "10,none,2", 3, "line 2, column 4: pmin 'none' is outside its range, 1 to 500 ("),
+    ("2,none", "2,-1", 3, "line 2, column 36: mwh '-1' is outside its range, 0 to 372000, or none ("),
+    ("8000", "200001", 3, "line 7, column 1: price '200001' is outside its range, -200000 to 200000 ("),
+    ("8000", "none", 3, "line 7, column 1: price 'none' is outside its range, -200000 to 200000 ("),
 ];
 
 #[test]
@@ -279,15 +279,15 @@ fn places_of_faults() {
 /// C1 from 3 February 2024 on with one thing put for another.
 #[rustfmt::skip]
 const DATED_FAULTS: [(&str, &str, u64, &str); 10] = [
-    ("month,", "mouth,", 2, "line 1, column 68: 'mouth' is unknown, 'month' is missing"),
+    ("month,", "mouth,", 2, "line 1, column 68: 'mouth' is unknown (did you mean 'month'?), 'month' is missing"),
     ("month,", "year,", 2, "line 1, column 68: 'year' is repeated, 'month' is missing"),
-    ("mwh,", "mw,", 2, "line 1, column 59: 'mw' is unknown, 'mwh' is missing"),
+    ("mwh,", "mw,", 2, "line 1, column 59: 'mw' is unknown (did you mean 'mwh'?), 'mwh' is missing"),
     (",window\n10,1,2,2,2,0,2,3000,30000,5000,2,2,none,2024,2,3,1", "\n10,1,2,2,2,0,2,3000,30000,5000,2,2,none,2024,2,3", 2, "line 1: 'window' is missing"),
-    ("none,2024", "none,2006", 3, "line 2, column 41: year '2006' is outside its range"),
-    ("none,2024", "none,none", 3, "line 2, column 41: year 'none' is outside its range"),
-    ("2024,2,3", "2024,13,3", 3, "line 2, column 46: month '13' is outside its range"),
-    ("2024,2,3", "2024,2,0", 3, "line 2, column 48: day '0' is outside its range"),
-    ("2,3,1\n", "2,31,16777216\n", 3, "line 2, column 51: window '16777216' is outside its range"),
+    ("none,2024", "none,2006", 3, "line 2, column 41: year '2006' is outside its range, 2007 to 2099 ("),
+    ("none,2024", "none,none", 3, "line 2, column 41: year 'none' is outside its range, 2007 to 2099 ("),
+    ("2024,2,3", "2024,13,3", 3, "line 2, column 46: month '13' is outside its range, 1 to 12 ("),
+    ("2024,2,3", "2024,2,0", 3, "line 2, column 48: day '0' is outside its range, 1 to 31 ("),
+    ("2,3,1\n", "2,31,16777216\n", 3, "line 2, column 51: window '16777216' is outside its range, 0 to 16777215 ("),
     ("2024,2,3", "2024,2,31", 12, "line 2, column 48: there is no day '31' in month '2' of '2024'"),
 ];
 

@@ -20,7 +20,7 @@ pub use cases::{
 pub use cases::{C1, FULL};
 pub use lent::Lent;
 pub use random::Random;
-pub use running::{answer_on, proved_program, ralwinga, run_on, run_unread, Folder};
+pub use running::{answer_on, limited, proved_program, ralwinga, run_on, run_unread, Folder};
 pub use texts::{columns_of, damage_text, shuffled_table, text_of, text_with};
 
 /// How often each number came up, 0 for no refusal.

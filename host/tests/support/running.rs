@@ -46,6 +46,22 @@ pub fn answer_on(words: &[&str], text: &[u8]) -> Output {
     run_on(ralwinga(words), text)
 }
 
+/// What the command makes of a text on its standard input, where the system gives it so many KiB for all it has.
+pub fn limited(words: &str, kib: u32, mut write: impl FnMut(&mut dyn Write)) -> Output {
+    let line = format!("ulimit -v {kib}; exec \"$0\" {words}");
+    let mut shell = Command::new("sh");
+    shell.args(["-c", &line, env!("CARGO_BIN_EXE_ralwinga")]);
+    shell
+        .stdin(Stdio::piped())
+        .stdout(Stdio::piped())
+        .stderr(Stdio::piped());
+    let mut child = shell.spawn().expect("a shell");
+    let mut stdin = child.stdin.take().expect("piped");
+    write(&mut stdin);
+    drop(stdin);
+    child.wait_with_output().expect("ends")
+}
+
 /// The proved program, which `rt check plan` builds.
 pub fn proved_program() -> Command {
     let path = Path::new(env!("CARGO_MANIFEST_DIR")).join("../target/bin/plan");

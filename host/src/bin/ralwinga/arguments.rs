@@ -2,6 +2,7 @@
 
 use clap::{Args, CommandFactory, Parser, Subcommand, ValueHint};
 use clap_complete::Shell;
+use ralwinga::nearest::nearest;
 use std::path::PathBuf;
 
 const PROVED: &str = "What is proved: each plan, profit, opportunity cost, cost figure and bid curve is an answer of the proved static library: the plan \
@@ -36,7 +37,7 @@ pub struct Arguments {
 
 #[derive(Subcommand)]
 pub enum Command {
-    /// Print the best plan of a case; of many, a table of their profits and opportunity costs
+    /// Print the best plan of a case; of many, a table of their profits and adders
     Plan(PlanWords),
     /// Hand in the outputs of a listing and print their profit
     Assess(AssessWords),
@@ -61,6 +62,12 @@ pub struct PlanWords {
     /// At most N cases side by side; fewer where the memory for all at once is not there [default: the cores]
     #[arg(long, value_name = "N", value_parser = positive)]
     pub jobs: Option<usize>,
+    /// Print the table of many cases in quarter-cents, for programs: file,number,profit,starts,hours,mwh
+    #[arg(long)]
+    pub raw: bool,
+    /// Print the table of many cases without its heading
+    #[arg(long)]
+    pub no_header: bool,
     #[command(flatten)]
     pub options: CaseOptions,
 }
@@ -74,18 +81,31 @@ pub struct ExplainWords {
     pub options: CaseOptions,
 }
 
+/// What concerns every file that is read.
+#[derive(Args)]
+pub struct Common {
+    /// Say nothing on standard error where all was answered
+    #[arg(long)]
+    pub quiet: bool,
+    /// Take lines that end with CR LF, too
+    #[arg(long)]
+    pub crlf: bool,
+}
+
 /// What concerns a case wherever it is planned.
 #[derive(Args)]
 pub struct CaseOptions {
     /// At most N cells of 8 bytes for a case, which is planned in two layers where its long table does not fit or is slower [default: what free memory holds]
     #[arg(long, value_name = "N")]
     pub cells: Option<usize>,
-    /// Draw prices and output to FILE (one case)
+    /// Draw prices and output, or the refusal, to FILE (one case)
     #[arg(long, value_name = "FILE", value_hint = ValueHint::FilePath)]
     pub svg: Option<PathBuf>,
     /// Write a page with drawing, runs, limitations and adders, or with the refusal, to FILE (one case)
     #[arg(long, value_name = "FILE", value_hint = ValueHint::FilePath)]
     pub html: Option<PathBuf>,
+    #[command(flatten)]
+    pub common: Common,
 }
 
 #[derive(Args)]
@@ -96,6 +116,8 @@ pub struct AssessWords {
     /// A file with a listing as `plan` prints it, of which the table interval,mw is read; or -
     #[arg(value_name = "LISTING", value_hint = ValueHint::FilePath)]
     pub listing: PathBuf,
+    #[command(flatten)]
+    pub common: Common,
 }
 
 #[derive(Args)]
@@ -103,6 +125,8 @@ pub struct CostsWords {
     /// A file with cost inputs, or - for standard input
     #[arg(value_name = "INPUTS", value_hint = ValueHint::FilePath)]
     pub inputs: PathBuf,
+    #[command(flatten)]
+    pub common: Common,
 }
 
 #[derive(Args)]
@@ -110,15 +134,43 @@ pub struct CurveWords {
     /// A file with the inputs and the points of a bid curve, or - for standard input
     #[arg(value_name = "INPUTS", value_hint = ValueHint::FilePath)]
     pub inputs: PathBuf,
-    /// Draw the curve to FILE
+    /// Draw the curve, or the refusal, to FILE
     #[arg(long, value_name = "FILE", value_hint = ValueHint::FilePath)]
     pub svg: Option<PathBuf>,
+    #[command(flatten)]
+    pub common: Common,
 }
 
 #[derive(Args)]
 pub struct CompletionWords {
     #[arg(value_name = "SHELL")]
     pub shell: Shell,
+}
+
+impl Command {
+    /// Whether nothing is to be said of how things go.
+    pub fn is_quiet(&self) -> bool {
+        let common = match self {
+            Command::Plan(words) => &words.options.common,
+            Command::Explain(words) => &words.options.common,
+            Command::Assess(words) => &words.common,
+            Command::Costs(words) => &words.common,
+            Command::Curve(words) => &words.common,
+            Command::Completion(_) => return false,
+        };
+        common.quiet
+    }
+}
+
+/// The words of a run without a subcommand whose first is no file, but nearly a subcommand.
+pub fn misspelt(words: &PlanWords) -> Option<String> {
+    let word = words.cases.first()?;
+    let command = Arguments::command();
+    let names: Vec<&str> = command.get_subcommands().map(|c| c.get_name()).collect();
+    let known = nearest(word.to_str()?, &names)?;
+    let word = word.display();
+    (!words.cases[0].exists())
+        .then(|| format!("'{word}' is no file and no subcommand; did you mean '{known}'?"))
 }
 
 fn positive(word: &str) -> Result<usize, String> {
@@ -154,6 +206,7 @@ pub fn in_one_line(error: &clap::Error) -> String {
 #[cfg(test)]
 mod tests {
     use super::*;
+    use ralwinga::reader::{horizon, read_case, UNIT_NAMES, WINDOW_NAMES};
     use ralwinga::Refusal;
 
     const PAGE: &str = include_str!("../../../ralwinga.1");
@@ -181,6 +234,29 @@ mod tests {
             }
         }
         assert!(page.contains(env!("CARGO_PKG_VERSION")));
+    }
+
+    /// The manual page has the names of a case with their ranges, which are the library's.
+    #[test]
+    fn the_manual_page_has_every_name_of_a_case() {
+        let page = PAGE.replace("\\-", "-");
+        let (_, table) = page.split_once("name|meaning|range\n").expect("a table");
+        let (table, _) = table.split_once("\n.TE\n").expect("an end");
+        let rows: Vec<Vec<&str>> = table.lines().map(|row| row.split('|').collect()).collect();
+        let names: Vec<&str> = rows.iter().map(|row| row[0]).collect();
+        let unit = [&UNIT_NAMES[..], &WINDOW_NAMES].concat();
+        assert_eq!(names, [&unit[..], &["price"]].concat());
+        for (place, row) in rows.iter().enumerate() {
+            let mut values = ["1"; 18];
+            values[13] = "2024";
+            values[place] = "9999999999";
+            let (unit_values, price) = (values[..17].join(","), values[17]);
+            let text = format!("{}\n{unit_values}\n\nprice\n{price}\n", unit.join(","));
+            let said = read_case(text.as_bytes()).expect_err(row[0]).to_string();
+            let told = format!("{} '9999999999' is outside its range, {} (", row[0], row[2]);
+            assert!(said.contains(&told), "{said}");
+        }
+        assert!(page.contains(&format!("There are 1 to {} prices.", horizon())));
     }
 
     /// The manual page has the numbers with their meaning, in the order in which causes are given.

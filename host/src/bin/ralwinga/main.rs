@@ -1,21 +1,28 @@
 //! The command that a shift works with. It reads, asks the proved library and writes; what is proved of that is said by `--help`.
 
+mod allocation;
 mod arguments;
 mod calls;
+mod groups;
+mod identity;
+mod input;
 mod many;
 mod memory;
 mod one;
+mod output;
 mod pictures;
 mod planning;
 mod progress;
+mod standard;
 mod stop;
+mod table;
 mod ways;
 
-use arguments::{in_one_line, Arguments, Command, CompletionWords, PlanWords};
+use arguments::{in_one_line, misspelt, Arguments, Command, CompletionWords, PlanWords};
 use clap::{CommandFactory, Parser};
 use ralwinga::refusal_line;
 use std::process::ExitCode;
-use stop::{print, say, Stop};
+use stop::{be_quiet, print, say, Stop};
 
 fn main() -> ExitCode {
     let answer = match Arguments::try_parse() {
@@ -39,7 +46,14 @@ fn main() -> ExitCode {
 
 /// Whether all was answered.
 fn run(words: Arguments) -> Result<bool, Stop> {
-    match words.command.unwrap_or(Command::Plan(words.plan)) {
+    if let (None, Some(said)) = (&words.command, misspelt(&words.plan)) {
+        return Err(Stop::words(said));
+    }
+    let command = words.command.unwrap_or(Command::Plan(words.plan));
+    if command.is_quiet() {
+        be_quiet();
+    }
+    match command {
         Command::Plan(words) => return plan(&words),
         Command::Assess(words) => calls::assess(&words)?,
         Command::Costs(words) => calls::costs(&words)?,

@@ -1,15 +1,19 @@
 //! Many cases side by side: their listings into a folder, a table of their answers to standard output.
 
 use crate::arguments::PlanWords;
-use crate::memory::{at_once, free_cells, scratch_of, side_by_side, Cap, Scratch};
+use crate::identity;
+use crate::memory::{at_once, free_cells, scratch_of, side_by_side, Scratch};
+use crate::output::write;
+use crate::pictures::Output;
 use crate::planning::{printed, Planned, Prepared};
 use crate::progress::Progress;
-use crate::stop::{is_standard_input, print, say, shown, Stop};
+use crate::stop::{is_standard_input, note, print, say, shown, Stop};
+use crate::table::Form;
 use crate::ways::Way;
 use rayon::prelude::*;
 use rayon::ThreadPoolBuilder;
 use std::cell::RefCell;
-use std::collections::{HashMap, HashSet};
+use std::collections::HashMap;
 use std::fs;
 use std::path::{Path, PathBuf};
 
@@ -38,35 +42,45 @@ pub fn plan(words: &PlanWords) -> Result<bool, Stop> {
         return Err(Stop::words("standard input can be one of the cases alone"));
     }
     let listings = listing_files(words)?;
+    let cases: Vec<&Path> = words.cases.iter().map(PathBuf::as_path).collect();
+    let outputs = listings.iter().flatten();
+    let outputs: Vec<Output> = outputs.map(|file| ("", file.as_path())).collect();
+    identity::check(&cases, &outputs)?;
     if let Some(folder) = &words.out {
         fs::create_dir_all(folder).map_err(|error| Stop::unwritten(folder, error))?;
     }
-    let cap = Cap::new(words.options.cells);
     let prepared: Vec<Result<Prepared, Stop>> = words
         .cases
         .iter()
-        .map(|file| Prepared::from_file(file, cap))
+        .map(|file| Prepared::from_file(file, &words.options))
         .collect();
     let entries = planned(prepared, &listings, words.jobs)?;
-    let mut all = true;
-    for stop in entries.iter().flat_map(Entry::stops) {
-        say(stop);
-        all = false;
-    }
-    let mut table = b"file,number,profit,starts,hours,mwh\n".to_vec();
-    for (file, entry) in words.cases.iter().zip(&entries) {
-        table.extend(row(file, &entry.answer));
-    }
-    print(&table)?;
-    Ok(all)
+    let stops: Vec<&Stop> = entries.iter().flat_map(Entry::stops).collect();
+    stops.iter().for_each(say);
+    print(&table_of(words, &entries))?;
+    Ok(stops.is_empty())
 }
 
-/// Where each case's listing goes. A listing that would take the place of another or of a case is no order to plan by, and nothing is planned.
+fn table_of(words: &PlanWords, entries: &[Entry]) -> Vec<u8> {
+    let form = match words.raw {
+        true => Form::Raw,
+        false => Form::Dollars,
+    };
+    let mut table = match words.no_header {
+        true => Vec::new(),
+        false => form.heading().as_bytes().to_vec(),
+    };
+    for (file, entry) in words.cases.iter().zip(entries) {
+        table.extend(form.row(file, &entry.answer));
+    }
+    table
+}
+
+/// Where each case's listing goes. Two cases of one name are no order to plan by, and nothing is planned.
 fn listing_files(words: &PlanWords) -> Result<Vec<Option<PathBuf>>, Stop> {
     let Some(folder) = &words.out else {
         return Ok(vec![None; words.cases.len()]);
     };
-    let cases: HashSet<PathBuf> = words.cases.iter().flat_map(fs::canonicalize).collect();
     let mut takers: HashMap<PathBuf, &Path> = HashMap::new();
     let mut files = Vec::new();
     for case in &words.cases {
@@ -75,12 +89,6 @@ fn listing_files(words: &PlanWords) -> Result<Vec<Option<PathBuf>>, Stop> {
             let (other, case, file) = (shown(other), shown(case), file.display());
             return Err(Stop::words(format!(
                 "{other} and {case} would both be written to {file}"
-            )));
-        }
-        if fs::canonicalize(&file).is_ok_and(|path| cases.contains(&path)) {
-            let file = file.display();
-            return Err(Stop::words(format!(
-                "{file} is a case itself, and would be written over"
             )));
         }
         files.push(Some(file));
@@ -110,7 +118,7 @@ fn planned(
     let ready: Vec<&Prepared> = prepared.iter().flatten().collect();
     let needs: Vec<usize> = ready.iter().map(|case| case.scratch(case.way)).collect();
     let jobs = side_by_side(&needs, threads, free_cells());
-    say(format!(
+    note(format!(
         "{}, {jobs} at a time, at most {}{}",
         counted(prepared.len()),
         scratch_of(at_once(&needs, jobs)),
@@ -120,12 +128,13 @@ fn planned(
     let entry = |(prepared, listing): (Result<Prepared, Stop>, &Option<PathBuf>)| {
         let answer = prepared
             .and_then(|case| SCRATCH.with_borrow_mut(|scratch| case.plan(scratch, &progress)));
-        let written = write(listing.as_deref(), printed(&answer));
+        let listing = listing.as_deref();
+        let written = listing.map_or(Ok(()), |file| write(file, &printed(&answer)));
         Entry { answer, written }
     };
     let pool = ThreadPoolBuilder::new().num_threads(jobs).build();
     let pool =
-        pool.map_err(|error| Stop::words(format!("cannot start {jobs} threads: {error}")))?;
+        pool.map_err(|error| Stop::System(format!("cannot start {jobs} threads: {error}")))?;
     let cases = prepared.into_par_iter().zip(listings).with_max_len(1);
     Ok(pool.install(|| cases.map(entry).collect()))
 }
@@ -185,49 +194,4 @@ fn counted(cases: usize) -> String {
         1 => "1 case".to_string(),
         _ => format!("{cases} cases"),
     }
-}
-
-fn write(file: Option<&Path>, content: Option<Vec<u8>>) -> Result<(), Stop> {
-    match (file, content) {
-        (Some(file), Some(bytes)) => {
-            fs::write(file, bytes).map_err(|error| Stop::unwritten(file, error))
-        }
-        _ => Ok(()),
-    }
-}
-
-/// The file, 0 and the answer; or the number of a refusal, with which every other number is 0 and every outcome none; or `unread`.
-fn row(file: &Path, answer: &Result<Planned, Stop>) -> Vec<u8> {
-    let figures = match answer {
-        Ok(planned) => {
-            let (profit, outcomes) = (planned.report.profit, planned.report.outcomes);
-            format!(
-                "0,{profit},{},{},{}",
-                outcomes.starts, outcomes.hours, outcomes.mwh
-            )
-        }
-        Err(stop) => {
-            let number = stop.refusal().map(|refusal| refusal.number().to_string());
-            format!(
-                "{},0,none,none,none",
-                number.unwrap_or("unread".to_string())
-            )
-        }
-    };
-    let mut row = quoted(file.as_os_str().as_encoded_bytes());
-    row.extend(format!(",{figures}\n").bytes());
-    row
-}
-
-/// A field of the table: between quotes where it has a comma, a quote or a line end, each quote in it doubled.
-fn quoted(field: &[u8]) -> Vec<u8> {
-    if !field.iter().any(|byte| b",\"\r\n".contains(byte)) {
-        return field.to_vec();
-    }
-    let mut out = vec![b'"'];
-    for byte in field {
-        out.extend(std::iter::repeat_n(*byte, 1 + usize::from(*byte == b'"')));
-    }
-    out.push(b'"');
-    out
 }

@@ -1,5 +1,7 @@
 //! Memory for the planner's cells: what a case may take, how many cases fit at once, and what is said of it.
 
+use crate::allocation::asking;
+use crate::groups;
 use ralwinga::{cells, Cells, Unit};
 use std::time::{Duration, Instant};
 
@@ -41,7 +43,13 @@ pub fn free_cells() -> usize {
     available_bytes().map_or(usize::MAX, |bytes| bytes / CELL_BYTES)
 }
 
+/// The least of what the machine has and of what the control groups of this process leave it.
 fn available_bytes() -> Option<usize> {
+    let of_machine = machine_bytes().into_iter();
+    of_machine.chain(groups::free_bytes()).min()
+}
+
+fn machine_bytes() -> Option<usize> {
     let info = std::fs::read_to_string("/proc/meminfo").ok()?;
     let line = info
         .lines()
@@ -66,7 +74,7 @@ impl Scratch {
         }
         // what is too short goes before more is asked for
         self.0 = Vec::new();
-        if self.0.try_reserve_exact(cells).is_err() {
+        if asking(|| self.0.try_reserve_exact(cells)).is_err() {
             return false;
         }
         while self.0.len() < cells {

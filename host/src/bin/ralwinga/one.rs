@@ -1,10 +1,11 @@
 //! One case, planned and told as its listing or as an explanation.
 
 use crate::arguments::CaseOptions;
-use crate::memory::{Cap, Scratch};
+use crate::identity;
+use crate::memory::Scratch;
 use crate::planning::{Planned, Prepared};
 use crate::progress::Progress;
-use crate::stop::{print, say, Stop};
+use crate::stop::{all_of, note, print, say, Stop};
 use ralwinga::explanation::Explanation;
 use std::path::Path;
 
@@ -27,20 +28,22 @@ fn answer(
     options: &CaseOptions,
     told: impl Fn(&Prepared, &Planned) -> Vec<u8>,
 ) -> Result<(), Stop> {
-    let answer = prepare_and_plan(case, options);
-    match &answer {
-        Ok((prepared, planned)) => {
-            print(&told(prepared, planned))?;
-            options.draw(prepared, planned)?;
+    identity::check(&[case], &options.outputs())?;
+    match prepare_and_plan(case, options) {
+        Ok((prepared, planned)) => all_of([
+            print(&told(&prepared, &planned)),
+            options.draw(&prepared, &planned),
+        ]),
+        Err(stop) => {
+            options.show_stop(case, &stop).unwrap_or_else(say);
+            Err(stop)
         }
-        Err(stop) => options.show_refusal(case, stop)?,
     }
-    answer.map(|_| ())
 }
 
 fn prepare_and_plan(case: &Path, options: &CaseOptions) -> Result<(Prepared, Planned), Stop> {
-    let prepared = Prepared::from_file(case, Cap::new(options.cells))?;
-    say(prepared.said_of_scratch());
+    let prepared = Prepared::from_file(case, options)?;
+    note(prepared.said_of_scratch());
     let progress = Progress::over(&[&prepared], 1);
     let planned = prepared.plan(&mut Scratch::default(), &progress)?;
     Ok((prepared, planned))

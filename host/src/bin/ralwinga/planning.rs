@@ -1,23 +1,15 @@
 //! One case from its file to its plan.
 
+use crate::arguments::CaseOptions;
+use crate::input::read;
 use crate::memory::{scratch_of, too_large, two_layers_of, Cap, Scratch};
 use crate::progress::Progress;
-use crate::stop::{is_standard_input, say, shown, Stop};
+use crate::stop::{note, shown, Stop};
 use crate::ways::Way;
-use ralwinga::reader::read_case;
+use ralwinga::explanation::{usages, Usage};
+use ralwinga::reader::case_from;
 use ralwinga::{cells, listing, refusal_line, report_into, Case, Cells, Report, Unit};
-use std::io::Read;
 use std::path::{Path, PathBuf};
-
-pub fn text_of(file: &Path) -> Result<Vec<u8>, Stop> {
-    let read = if is_standard_input(file) {
-        let mut text = Vec::new();
-        std::io::stdin().read_to_end(&mut text).map(|_| text)
-    } else {
-        std::fs::read(file)
-    };
-    read.map_err(|error| Stop::unread(file, error))
-}
 
 /// A case that is in order and may have the cells that it needs, and the way to plan it in what it may have.
 pub struct Prepared {
@@ -34,12 +26,13 @@ pub struct Planned {
     pub unit: Unit,
     pub schedule: Vec<u64>,
     pub report: Report,
+    pub usages: [Usage; 3],
 }
 
 impl Prepared {
-    pub fn from_file(file: &Path, cap: Cap) -> Result<Prepared, Stop> {
-        let text = text_of(file)?;
-        let case = read_case(&text).map_err(|fault| Stop::refused(file, fault))?;
+    pub fn from_file(file: &Path, options: &CaseOptions) -> Result<Prepared, Stop> {
+        let case = read(file, options.common.crlf, case_from)?;
+        let cap = Cap::new(options.cells);
         let cells =
             cells(case.unit, case.prices.len()).map_err(|refusal| Stop::refused(file, refusal))?;
         let way =
@@ -89,6 +82,7 @@ impl Prepared {
             .map_err(|refusal| Stop::refused(&self.file, refusal))?;
         Ok(Planned {
             unit: *unit,
+            usages: usages(&self.case, &schedule),
             schedule,
             report,
         })
@@ -105,7 +99,7 @@ impl Prepared {
             progress.goes(self, way, other);
             way = other;
             let (file, said) = (shown(&self.file), two_layers_of(self.cells, cap.cells));
-            say(format!("{file}: {said}"));
+            note(format!("{file}: {said}"));
         }
         Ok(way)
     }
@@ -127,10 +121,10 @@ impl Planned {
     }
 }
 
-/// What the proved program prints for a case: its listing, or the line of its refusal; nothing where there is no answer.
-pub fn printed(answer: &Result<Planned, Stop>) -> Option<Vec<u8>> {
+/// What a case's listing holds: the listing, the line of its refusal, as the proved program prints them, or that it was not read.
+pub fn printed(answer: &Result<Planned, Stop>) -> Vec<u8> {
     match answer {
-        Ok(planned) => Some(planned.listing()),
-        Err(stop) => stop.refusal().map(refusal_line),
+        Ok(planned) => planned.listing(),
+        Err(stop) => stop.refusal().map_or(b"unread\n".to_vec(), refusal_line),
     }
 }

@@ -4,14 +4,16 @@
 //! call that tells nothing on its way, so that planning goes by time, at a rate measured on the front of the case with the most work when the run
 //! begins, and is set right whenever a case is done.
 
+use crate::memory::Scratch;
 use crate::planning::Prepared;
+use crate::stop::is_quiet;
 use crate::ways::Way;
 use indicatif::{ProgressBar, ProgressStyle};
 use ralwinga::{cells, report_into, Case};
-use std::io::IsTerminal;
+use std::io::{self, IsTerminal};
 use std::sync::mpsc::{channel, RecvTimeoutError, Sender};
 use std::sync::{Arc, Mutex, MutexGuard};
-use std::thread::JoinHandle;
+use std::thread::{Builder, JoinHandle};
 use std::time::{Duration, Instant};
 
 /// The work that the rate is measured on: some milliseconds.
@@ -90,20 +92,19 @@ impl Progress {
     pub fn over(cases: &[&Prepared], jobs: usize) -> Progress {
         let work = |case: &Prepared| case.work(case.way);
         let longest = cases.iter().max_by(|a, b| work(a).total_cmp(&work(b)));
-        let shown = longest
-            .filter(|_| std::io::stderr().is_terminal())
-            .map(|longest| {
-                Shown::new(Work {
-                    cases: cases.len(),
-                    jobs: jobs as f64,
-                    cells_per_second: measured_rate(longest),
-                    tally: Mutex::new(Tally {
-                        to_hand_out: cases.iter().map(|c| c.scratch(c.way) as f64).sum(),
-                        to_plan: cases.iter().map(|case| work(case)).sum(),
-                        ..Tally::default()
-                    }),
-                })
-            });
+        let seen = std::io::stderr().is_terminal() && !is_quiet();
+        let shown = longest.filter(|_| seen).and_then(|longest| {
+            Shown::new(Work {
+                cases: cases.len(),
+                jobs: jobs as f64,
+                cells_per_second: measured_rate(longest)?,
+                tally: Mutex::new(Tally {
+                    to_hand_out: cases.iter().map(|c| c.scratch(c.way) as f64).sum(),
+                    to_plan: cases.iter().map(|case| work(case)).sum(),
+                    ..Tally::default()
+                }),
+            })
+        });
         Progress(shown)
     }
 
@@ -142,24 +143,25 @@ impl Progress {
 }
 
 impl Shown {
-    fn new(work: Work) -> Shown {
+    /// None where the system has no thread for it.
+    fn new(work: Work) -> Option<Shown> {
         let work = Arc::new(work);
         let style = ProgressStyle::with_template("{elapsed_precise} [{bar:40}] {percent}%, {msg}");
         let bar = ProgressBar::new(BAR).with_style(style.expect("a template in order"));
-        let ticking = Some(ticking(work.clone(), bar.clone()));
-        Shown { work, bar, ticking }
+        let ticking = Some(ticking(work.clone(), bar.clone()).ok()?);
+        Some(Shown { work, bar, ticking })
     }
 }
 
 /// A thread that keeps the bar going until its sender is dropped.
-fn ticking(work: Arc<Work>, bar: ProgressBar) -> (Sender<()>, JoinHandle<()>) {
+fn ticking(work: Arc<Work>, bar: ProgressBar) -> io::Result<(Sender<()>, JoinHandle<()>)> {
     let (sender, receiver) = channel();
-    let thread = std::thread::spawn(move || {
+    let thread = Builder::new().spawn(move || {
         while receiver.recv_timeout(TICK) == Err(RecvTimeoutError::Timeout) {
             work.show(&bar);
         }
-    });
-    (sender, thread)
+    })?;
+    Ok((sender, thread))
 }
 
 impl Drop for Shown {
@@ -172,8 +174,8 @@ impl Drop for Shown {
     }
 }
 
-/// Cells per second that the front of a case is planned at, the way that all of it goes.
-fn measured_rate(prepared: &Prepared) -> f64 {
+/// Cells per second that the front of a case is planned at, the way that all of it goes; none where there is no memory to try it in.
+fn measured_rate(prepared: &Prepared) -> Option<f64> {
     let Prepared { case, way, .. } = prepared;
     let Case { unit, prices } = case;
     let sizes = |n| cells(*unit, n).unwrap_or(prepared.cells);
@@ -181,11 +183,14 @@ fn measured_rate(prepared: &Prepared) -> f64 {
         .rev()
         .find(|n| way.work(sizes(*n), *n) <= SAMPLE_CELLS)
         .unwrap_or(1);
-    let mut scratch = vec![0; way.scratch(sizes(front))];
+    let size = way.scratch(sizes(front));
+    let mut scratch = Scratch::default();
+    // the memory is there before; the time is what is asked for, and the front may have no schedule
+    if !scratch.has(size, |_, _| ()) {
+        return None;
+    }
     let mut schedule = vec![0; front];
-    // touched once, so that the memory is there; the time is what is asked for, and the front may have no schedule
-    scratch.fill(1);
     let began = Instant::now();
-    let _ = report_into(*unit, &prices[..front], &mut scratch, &mut schedule);
-    way.work(sizes(front), front) / began.elapsed().as_secs_f64().max(1e-9)
+    let _ = report_into(*unit, &prices[..front], scratch.first(size), &mut schedule);
+    Some(way.work(sizes(front), front) / began.elapsed().as_secs_f64().max(1e-9))
 }
