@@ -74,8 +74,8 @@ fn a_record_in_c() {
         let written = paper::writable(&unit, &prices).then_some(()).ok_or(1);
         let expected = match written.and_then(|()| paper::judge_case(&unit, &prices)) {
             Ok(()) => [vec![0, prices.len() as u64], numbers_of_unit(&unit)].concat(),
-            // zeros, and `none` for limitations and window
-            Err(number) => [vec![number; 1], vec![0; 11], vec![NONE; 7]].concat(),
+            // zeros, of date and word too, and `none` for limitations
+            Err(number) => [vec![number], vec![0; 11], vec![NONE; 3], vec![0; 4]].concat(),
         };
         with += usize::from(expected[0] == 0 && unit.window.is_some());
         refused += usize::from(expected[0] > 0);

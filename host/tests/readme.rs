@@ -12,9 +12,14 @@ use support::{answer_on, proved_program, ralwinga, run_on, Folder, C1};
 
 const DOCUMENTS: [(&str, &str); 3] = [
     ("README.md", include_str!("../../README.md")),
-    ("docs/CASE.md", include_str!("../../docs/CASE.md")),
     ("docs/COMMAND.md", include_str!("../../docs/COMMAND.md")),
+    ("docs/CASE.md", include_str!("../../docs/CASE.md")),
 ];
+
+/// docs/COMMAND.md.
+fn command_document() -> &'static str {
+    DOCUMENTS[1].1
+}
 
 /// The blocks between fences without a word behind the first fence.
 fn blocks(text: &str) -> Vec<String> {
@@ -250,7 +255,7 @@ fn the_line_for_parallel() {
         println!("skipped: parallel, of Debian's package parallel, is missing");
         return;
     }
-    let (_, text) = DOCUMENTS[1];
+    let text = command_document();
     let lines: Vec<&str> = commands(text, &["parallel "]).collect();
     assert_eq!(lines.len(), 1);
     let folder = examples("readme-parallel");
@@ -267,7 +272,7 @@ fn the_line_for_parallel() {
 /// The shell's part of the line for Slurm, whose task number is given here.
 #[test]
 fn the_line_for_an_array_of_jobs() {
-    let (_, text) = DOCUMENTS[1];
+    let text = command_document();
     let lines: Vec<&str> = commands(text, &["sbatch "]).collect();
     assert_eq!(lines.len(), 1);
     let (front, wrapped) = lines[0].split_once("--wrap '").expect("what is run");
@@ -328,7 +333,7 @@ fn the_cells_of_a_month() {
         let sizes = cells(limited, 2976).expect("a case in order");
         let (layers, table) = (sized(sizes.needed), sized(sizes.table));
         let row = |line: &&str| line.contains(&layers) && line.contains(&table);
-        let (_, text) = DOCUMENTS[1];
+        let text = command_document();
         assert_eq!(text.lines().filter(row).count(), 1, "{layers} {table}");
     }
 }
