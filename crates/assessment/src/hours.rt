@@ -13,6 +13,7 @@ ghost use Rattle.commitment.specs.Keeping.{offWhereShut, keepsWindow};
 ghost use Rattle.commitment.specs.Ranges.{InOrder};
 ghost use Rattle.commitment.specs.Windows.{opens, Clocked};
 
+// A unit that may run in any hour keeps this with every schedule.
 pub fn hours_kept(unit: UnitRecord, schedule: &[u64]) -> bool
     requires { ⌜ InOrder unit (length (now schedule)) ⌝ }
     ensures { λ r. ⌜ r ≡ keepsWindow unit (now (schedule .entry)) ⌝ }
@@ -22,6 +23,7 @@ pub fn hours_kept(unit: UnitRecord, schedule: &[u64]) -> bool
     off_where_shut(hours, schedule)
 }
 
+// To the first interval that is on in a shut hour.
 fn off_where_shut(hours: Hours, schedule: &[u64]) -> bool
     requires { ⌜ (length (now schedule) ≤ mostIntervals) × (Clocked hours) ⌝ }
     ensures { λ r. ⌜ r ≡ offWhereShut (opens hours) 0 (now (schedule .entry)) ⌝ }

@@ -74,6 +74,7 @@ pub fn profit_of(answer: Assessed) -> i64
     }
 }
 
+// The case is in order: the schedule's length (7) is judged before its keeping (10).
 fn of_case(unit: UnitRecord, prices: &[i64], schedule: &[u64]) -> Assessed
     requires { ⌜ caseChecked unit (pricesKept (now prices)) (length (now prices)) ≡ checked.Passed ⌝ }
     ensures { λ r. ⌜ r ≡ assessedBy
@@ -100,6 +101,7 @@ fn conclude(unit: UnitRecord, walked: Walked) -> Assessed
     }
 }
 
+// Hours and MWh are counted in quarter-hours, so that a unit of them is 4.
 fn settle(unit: UnitRecord, at: Walk) -> Assessed
     requires { ⌜ rangesKept unit ≡ true ⌝ }
     ensures { λ r. ⌜ r ≡ settled (unit .limits) (at .starts) (at .running) (at .output) (at .profit) ⌝ }
@@ -148,6 +150,7 @@ fn walk_whole(unit: UnitRecord, prices: &[i64], schedule: &[u64]) -> Walked
     Walked::Whole(at)
 }
 
+// The intervals held before the first one count for the unit's times.
 fn open(unit: UnitRecord) -> Walk
     ensures { λ r. ⌜ r ≡ openingWalk (unit .opening) ⌝ }
 {
@@ -171,6 +174,7 @@ fn may_follow(unit: UnitRecord, at: Walk, output: u64) -> bool
     is_output(g, output) & spell_kept(g, at.on, at.spent, output)
 }
 
+// 0, or whole blocks from pmin to pmax of them.
 fn is_output(g: Generator, output: u64) -> bool
     requires { ⌜ generatorKept g ≡ true ⌝ }
     ensures { λ r. ⌜ r ≡ isOutput g output ⌝ }
@@ -181,6 +185,7 @@ fn is_output(g: Generator, output: u64) -> bool
     (output % g.block == 0) & (g.pmin * g.block <= output) & (output <= g.pmax * g.block)
 }
 
+// An output of 0 may end a run that lasted mot, another one an off spell that lasted mdt. To go on is always allowed.
 fn spell_kept(g: Generator, on: bool, spent: u64, output: u64) -> bool
     ensures { λ r. ⌜ r ≡ spellKept g on spent output ⌝ }
 {
@@ -224,6 +229,7 @@ fn step(unit: UnitRecord, at: Walk, price: i64, output: u64) -> Walk
     )
 }
 
+// An interval off adds nothing to what was spent and earned.
 fn rested(at: Walk, spent: u64) -> Walk
     ensures { λ r. ⌜ r ≡ walking.rested at spent ⌝ }
 {
@@ -237,6 +243,7 @@ fn rested(at: Walk, spent: u64) -> Walk
     }
 }
 
+// An interval on adds its own output and gain.
 fn ran(at: Walk, spent: u64, starts: u64, output: u64, gain: i64) -> Walk
     requires { ⌜ Small at ⌝ }
     requires { ⌜ (output ≤ mostMw) × (natAbs gain < 2 ^ 60) ⌝ }

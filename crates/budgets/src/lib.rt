@@ -99,6 +99,7 @@ fn in_counts(g: Generator, which: Limitation, figure: u64) -> usize
     }
 }
 
+// The most that so many intervals can use: more than this in a table would never be spent.
 fn most_counts(g: Generator, which: Limitation, n: usize) -> usize
     requires { ⌜ (generatorKept g ≡ true) × (n ≤ mostIntervals) ⌝ }
     ensures { λ r. ⌜ r ≡ mostCounts g which n ⌝ }

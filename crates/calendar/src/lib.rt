@@ -38,6 +38,7 @@ const MOST_MONTHS: u64 = 13;
 
 // ---- dates
 
+// Of any three numbers, in their ranges or not.
 pub fn exists(date: Date) -> bool
     ensures { λ r. ⌜ r ≡ dates.exists date ⌝ }
 {
@@ -45,6 +46,7 @@ pub fn exists(date: Date) -> bool
     (1 <= date.day) & (date.day <= days)
 }
 
+// 0 in a month that is none. The tables have sums, so that a month is a difference.
 fn days_in(year: u64, month: u64) -> u64
     ensures { λ r. ⌜ r ≡ dates.daysIn year month ⌝ }
 {
@@ -70,6 +72,7 @@ fn days_before(leap: bool, months: usize) -> u64
     BEFORE_COMMON[months]
 }
 
+// The Gregorian rule.
 fn is_leap(year: u64) -> bool
     ensures { λ r. ⌜ r ≡ dates.leap year ⌝ }
 {

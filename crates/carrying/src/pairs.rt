@@ -12,6 +12,7 @@ pub fn either(first: bool, a: i64, b: i64) -> i64
     if first { a } else { b }
 }
 
+// Value and mark together, so that no value stands with another's mark.
 pub fn put(cells: &mut [i64], behind: usize, at: usize, value: i64, mark: i64)
     requires { ⌜ (at < behind) × (behind + behind ≤ length (now cells)) ⌝ }
     ensures { λ _. ⌜ now (cells .exit) ≡ putPair behind (now (cells .entry)) at value mark ⌝ }

@@ -18,6 +18,7 @@ ghost use Rattle.tabletext.specs.Tables.{under};
 ghost use Rattle.casefile.specs.Reading.{naturalOf, wholeOf, limitOf, generatorOf, costsOf, openingOf, limitsOf};
 ghost use Rattle.casefile.specs.Reading.{dateOf, windowOf, permitOf, unitOf, unitIn};
 
+// The record stands in the first two lines, names and values.
 pub fn unit_in(text: &[u8]) -> UnitRecord
     ensures { λ r. ⌜ r ≡ unitIn (now (text .entry)) ⌝ }
 {
@@ -127,6 +128,7 @@ fn limit_under(name: &[u8], names: &[u8], values: &[u8]) -> Limit
 // Above every range: what a field cannot hold.
 const BEYOND: u64 = 10000000000;
 
+// A figure that has to be a number: `none` is put beyond every range, where 3 refuses it.
 fn whole(value: Value) -> u64
     ensures { λ r. ⌜ r ≡ wholeOf value ⌝ }
 {
@@ -137,6 +139,7 @@ fn whole(value: Value) -> u64
     }
 }
 
+// Only a limitation may be `none`.
 fn limit(value: Value) -> Limit
     ensures { λ r. ⌜ r ≡ limitOf value ⌝ }
 {
@@ -147,6 +150,7 @@ fn limit(value: Value) -> Limit
     }
 }
 
+// A negative number is put beyond every range too.
 fn natural(n: i64) -> u64
     ensures { λ r. ⌜ r ≡ naturalOf n ⌝ }
 {

@@ -105,6 +105,7 @@ pub fn unit_of(answer: CaseRead) -> UnitRecord
     }
 }
 
+// The record of no case.
 fn no_unit() -> UnitRecord
     ensures { λ r. ⌜ r ≡ noUnit ⌝ }
 {

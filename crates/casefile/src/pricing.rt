@@ -14,6 +14,7 @@ ghost use Rattle.lists.specs.Every.{every};
 ghost use Rattle.tabletext.specs.Pieces.{linesOf};
 ghost use Rattle.casefile.specs.Reading.{centsOf, priceOf, pricesIn};
 
+// The prices stand from the fifth line on, under the name in the fourth.
 pub fn prices_kept(text: &[u8]) -> bool
     ensures { λ r. ⌜ r ≡ pricesKept (pricesIn (now (text .entry))) ⌝ }
 {
@@ -22,6 +23,7 @@ pub fn prices_kept(text: &[u8]) -> bool
     rows_kept(head, price_rows)
 }
 
+// A line to a price, in range or not.
 pub fn prices_counted(text: &[u8]) -> usize
     ensures { λ r. ⌜ r ≡ length (pricesIn (now (text .entry))) ⌝ }
 {
@@ -39,6 +41,7 @@ pub fn store(text: &[u8], prices: &mut [i64])
     store_rows(head, rows, prices);
 }
 
+// All are judged before one is stored, so that a refusal leaves the slice as it was.
 fn rows_kept(head: &[u8], rows: &[u8]) -> bool
     ensures { λ r. ⌜ r ≡ every (λ row. priceKept (priceOf (now (head .entry)) row)) (linesOf (now (rows .entry))) ⌝ }
 {
@@ -53,6 +56,7 @@ fn rows_kept(head: &[u8], rows: &[u8]) -> bool
     true
 }
 
+// A line to a price, at its number.
 fn store_rows(head: &[u8], rows: &[u8], prices: &mut [i64])
     requires { ⌜ length (linesOf (now rows)) ≤ length (now prices) ⌝ }
     ensures { λ _. ⌜ now (prices .exit)
@@ -82,6 +86,7 @@ fn price_of(head: &[u8], row: &[u8]) -> i64
     cents(tables::value_under(b"price", head, row))
 }
 
+// What is no number is put beyond the range of a price.
 fn cents(value: Value) -> i64
     ensures { λ r. ⌜ r ≡ centsOf value ⌝ }
 {

@@ -11,6 +11,7 @@ ghost use Rattle.casetext.specs.Form.{isEmpty, unitHead, unitRow, emptyL
 
 const MOST_BYTES: usize = 12288;
 
+// A text that is too long is not walked.
 pub fn form_kept(text: &[u8]) -> bool
     ensures { λ r. ⌜ r ≡ formKept (now (text .entry)) ⌝ }
 {
@@ -24,6 +25,7 @@ pub fn form_kept(text: &[u8]) -> bool
         & prices_formed(text)
 }
 
+// The last line ends as every line does.
 fn is_closed(text: &[u8]) -> bool
     ensures { λ r. ⌜ r ≡ lastClosed (now (text .entry)) ⌝ }
 {
@@ -34,6 +36,7 @@ fn is_closed(text: &[u8]) -> bool
     bytes::is_of(Class::LineEnd, text[n - 1])
 }
 
+// The line between the two tables.
 fn third_empty(text: &[u8]) -> bool
     ensures { λ r. ⌜ r ≡ isEmpty (emptyLine (now (text .entry))) ⌝ }
 {
@@ -41,6 +44,7 @@ fn third_empty(text: &[u8]) -> bool
     third.len() == 0
 }
 
+// The first table has one line of values.
 fn unit_formed(text: &[u8]) -> bool
     ensures { λ r. ⌜ r ≡ tableFormed (unitHead (now (text .entry))) (unitRow (now (text .entry)) ∷ []) ⌝ }
 {
@@ -49,6 +53,7 @@ fn unit_formed(text: &[u8]) -> bool
     tables::name_line(head) & tables::value_line(tables::fields_in(head), row)
 }
 
+// The second table has any number of lines: that there are prices is another cause.
 fn prices_formed(text: &[u8]) -> bool
     ensures { λ r. ⌜ r ≡ tableFormed (priceHead (now (text .entry))) (priceRows (now (text .entry))) ⌝ }
 {

@@ -35,6 +35,7 @@ pub fn lines_in(text: &[u8]) -> usize
     walking::pieces_in(Pieces::Lines, text)
 }
 
+// The end of the text where there are fewer lines.
 fn start_of(text: &[u8], number: usize) -> usize
     ensures { λ r. ⌜ (r ≤ length (now (text .entry))) × (piecesFrom Lines (now (text .entry)) r ≡ drop number (linesOf (now (text .entry)))) ⌝ }
 {

@@ -55,6 +55,7 @@ fn check_clock(date: Date, interval: u64) -> Checked
     Checked::Passed
 }
 
+// Interval 1 is the first quarter-hour of the date, and four make an hour.
 fn hour_of(date: Date, interval: u64) -> u64
     requires { ⌜ clockChecked date interval ≡ Passed ⌝ }
     ensures { λ r. ⌜ r ≡ clockAfter date ((interval - 1) / 4) ⌝ }

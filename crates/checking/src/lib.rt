@@ -80,6 +80,7 @@ fn check_shape(unit: UnitRecord, intervals: usize) -> Checked
     check_date(unit, intervals)
 }
 
+// A date in its ranges may still be none of its month.
 fn check_date(unit: UnitRecord, intervals: usize) -> Checked
     ensures { λ r. ⌜ r ≡ firstOf (dateChecks unit intervals) ⌝ }
 {
@@ -90,6 +91,7 @@ fn check_date(unit: UnitRecord, intervals: usize) -> Checked
     check_horizon(intervals)
 }
 
+// The last cause.
 fn check_horizon(intervals: usize) -> Checked
     ensures { λ r. ⌜ r ≡ firstOf (horizonChecks intervals) ⌝ }
 {
@@ -154,6 +156,7 @@ fn limits_kept(limits: Limits) -> bool
     limit_kept(MOST_STARTS, starts) & limit_kept(MOST_HOURS, hours) & limit_kept(MOST_MWH, mwh)
 }
 
+// What is not limited has no range.
 fn limit_kept(most: u64, limit: Limit) -> bool
     ensures { λ r. ⌜ r ≡ limitKept most limit ⌝ }
 {
@@ -163,6 +166,7 @@ fn limit_kept(most: u64, limit: Limit) -> bool
     }
 }
 
+// A permit for any hour has no figures to judge.
 fn permit_kept(permit: Permit) -> bool
     ensures { λ r. ⌜ r ≡ permitKept permit ⌝ }
 {
@@ -179,6 +183,7 @@ fn window_kept(window: Window) -> bool
     date_ranged(date) & (window.word <= MOST_WORD)
 }
 
+// Each figure by itself: whether the date exists is another cause.
 fn date_ranged(date: Date) -> bool
     ensures { λ r. ⌜ r ≡ dateRanged date ⌝ }
 {

@@ -36,6 +36,7 @@ pub fn hours_of(permit: Permit) -> Hours
     }
 }
 
+// The clock is worked out once, and then asked for each interval.
 fn hours_within(window: Window) -> Hours
     requires { ⌜ (windowKept window ≡ true) × (exists (window .date) ≡ true) ⌝ }
     ensures { λ r. ⌜ HoursOf (Within window) r ⌝ }
@@ -59,6 +60,7 @@ pub fn opens_in(hours: Hours, interval: usize) -> bool
     }
 }
 
+// Four intervals to an hour.
 fn allowed_in(allowed: Allowed, interval: usize) -> bool
     requires { ⌜ (interval < mostIntervals) × (allowed .clock .ahead ≤ mostAhead) ⌝ }
     ensures { λ r. ⌜ r ≡ allows (allowed .word) (shown (allowed .clock) (interval / 4)) ⌝ }

@@ -76,6 +76,7 @@ fn three_figures(inputs: CostInputs, mws: &[u64], heats: &[u64]) -> CostFigures
 
 // ---- the check
 
+// 3 comes first: figures in their ranges can be multiplied.
 fn check_inputs(inputs: CostInputs, mws: &[u64], heats: &[u64]) -> Checked
     ensures { λ r. ⌜ r ≡ inputsChecked inputs (now (mws .entry)) (now (heats .entry)) ⌝ }
 {
@@ -85,6 +86,7 @@ fn check_inputs(inputs: CostInputs, mws: &[u64], heats: &[u64]) -> Checked
     check_outputs(inputs, mws, heats)
 }
 
+// 4, of sizes in their ranges.
 fn check_outputs(inputs: CostInputs, mws: &[u64], heats: &[u64]) -> Checked
     requires { ⌜ Ranged inputs (now mws) (now heats) ⌝ }
     ensures { λ r. ⌜ r ≡ firstOf (outputChecks inputs (now (mws .entry)) (now (heats .entry))) ⌝ }
@@ -108,6 +110,7 @@ fn check_total(inputs: CostInputs, mws: &[u64], heats: &[u64]) -> Checked
     check_lengths(mws.len(), heats.len())
 }
 
+// The last cause.
 fn check_lengths(mws: usize, heats: usize) -> Checked
     ensures { λ r. ⌜ r ≡ firstOf (lengthChecks mws heats) ⌝ }
 {
@@ -195,6 +198,7 @@ fn outputs_kept(inputs: CostInputs) -> bool
     (inputs.pmin <= inputs.pmax) & (inputs.pmax * inputs.block <= MOST_MW)
 }
 
+// Segments in their ranges are few and small, so that their sum fits.
 fn total_mw(mws: &[u64]) -> u64
     requires { ⌜ totalMw (now mws) ≤ 5000 ⌝ }
     ensures { λ r. ⌜ r ≡ totalMw (now (mws .entry)) ⌝ }
@@ -230,6 +234,7 @@ fn vec_of(inputs: CostInputs, mws: &[u64], heats: &[u64]) -> u64
     rounding::rounded(sum, UNITS * total)
 }
 
+// Fuel and allowances for a unit of heat, in ten-millionths of a cent.
 fn heat_price(inputs: CostInputs) -> u64
     requires { ⌜ HeatSizes inputs ⌝ }
     ensures { λ r. ⌜ r ≡ heatPrice inputs ⌝ }
@@ -237,6 +242,7 @@ fn heat_price(inputs: CostInputs) -> u64
     (inputs.gas + inputs.transport) * 10000000 + inputs.allowance * inputs.rate
 }
 
+// What the segments cost, each by its MW, in ten-billionths of a cent.
 fn weighted_units(price: u64, om: u64, mws: &[u64], heats: &[u64]) -> u64
     requires { ⌜ length (now mws) ≡ length (now heats) ⌝ }
     requires { ⌜ every (oneTo mostMw) (now mws) ≡ true ⌝ }
@@ -262,6 +268,7 @@ fn suc_of(inputs: CostInputs) -> u64
     rounding::rounded(sum, START_UNITS)
 }
 
+// (2) before it is rounded.
 fn suc_units(inputs: CostInputs) -> u64
     requires { ⌜ StartSizes inputs ⌝ }
     ensures { λ r. ⌜ r ≡ sucUnits inputs ⌝ }
@@ -283,6 +290,7 @@ fn mlc_of(inputs: CostInputs) -> u64
     rounding::rounded(sum, UNITS)
 }
 
+// (3) before it is rounded.
 fn mlc_units(inputs: CostInputs) -> u64
     requires { ⌜ LoadSizes inputs ⌝ }
     ensures { λ r. ⌜ r ≡ mlcUnits inputs ⌝ }

@@ -80,6 +80,7 @@ pub fn curve_into(
 
 // ---- the check
 
+// 3 comes first: lists in their ranges can be walked.
 fn check_curve(inputs: CurveInputs, levels: &[u64], rates: &[u64], room: usize) -> Checked
     ensures { λ r. ⌜ r ≡ curveChecked inputs (now (levels .entry)) (now (rates .entry)) room ⌝ }
 {
@@ -89,6 +90,7 @@ fn check_curve(inputs: CurveInputs, levels: &[u64], rates: &[u64], room: usize) 
     check_levels(levels, rates, room)
 }
 
+// Levels that rise differ, so that a price can be divided by their difference.
 fn check_levels(levels: &[u64], rates: &[u64], room: usize) -> Checked
     requires { ⌜ pointsKept (now levels) (now rates) ≡ true ⌝ }
     ensures { λ r. ⌜ r ≡ firstOf (levelChecks (now (levels .entry)) (now (rates .entry)) room) ⌝ }
@@ -135,6 +137,7 @@ fn count_kept(n: usize) -> bool
     (FEWEST_POINTS <= n) & (n <= MOST_POINTS)
 }
 
+// Each is above the one before it.
 fn rising(levels: &[u64]) -> bool
     ensures { λ r. ⌜ r ≡ ranges.rising (now (levels .entry)) ⌝ }
 {
@@ -150,6 +153,7 @@ fn rising(levels: &[u64]) -> bool
 
 // ---- the curve
 
+// A segment is written when a dearer one follows, and the last one after the walk.
 fn fill(
     inputs: CurveInputs,
     levels: &[u64],
@@ -223,6 +227,7 @@ fn close_if(
     count
 }
 
+// The three lists share their places.
 fn put(segment: Segment, at: usize, froms: &mut [u64], tos: &mut [u64], prices: &mut [i64])
     requires { ⌜ (at < length (now froms)) × (at < length (now tos)) × (at < length (now prices)) ⌝ }
     ensures { λ _. ⌜ now (froms .exit) ≡ set (now (froms .entry)) at (segment .from) ⌝ }
@@ -260,6 +265,7 @@ fn own_price(inputs: CurveInputs, from: u64, from_rate: u64, to: u64, to_rate: u
     rounding::rounded_signed(sum, (to - from) * 1000)
 }
 
+// The numerator of a segment's own price. The part for fuel may be negative.
 fn price_units(inputs: CurveInputs, from: u64, from_rate: u64, to: u64, to_rate: u64) -> i64
     requires { ⌜ InputSizes inputs ⌝ }
     requires { ⌜ PointSizes from «from_rate» to «to_rate» ⌝ }

@@ -141,6 +141,7 @@ pub struct WrittenNumbers {
 
 // ---- records
 
+// NONE stands for a limitation that is not there, which an enum says in Rattle.
 fn limit_from(number: u64) -> Limit
     ensures { λ r. ⌜ r ≡ records.limitFrom number ⌝ }
 {
@@ -188,6 +189,7 @@ fn window_numbers(permit: Permit) -> Window
     }
 }
 
+// NONE stands for a listing without the line of hours.
 pub fn word_from(word: u64) -> HourWord
     ensures { λ r. ⌜ r ≡ records.wordFrom word ⌝ }
 {
@@ -295,6 +297,7 @@ fn no_numbers() -> UnitNumbers
 
 // ---- outcomes
 
+// A kind that is not known is read as none.
 fn outcome_from(kind: u64, gap: i64) -> Outcome
     ensures { λ r. ⌜ r ≡ records.outcomeFrom kind gap ⌝ }
 {
@@ -345,6 +348,7 @@ fn outcomes_numbers(outcomes: Outcomes) -> OutcomesNumbers
 
 // ---- answers
 
+// A refused reading has no record to turn into numbers.
 pub fn of_case(answer: CaseRead) -> CaseNumbers
     ensures { λ r. ⌜ r ≡ answers.caseNumbers answer ⌝ }
 {

@@ -47,12 +47,14 @@ pub fn after_on(f: Figures, s: usize) -> usize
     f.mot + f.mdt
 }
 
+// A unit that is on takes no start.
 pub fn start_takes(f: Figures, s: usize) -> usize
     ensures { λ r. ⌜ r ≡ startTakes f s ⌝ }
 {
     if s < f.mot { 0 } else { f.perstart }
 }
 
+// Profits are in quarter-cents, and so a start costs 4 × suc.
 pub fn start_pays(f: Figures, s: usize) -> usize
     requires { ⌜ Sound f ⌝ }
     ensures { λ r. ⌜ r ≡ startPays f s ⌝ }

@@ -53,6 +53,7 @@ pub fn write_listing(
     Written::Refused(Cause::Range)
 }
 
+// A word has a bit for each of the 24 hours, and no other.
 fn word_kept(word: HourWord) -> bool
     ensures { λ r. ⌜ r ≡ wordKept word ⌝ }
 {
@@ -62,6 +63,7 @@ fn word_kept(word: HourWord) -> bool
     }
 }
 
+// Nothing is written where not all of it fits.
 fn write_kept(
     schedule: &[u64],
     profit: i64,
@@ -127,6 +129,7 @@ fn put_byte(out: &mut [u8], at: usize, byte: u8) -> usize
     at + 1
 }
 
+// The digits but the last, then the last.
 fn put_number(out: &mut [u8], at: usize, n: u64) -> usize
     requires { ⌜ at + length (number n) ≤ length (now out) ⌝ }
     ensures { λ r. ⌜ Put (now (out .entry)) at (number n) r (now (out .exit)) ⌝ }
@@ -150,6 +153,7 @@ fn put_text(out: &mut [u8], at: usize, text: &[u8]) -> usize
     at + i
 }
 
+// The magnitude is taken unsigned, since the least number has no positive one.
 fn put_signed(out: &mut [u8], at: usize, value: i64) -> usize
     requires { ⌜ at + length (signedNumber value) ≤ length (now out) ⌝ }
     ensures { λ r. ⌜ Put (now (out .entry)) at (signedNumber value) r (now (out .exit)) ⌝ }
@@ -185,6 +189,7 @@ fn put_interval(out: &mut [u8], at: usize, interval: u64, mw: u64) -> usize
     put_byte(out, end, 10)
 }
 
+// Intervals are numbered from 1.
 fn put_intervals(out: &mut [u8], at: usize, schedule: &[u64]) -> usize
     requires { ⌜ at + length (intervalLines 1 (now schedule)) ≤ length (now out) ⌝ }
     ensures { λ r. ⌜ Put (now (out .entry)) at (intervalLines 1 (now (schedule .entry))) r (now (out .exit)) ⌝ }
@@ -239,6 +244,7 @@ fn put_hours(out: &mut [u8], at: usize, word: u64) -> usize
     put_byte(out, end, 10)
 }
 
+// A case without a date has no such line.
 fn put_window(out: &mut [u8], at: usize, word: HourWord) -> usize
     requires { ⌜ (wordKept word ≡ true) × (at + length (windowLine word) ≤ length (now out)) ⌝ }
     ensures { λ r. ⌜ Put (now (out .entry)) at (windowLine word) r (now (out .exit)) ⌝ }
@@ -263,6 +269,7 @@ fn put_listing(out: &mut [u8], schedule: &[u64], profit: i64, outcomes: Outcomes
 
 // ---- lengths: nothing is written before it is known to fit
 
+// 0 has one digit.
 fn number_length(n: u64) -> usize
     ensures { λ r. ⌜ r ≡ length (number n) ⌝ }
 {
@@ -324,6 +331,7 @@ fn window_length(word: HourWord) -> usize
     }
 }
 
+// To the first line that does not fit, so that no sum overflows.
 fn intervals_fit(schedule: &[u64], room: usize) -> Fit
     ensures { λ r. ⌜ r ≡ fitted (length (intervalLines 1 (now (schedule .entry)))) room ⌝ }
 {
@@ -341,6 +349,7 @@ fn intervals_fit(schedule: &[u64], room: usize) -> Fit
     Fit::Bytes(bytes)
 }
 
+// The intervals get the room that the other lines leave.
 fn listing_fit(
     schedule: &[u64],
     profit: i64,

@@ -17,6 +17,7 @@ ghost use Rattle.planner.specs.Planning.{lentChecked, scheduleChecked, s
 ghost use Rattle.planner.specs.Reporting.{reportedBy};
 ghost use Rattle.planner.specs.Valuing.{valuedBy};
 
+// A plan is read here, so that the pass through two layers marks the middle.
 pub fn report_case(
     unit: UnitRecord,
     prices: &[i64],
@@ -38,6 +39,7 @@ pub fn report_case(
     answer
 }
 
+// No plan is read here, and nothing is marked.
 pub fn value_case(unit: UnitRecord, prices: &[i64], scratch: &mut [i64]) -> Valued
     requires { ⌜ lentChecked unit (now prices) true (length (now scratch)) ≡ Passed ⌝ }
     ensures { λ r. ⌜ r ≡ valuedBy (scheduleChecked unit (now (prices .entry))) (outcomesOf unit (now (prices .entry))) ⌝ }

@@ -22,6 +22,7 @@ pub struct Model {
     pub long: bool,
 }
 
+// Worked out once for a call; every step after it takes the model.
 pub fn model_of(unit: UnitRecord, prices: &[i64], lent: usize) -> Model
     requires { ⌜ lentChecked unit (now prices) true lent ≡ Passed ⌝ }
     ensures { λ r. ⌜ ModelOf unit (now (prices .entry)) lent r ⌝ }

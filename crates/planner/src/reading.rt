@@ -78,6 +78,7 @@ fn read_plan(
     halving::plan_from(scratch, w, f, prices, hours, from, schedule)
 }
 
+// 9 where the case has no schedule; else all runs from this one layer.
 pub fn read_outcomes(unit: UnitRecord, f: Figures, prices: &[i64], cells: &[i64]) -> Valued
     requires { ⌜ ToldBy f unit (now prices) (now cells) ⌝ }
     ensures { λ r. ⌜ r ≡ valuedBy (scheduleChecked unit (now (prices .entry))) (outcomesOf unit (now (prices .entry))) ⌝ }

@@ -59,6 +59,7 @@ fn rest_of(num: i64, den: u64) -> u64
     rest as u64
 }
 
+// As the machine divides.
 fn toward_zero(num: i64, den: u64) -> i64
     requires { ⌜ Sizes num den ⌝ }
     ensures { λ r. ⌜ r ≡ quotZ num (pos den) ⌝ }

@@ -18,6 +18,7 @@ ghost use Rattle.commitment.specs.Valuing.{runAt, gapBetween, gapAt, outcomeOf,
 ghost use Rattle.optimality.specs.Runs.{AtMost, Under};
 ghost use Rattle.runs.specs.Telling.{ToldBy, amount, mostAmount};
 
+// All from one first layer: a run with less is a cell of it with less left.
 pub fn outcomes_in(unit: UnitRecord, f: Figures, prices: &[i64], cells: &[i64]) -> Outcomes
     requires { ⌜ ToldBy f unit (now prices) (now cells) ⌝ }
     ensures { λ r. ⌜ r ≡ outcomesOf unit (now (prices .entry)) ⌝ }
@@ -28,6 +29,7 @@ pub fn outcomes_in(unit: UnitRecord, f: Figures, prices: &[i64], cells: &[i64]) 
     Outcomes { starts, hours, mwh }
 }
 
+// What is not limited is not valued.
 fn outcome_in(
     unit: UnitRecord,
     f: Figures,
@@ -110,6 +112,7 @@ fn profit_under(
     table::best_at(cells, f, budgets::opening_cell(run, prices.len()))
 }
 
+// Without a schedule of the lower run there is nothing to compare with.
 fn gap_between(first: BestProfit, lower: BestProfit) -> Outcome
     requires { ⌜ (natAbs (amount first) < mostAmount) × (natAbs (amount lower) < mostAmount) ⌝ }
     ensures { λ r. ⌜ r ≡ gapBetween first lower ⌝ }

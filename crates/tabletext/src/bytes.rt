@@ -8,6 +8,7 @@ ghost use Rattle.lists.specs.Every.{every};
 ghost use Rattle.tabletext.specs.Bytes.{classOf, rank, isOf, same};
 ghost use Rattle.tabletext.specs.Places.{endOf};
 
+// Every other byte is refused, wherever it stands.
 pub fn class_of(b: u8) -> Class
     ensures { λ r. ⌜ r ≡ classOf b ⌝ }
 {
@@ -21,6 +22,7 @@ pub fn class_of(b: u8) -> Class
     }
 }
 
+// Classes as numbers, to compare them.
 fn rank_of(class: Class) -> u64
     ensures { λ r. ⌜ r ≡ rank class ⌝ }
 {
@@ -69,6 +71,7 @@ pub fn end_from(s: &[u8], at: usize, mark: Class) -> usize
     i
 }
 
+// Of one length, with the same bytes.
 pub fn same_as(a: &[u8], b: &[u8]) -> bool
     ensures { λ r. ⌜ r ≡ same (now (a .entry)) (now (b .entry)) ⌝ }
 {

@@ -38,6 +38,7 @@ fn all_agree(pieces: Pieces, judged: Judged, s: &[u8], first: &[u8], second: &[u
     true
 }
 
+// What is asked of a piece, by the kind of walk.
 fn piece_agrees(judged: Judged, s: &[u8], first: &[u8], second: &[u8]) -> bool
     ensures { λ r. ⌜ r ≡ agrees judged (now (first .entry)) (now (second .entry)) (now (s .entry)) ⌝ }
 {

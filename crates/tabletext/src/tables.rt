@@ -45,6 +45,7 @@ pub fn every_piece(pieces: Pieces, asked: Asked, s: &[u8], beside: &[u8]) -> boo
     true
 }
 
+// What is asked of a piece, by the kind of walk.
 fn passes_piece(asked: Asked, s: &[u8], beside: &[u8]) -> bool
     ensures { λ r. ⌜ r ≡ passes asked (now (beside .entry)) (now (s .entry)) ⌝ }
 {
@@ -69,6 +70,7 @@ pub fn fields_in(line: &[u8]) -> usize
     walking::pieces_in(Pieces::Fields, line)
 }
 
+// The fields that are values.
 fn values_in(line: &[u8]) -> usize
     ensures { λ r. ⌜ r ≡ tally isValue (fieldsOf (now (line .entry))) ⌝ }
 {

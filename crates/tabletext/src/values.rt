@@ -10,12 +10,14 @@ ghost use lib.IntN.{pos, negℤ};
 ghost use Rattle.tabletext.specs.Bytes.{same};
 ghost use Rattle.tabletext.specs.Values.{isName, leadKept, numeral, fromDigits, negated, negative, noneWord, valueOf, wellFormed, isValue};
 
+// Small letters, at least one.
 pub fn is_name(s: &[u8]) -> bool
     ensures { λ r. ⌜ r ≡ isName (now (s .entry)) ⌝ }
 {
     (0 < s.len()) & bytes::all_of(Class::Letter, s)
 }
 
+// No zero stands before other digits.
 fn lead_kept(s: &[u8]) -> bool
     ensures { λ r. ⌜ r ≡ leadKept (now (s .entry)) ⌝ }
 {
@@ -28,6 +30,7 @@ fn lead_kept(s: &[u8]) -> bool
     s[0] != 48
 }
 
+// Ten digits or fewer.
 fn is_numeral(s: &[u8]) -> bool
     ensures { λ r. ⌜ r ≡ numeral (now (s .entry)) ⌝ }
 {
@@ -69,6 +72,7 @@ fn negated_by(s: &[u8]) -> Value
     Value::Number(minus(n))
 }
 
+// A minus, then digits.
 fn negative_of(s: &[u8]) -> Value
     ensures { λ r. ⌜ r ≡ negative (now (s .entry)) ⌝ }
 {
@@ -87,6 +91,7 @@ fn is_none(s: &[u8]) -> bool
     bytes::same_as(s, b"none")
 }
 
+// The word `none`, digits, or a minus and digits.
 pub fn value_of(s: &[u8]) -> Value
     ensures { λ r. ⌜ r ≡ valueOf (now (s .entry)) ⌝ }
 {

@@ -25,6 +25,7 @@ pub fn starts_below(pieces: Pieces, s: &[u8]) -> usize
     }
 }
 
+// The byte that ends a piece.
 fn mark_of(pieces: Pieces) -> Class
     ensures { λ r. ⌜ r ≡ markOf pieces ⌝ }
 {
