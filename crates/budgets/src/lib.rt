@@ -4,6 +4,7 @@ use commitment::Generator;
 use commitment::Limit;
 use commitment::Limitation;
 use commitment::UnitRecord;
+use optimality::Budgets;
 use optimality::Cell;
 use optimality::Figures;
 ghost use mathlib.Core.Path.{_≡_};
@@ -15,7 +16,7 @@ ghost use Rattle.commitment.specs.Cells as cells;
 ghost use Rattle.commitment.specs.Limits.{limitKept};
 ghost use Rattle.commitment.specs.Ranges.{generatorKept, rangesKept, InOrder};
 ghost use Rattle.commitment.specs.Valuing as valuing;
-ghost use Rattle.optimality.specs.Cells.{takenOf, figuresOf, openingState, openingCell};
+ghost use Rattle.optimality.specs.Cells.{takenOf, countsOf, figuresOf, openingState, openingCell};
 
 // The figures of a case of n intervals, with the most that a cell can have left of each limitation.
 pub fn figures_of(unit: UnitRecord, n: usize) -> Figures
@@ -28,6 +29,12 @@ pub fn figures_of(unit: UnitRecord, n: usize) -> Figures
     let starts = limits.starts;
     let hours = limits.hours;
     let mwh = limits.mwh;
+    let takes = Budgets {
+        starts: taken(starts),
+        ons: taken(hours),
+        blocks: taken(mwh),
+    };
+    let most = counts_of(unit, n);
     Figures {
         block: g.block as usize,
         pmin: g.pmin as usize,
@@ -37,9 +44,22 @@ pub fn figures_of(unit: UnitRecord, n: usize) -> Figures
         vec: k.vec as usize,
         mlc: k.mlc as usize,
         suc: k.suc as usize,
-        perstart: taken(starts),
-        peron: taken(hours),
-        perblock: taken(mwh),
+        takes,
+        most,
+    }
+}
+
+// The most that a cell can have left of each limitation: a, b and c of the specification.
+fn counts_of(unit: UnitRecord, n: usize) -> Budgets
+    requires { ⌜ InOrder unit n ⌝ }
+    ensures { λ r. ⌜ r ≡ countsOf unit n ⌝ }
+{
+    let g = unit.generator;
+    let limits = unit.limits;
+    let starts = limits.starts;
+    let hours = limits.hours;
+    let mwh = limits.mwh;
+    Budgets {
         starts: counted(g, n, Limitation::Starts, starts),
         ons: counted(g, n, Limitation::Hours, hours),
         blocks: counted(g, n, Limitation::Mwh, mwh),
@@ -51,17 +71,9 @@ pub fn opening_cell(unit: UnitRecord, n: usize) -> Cell
     requires { ⌜ InOrder unit n ⌝ }
     ensures { λ r. ⌜ r ≡ openingCell unit n ⌝ }
 {
-    let g = unit.generator;
-    let limits = unit.limits;
-    let starts = limits.starts;
-    let hours = limits.hours;
-    let mwh = limits.mwh;
-    Cell {
-        state: opening_state(unit),
-        starts: counted(g, n, Limitation::Starts, starts),
-        ons: counted(g, n, Limitation::Hours, hours),
-        blocks: counted(g, n, Limitation::Mwh, mwh),
-    }
+    let state = opening_state(unit);
+    let left = counts_of(unit, n);
+    Cell { state, left }
 }
 
 // What one start, on-interval or block takes of its budget.

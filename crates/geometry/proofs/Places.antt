@@ -44,28 +44,28 @@ low-digit m q r h = mul-add-mod-self-right q m r ∙ mod-eq-of-lt h
 -- ---- a cell's place in its row, its span, its state and its layer
 
 module _ (f : Figures) where
-  pub in-row : (z : ℕ) → z ≤ f .blocks → z < row f
+  pub in-row : (z : ℕ) → z ≤ f .most .blocks → z < row f
   unfolding row
   in-row z h = omega arith
 
-  pub in-span : (y z : ℕ) → y ≤ f .ons → z ≤ f .blocks → y * row f + z < span f
+  pub in-span : (y z : ℕ) → y ≤ f .most .ons → z ≤ f .most .blocks → y * row f + z < span f
   unfolding span
-  in-span y z h k = digit-lt (f .ons + 1) (row f) y z (omega arith) (in-row z k)
+  in-span y z h k = digit-lt (f .most .ons + 1) (row f) y z (omega arith) (in-row z k)
 
-  pub in-section : (x y z : ℕ) → x ≤ f .starts → y ≤ f .ons → z ≤ f .blocks → x * span f + (y * row f + z) < section f
+  pub in-section : (x y z : ℕ) → x ≤ f .most .starts → y ≤ f .most .ons → z ≤ f .most .blocks → x * span f + (y * row f + z) < section f
   unfolding section
-  in-section x y z h k l = digit-lt (f .starts + 1) (span f) x (y * row f + z) (omega arith) (in-span y z k l)
+  in-section x y z h k l = digit-lt (f .most .starts + 1) (span f) x (y * row f + z) (omega arith) (in-span y z k l)
 
   in-layer : (s i : ℕ) → s < states f → i < section f → s * section f + i < width f
   unfolding width
   in-layer s i h k = digit-lt (states f) (section f) s i h k
 
   -- a span is all its rows, a state all its spans, a layer all its states
-  pub rows-all : (f .ons + 1) * row f ≡ span f
+  pub rows-all : (f .most .ons + 1) * row f ≡ span f
   unfolding span
   rows-all = refl
 
-  pub spans-all : (f .starts + 1) * span f ≡ section f
+  pub spans-all : (f .most .starts + 1) * span f ≡ section f
   unfolding section
   spans-all = refl
 
@@ -74,22 +74,22 @@ module _ (f : Figures) where
   sections-all = refl
 
   -- some rows of a span, some spans of a state
-  pub rows-fit : (n : ℕ) → n ≤ f .ons + 1 → n * row f ≤ span f
+  pub rows-fit : (n : ℕ) → n ≤ f .most .ons + 1 → n * row f ≤ span f
   unfolding span
   rows-fit n h = mul-le-mul-right (row f) h
 
-  pub spans-fit : (n : ℕ) → n ≤ f .starts + 1 → n * span f ≤ section f
+  pub spans-fit : (n : ℕ) → n ≤ f .most .starts + 1 → n * span f ≤ section f
   unfolding section
   spans-fit n h = mul-le-mul-right (span f) h
 
   -- a row, a span, a state is whole
-  pub row-fits : (y : ℕ) → y ≤ f .ons → y * row f + row f ≤ span f
+  pub row-fits : (y : ℕ) → y ≤ f .most .ons → y * row f + row f ≤ span f
   unfolding span
-  row-fits y h = let d : (y + 1) * row f ≤ (f .ons + 1) * row f = mul-le-mul-right (row f) (omega arith) in omega arith
+  row-fits y h = let d : (y + 1) * row f ≤ (f .most .ons + 1) * row f = mul-le-mul-right (row f) (omega arith) in omega arith
 
-  pub span-fits : (x : ℕ) → x ≤ f .starts → x * span f + span f ≤ section f
+  pub span-fits : (x : ℕ) → x ≤ f .most .starts → x * span f + span f ≤ section f
   unfolding section
-  span-fits x h = let d : (x + 1) * span f ≤ (f .starts + 1) * span f = mul-le-mul-right (span f) (omega arith) in omega arith
+  span-fits x h = let d : (x + 1) * span f ≤ (f .most .starts + 1) * span f = mul-le-mul-right (span f) (omega arith) in omega arith
 
   pub section-fits : (s : ℕ) → s < states f → s * section f + section f ≤ width f
   unfolding width
@@ -109,8 +109,8 @@ module _ (f : Figures) where
   pub index-lt : (c : Cell) → InTable f c → index f c < width f
   unfolding index
   index-lt c h =
-      in-layer (c .state) (c .starts * span f + (c .ons * row f + c .blocks)) (h .state)
-      (in-section (c .starts) (c .ons) (c .blocks) (h .starts) (h .ons) (h .blocks))
+      in-layer (c .state) (c .left .starts * span f + (c .left .ons * row f + c .left .blocks)) (h .state)
+      (in-section (c .left .starts) (c .left .ons) (c .left .blocks) (h .left .starts) (h .left .ons) (h .left .blocks))
 
   -- every number of a layer is some cell's
   pub record Numbered (i : ℕ) : Type 0 where
@@ -122,11 +122,11 @@ module _ (f : Figures) where
   unfolding width section span row index
   numbered i h =
       let s = digits (states f) (section f) i h in
-      let x = digits (f .starts + 1) (span f) (s .low) (s .low-lt) in
-      let y = digits (f .ons + 1) (row f) (x .low) (x .low-lt) in
+      let x = digits (f .most .starts + 1) (span f) (s .low) (s .low-lt) in
+      let y = digits (f .most .ons + 1) (row f) (x .low) (x .low-lt) in
       record {
         of = cell (s .high) (x .high) (y .high) (y .low);
-        inside = record { state = s .high-lt; starts = omega (arith, x .high-lt); ons = omega (arith, y .high-lt); blocks = omega (arith, y .low-lt) };
+        inside = record { state = s .high-lt; left = record { starts = omega (arith, x .high-lt); ons = omega (arith, y .high-lt); blocks = omega (arith, y .low-lt) } };
         is = sym (s .is ∙ ap (λ (t : ℕ). s .high * section f + t) (x .is ∙ ap (λ (t : ℕ). x .high * span f + t) (y .is)));
       }
 
@@ -134,17 +134,17 @@ module _ (f : Figures) where
   pub cell-there : (c : Cell) → InTable f c → cellOf f (index f c) ≡ c
   unfolding index cellOf
   cell-there c h =
-      let line = c .ons * row f + c .blocks in
-      let column = c .starts * span f + line in
-      let blocks = in-row (c .blocks) (h .blocks) in
-      let ons = in-span (c .ons) (c .blocks) (h .ons) (h .blocks) in
-      let starts = in-section (c .starts) (c .ons) (c .blocks) (h .starts) (h .ons) (h .blocks) in
-      let here : cell (c .state) (c .starts) (c .ons) (c .blocks) ≡ c = refl in
+      let line = c .left .ons * row f + c .left .blocks in
+      let column = c .left .starts * span f + line in
+      let blocks = in-row (c .left .blocks) (h .left .blocks) in
+      let ons = in-span (c .left .ons) (c .left .blocks) (h .left .ons) (h .left .blocks) in
+      let starts = in-section (c .left .starts) (c .left .ons) (c .left .blocks) (h .left .starts) (h .left .ons) (h .left .blocks) in
+      let here : cell (c .state) (c .left .starts) (c .left .ons) (c .left .blocks) ≡ c = refl in
       rw (
         high-digit (section f) (c .state) column starts,
         low-digit (section f) (c .state) column starts,
-        high-digit (span f) (c .starts) line ons,
-        low-digit (span f) (c .starts) line ons,
-        high-digit (row f) (c .ons) (c .blocks) blocks,
-        low-digit (row f) (c .ons) (c .blocks) blocks,
+        high-digit (span f) (c .left .starts) line ons,
+        low-digit (span f) (c .left .starts) line ons,
+        high-digit (row f) (c .left .ons) (c .left .blocks) blocks,
+        low-digit (row f) (c .left .ons) (c .left .blocks) blocks,
       ) here

@@ -25,15 +25,15 @@ product x y m n h k = mul-le-mul h k
 module _ (f : Figures) (ok : Sound f) where
   pub row-most : row f ≤ mostRow
   unfolding row
-  row-most = omega (arith, ok .blocks)
+  row-most = omega (arith, ok .most .blocks)
 
   pub span-most : span f ≤ mostSpan
   unfolding span
-  span-most = product (f .ons + 1) (row f) (mostIntervals + 1) mostRow (omega (arith, ok .ons)) row-most
+  span-most = product (f .most .ons + 1) (row f) (mostIntervals + 1) mostRow (omega (arith, ok .most .ons)) row-most
 
   pub section-most : section f ≤ mostSection
   unfolding section
-  section-most = product (f .starts + 1) (span f) (mostIntervals + 1) mostSpan (omega (arith, ok .starts)) span-most
+  section-most = product (f .most .starts + 1) (span f) (mostIntervals + 1) mostSpan (omega (arith, ok .most .starts)) span-most
 
   pub width-most : width f ≤ mostWidth
   unfolding width

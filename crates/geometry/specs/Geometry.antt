@@ -6,19 +6,19 @@ use Rattle.optimality.specs.Cells.{cell, states}
 
 -- the cells of one row (all blocks left), of one span (all on-intervals left), of one section (one state, all starts left), of one layer
 unfoldable pub row : Figures → ℕ
-row f = f .blocks + 1
+row f = f .most .blocks + 1
 
 unfoldable pub span : Figures → ℕ
-span f = (f .ons + 1) * row f
+span f = (f .most .ons + 1) * row f
 
 unfoldable pub section : Figures → ℕ
-section f = (f .starts + 1) * span f
+section f = (f .most .starts + 1) * span f
 
 unfoldable pub width : Figures → ℕ
 width f = states f * section f
 
 unfoldable pub index : Figures → Cell → ℕ
-index f c = c .state * section f + (c .starts * span f + (c .ons * row f + c .blocks))
+index f c = c .state * section f + (c .left .starts * span f + (c .left .ons * row f + c .left .blocks))
 
 -- the cell at a place
 unfoldable pub cellOf : Figures → ℕ → Cell

@@ -2,6 +2,7 @@
 // the places, specs/Layers the numbers; proofs/ their laws: Places, Sizes and Widths, Holding and Telling.
 
 use commitment::BestProfit;
+use optimality::Budgets;
 use optimality::Cell;
 use optimality::Figures;
 ghost use mathlib.Core.Path.{_≡_};
@@ -22,7 +23,7 @@ pub fn row_cells(f: Figures) -> usize
     requires { ⌜ Sound f ⌝ }
     ensures { λ r. ⌜ r ≡ row f ⌝ }
 {
-    f.blocks + 1
+    f.most.blocks + 1
 }
 
 // Of a span: all on-intervals left.
@@ -30,7 +31,7 @@ pub fn span_cells(f: Figures) -> usize
     requires { ⌜ Sound f ⌝ }
     ensures { λ r. ⌜ r ≡ span f ⌝ }
 {
-    (f.ons + 1) * row_cells(f)
+    (f.most.ons + 1) * row_cells(f)
 }
 
 // Of a section, which has one state: all starts left.
@@ -38,7 +39,7 @@ pub fn section_cells(f: Figures) -> usize
     requires { ⌜ Sound f ⌝ }
     ensures { λ r. ⌜ r ≡ section f ⌝ }
 {
-    (f.starts + 1) * span_cells(f)
+    (f.most.starts + 1) * span_cells(f)
 }
 
 // Of a layer: all states.
@@ -65,7 +66,7 @@ pub fn index(f: Figures, c: Cell) -> usize
     let row = row_cells(f);
     let span = span_cells(f);
     let section = section_cells(f);
-    c.state * section + (c.starts * span + (c.ons * row + c.blocks))
+    c.state * section + (c.left.starts * span + (c.left.ons * row + c.left.blocks))
 }
 
 // The cell that stands at a place.
@@ -78,12 +79,13 @@ pub fn cell_of(f: Figures, i: usize) -> Cell
     let section = section_cells(f);
     let column = i % section;
     let line = column % span;
-    Cell {
-        state: i / section,
+    let state = i / section;
+    let left = Budgets {
         starts: column / span,
         ons: line / row,
         blocks: line % row,
-    }
+    };
+    Cell { state, left }
 }
 
 // The best profit that a cell's number stands for.

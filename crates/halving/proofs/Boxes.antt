@@ -17,6 +17,7 @@ use Rattle.optimality.specs.declared.Cell.{Cell}
 use Rattle.optimality.specs.declared.Figures.{Figures}
 use Rattle.optimality.specs.Machine.{Quarter}
 use Rattle.optimality.specs.Cells.{Sound, InTable, planAt, valueAt}
+use Rattle.optimality.proofs.Within.{within-itself, with-sound}
 use Rattle.geometry.specs.Geometry.{row, span, section, width}
 use Rattle.halving.specs.declared.End.{End}
 use Rattle.halving.specs.declared.End.the-variants.{Anywhere, In}
@@ -33,35 +34,16 @@ module _ (f : Figures) (c : Cell) where
 
   module _ (inside : InTable f c) where
     pub boxed-sound : Sound f → Sound (boxed f c)
-    boxed-sound ok =
-        record {
-          block = ok .block;
-          pmin = ok .pmin;
-          pmax = ok .pmax;
-          top = ok .top;
-          mot = ok .mot;
-          mot-most = ok .mot-most;
-          mdt = ok .mdt;
-          mdt-most = ok .mdt-most;
-          vec = ok .vec;
-          mlc = ok .mlc;
-          suc = ok .suc;
-          perstart = ok .perstart;
-          peron = ok .peron;
-          perblock = ok .perblock;
-          starts = omega (arith, inside .starts, ok .starts);
-          ons = omega (arith, inside .ons, ok .ons);
-          blocks = omega (arith, inside .blocks, ok .blocks);
-        }
+    boxed-sound ok = with-sound f (c .left) (inside .left) ok
 
     pub boxed-inside : InTable (boxed f c) c
-    boxed-inside = record { state = inside .state; starts = omega arith; ons = omega arith; blocks = omega arith }
+    boxed-inside = record { state = inside .state; left = within-itself (c .left) }
 
     pub boxed-width : width (boxed f c) ≤ width f
     unfolding width section span row
     boxed-width =
         mul-le-mul (omega arith)
-        (mul-le-mul (omega (arith, inside .starts)) (mul-le-mul (omega (arith, inside .ons)) (omega (arith, inside .blocks))))
+        (mul-le-mul (omega (arith, inside .left .starts)) (mul-le-mul (omega (arith, inside .left .ons)) (omega (arith, inside .left .blocks))))
 
 -- ---- a task in its own box
 

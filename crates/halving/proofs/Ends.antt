@@ -26,15 +26,15 @@ use Rattle.marks.specs.Standing.{endsIn}
 
 -- whether a cell is that of the state with nothing left
 abbrev isBare : ℕ → Cell → Bool
-isBare s c = eqb (c .state) s && eqb (c .starts) 0 && eqb (c .ons) 0 && eqb (c .blocks) 0
+isBare s c = eqb (c .state) s && eqb (c .left .starts) 0 && eqb (c .left .ons) 0 && eqb (c .left .blocks) 0
 
 bare-is : (s : ℕ) (c : Cell) → isBare s c ≡ true → c ≡ cell s 0 0 0
 bare-is s c e =
-    let a = both _ (eqb (c .blocks) 0) e in
-    let b = both _ (eqb (c .ons) 0) (a .0) in
-    let d = both (eqb (c .state) s) (eqb (c .starts) 0) (b .0) in
-    let same : cell (c .state) (c .starts) (c .ons) (c .blocks) ≡ cell s 0 0 0 =
-    rw (eqb-true (c .state) s (d .0), eqb-true (c .starts) 0 (d .1), eqb-true (c .ons) 0 (b .1), eqb-true (c .blocks) 0 (a .1)) in
+    let a = both _ (eqb (c .left .blocks) 0) e in
+    let b = both _ (eqb (c .left .ons) 0) (a .0) in
+    let d = both (eqb (c .state) s) (eqb (c .left .starts) 0) (b .0) in
+    let same : cell (c .state) (c .left .starts) (c .left .ons) (c .left .blocks) ≡ cell s 0 0 0 =
+    rw (eqb-true (c .state) s (d .0), eqb-true (c .left .starts) 0 (d .1), eqb-true (c .left .ons) 0 (b .1), eqb-true (c .left .blocks) 0 (a .1)) in
     same
 
 is-bare : (s : ℕ) → isBare s (cell s 0 0 0) ≡ true
@@ -46,7 +46,7 @@ module _ (f : Figures) (s : ℕ) (inside : s < states f) where
   bare = cell s 0 0 0
 
   bare-inside : InTable f bare
-  bare-inside = record { state = inside; starts = omega arith; ons = omega arith; blocks = omega arith }
+  bare-inside = record { state = inside; left = record { starts = omega arith; ons = omega arith; blocks = omega arith } }
 
   pub bare-place : index f bare ≡ s * section f
   unfolding index

@@ -18,7 +18,8 @@ use Rattle.commitment.proofs.Tries.{tries-append}
 use Rattle.optimality.specs.declared.Cell.{Cell}
 use Rattle.optimality.specs.declared.Figures.{Figures}
 use Rattle.optimality.specs.Machine.{Quarter, anywhere, inQuarter}
-use Rattle.optimality.specs.Cells.{InTable, cellStep, planAt, valueAt}
+use Rattle.optimality.specs.Cells.{Within, InTable, cellStep, planAt, valueAt}
+use Rattle.optimality.proofs.Within.{within-within, less-within}
 use Rattle.optimality.proofs.Quarters.{quarters-length}
 use Rattle.optimality.proofs.Split.{walk-length}
 use Rattle.optimality.proofs.Turns.{plan-value}
@@ -94,13 +95,13 @@ module _ (f : Figures) (prices : List ℤ) (hours : Hours) (from to room w : ℕ
     stands : Stands f (endsBy end) (between quarters from mid) (between quarters mid to) c at
     stands = rw there (mark .stands)
 
-    pub spends-all : (at .starts ≤ c .starts) × (at .ons ≤ c .ons) × (at .blocks ≤ c .blocks)
+    pub spends-all : Within (at .left) (c .left)
     spends-all =
         let e = spends f (h .asked .sound) (endsBy end) (between quarters from mid) (between quarters mid to) c at stands in
-        let x = ap (λ (z : Cell). z .starts) e in
-        let y = ap (λ (z : Cell). z .ons) e in
-        let z = ap (λ (z : Cell). z .blocks) e in
-        (omega (arith, x), omega (arith, y), omega (arith, z))
+        let x = ap (λ (z : Cell). z .left .starts) e in
+        let y = ap (λ (z : Cell). z .left .ons) e in
+        let z = ap (λ (z : Cell). z .left .blocks) e in
+        record { starts = omega (arith, x); ons = omega (arith, y); blocks = omega (arith, z) }
 
     -- ---- each half is a task
 
@@ -123,7 +124,7 @@ module _ (f : Figures) (prices : List ℤ) (hours : Hours) (from to room w : ℕ
     spent-inside : InTable f (spent c at)
     spent-inside =
         let i = h .here in
-        record { state = i .state; starts = omega (arith, i .starts); ons = omega (arith, i .ons); blocks = omega (arith, i .blocks) }
+        record { state = i .state; left = within-within (less-within (c .left) (at .left)) (i .left) }
 
     early-plan : planOf f prices hours from mid (spent c at) (In (at .state)) ≡ plan (stands .outputs) (stands .earned)
     early-plan = earlier-half f (h .asked .sound) (endsBy end) (between quarters from mid) (between quarters mid to) c at stands

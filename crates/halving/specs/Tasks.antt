@@ -15,7 +15,7 @@ use Rattle.commitment.specs.Windows.{Clocked}
 use Rattle.optimality.specs.declared.Cell.{Cell}
 use Rattle.optimality.specs.declared.Figures.{Figures}
 use Rattle.optimality.specs.Machine.{Quarter, anywhere}
-use Rattle.optimality.specs.Cells.{Sound, InTable, states, planAt, valueAt}
+use Rattle.optimality.specs.Cells.{Sound, InTable, withMost, states, planAt, valueAt}
 use Rattle.geometry.specs.Geometry.{width, index}
 use Rattle.geometry.specs.Layers.{Layer, inFront}
 use Rattle.layers.specs.Filling.{quartersIn, between}
@@ -26,23 +26,7 @@ use Rattle.halving.specs.declared.End.the-variants.{Anywhere, In}
 
 -- the figures with a cell's own budgets
 abbrev pub boxed : Figures → Cell → Figures
-boxed f c =
-    record {
-      block = f .block;
-      pmin = f .pmin;
-      pmax = f .pmax;
-      mot = f .mot;
-      mdt = f .mdt;
-      vec = f .vec;
-      mlc = f .mlc;
-      suc = f .suc;
-      perstart = f .perstart;
-      peron = f .peron;
-      perblock = f .perblock;
-      starts = c .starts;
-      ons = c .ons;
-      blocks = c .blocks;
-    }
+boxed f c = withMost f (c .left)
 
 -- where plans end, and that some cell of the table is there
 abbrev pub endsBy : End → Cell → BestProfit

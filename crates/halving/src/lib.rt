@@ -8,6 +8,7 @@ use commitment::windows::Hours;
 use geometry::INFEASIBLE;
 use intervals::rows;
 use marks::passes;
+use optimality::Budgets;
 use optimality::Cell;
 use optimality::Figures;
 ghost use mathlib.Core.Path.{_≡_};
@@ -19,7 +20,7 @@ ghost use Rattle.commitment.specs.declared.BestProfit.the-variants.{Nothing};
 ghost use Rattle.commitment.specs.Best.{scheduleOf};
 ghost use Rattle.commitment.specs.Tries.{triesOver};
 ghost use Rattle.optimality.specs.Machine.{anywhere};
-ghost use Rattle.optimality.specs.Cells.{Sound, InTable, planAt, valueAt};
+ghost use Rattle.optimality.specs.Cells.{Sound, Within, InTable, planAt, valueAt};
 ghost use Rattle.geometry.specs.Geometry.{width};
 ghost use Rattle.geometry.specs.Layers.{Layer, storedAt};
 ghost use Rattle.layers.specs.Filling.{quartersIn, Beyond};
@@ -42,6 +43,8 @@ pub enum End {
 fn boxed(f: Figures, c: Cell) -> Figures
     ensures { λ r. ⌜ r ≡ tasks.boxed f c ⌝ }
 {
+    let takes = f.takes;
+    let most = c.left;
     Figures {
         block: f.block,
         pmin: f.pmin,
@@ -51,25 +54,24 @@ fn boxed(f: Figures, c: Cell) -> Figures
         vec: f.vec,
         mlc: f.mlc,
         suc: f.suc,
-        perstart: f.perstart,
-        peron: f.peron,
-        perblock: f.perblock,
-        starts: c.starts,
-        ons: c.ons,
-        blocks: c.blocks,
+        takes,
+        most,
     }
 }
 
 // What a plan spends between two cells, left to a cell in the first's state.
 fn spent(c: Cell, at: Cell) -> Cell
-    requires { ⌜ (at .starts ≤ c .starts) × (at .ons ≤ c .ons) × (at .blocks ≤ c .blocks) ⌝ }
+    requires { ⌜ Within (at .left) (c .left) ⌝ }
     ensures { λ r. ⌜ r ≡ standing.spent c at ⌝ }
 {
+    let left = Budgets {
+        starts: c.left.starts - at.left.starts,
+        ons: c.left.ons - at.left.ons,
+        blocks: c.left.blocks - at.left.blocks,
+    };
     Cell {
         state: c.state,
-        starts: c.starts - at.starts,
-        ons: c.ons - at.ons,
-        blocks: c.blocks - at.blocks,
+        left,
     }
 }
 

@@ -31,17 +31,17 @@ use Rattle.geometry.proofs.Holding.{Offers, holds-more, offers-plus, holds-stay
 
 pub record Runs (f : Figures) (c : Cell) : Type 0 where
   pub leads : afterOn f (c .state) < states f
-  pub starts : startTakes f (c .state) ≤ c .starts
-  pub ons : f .peron ≤ c .ons
+  pub starts : startTakes f (c .state) ≤ c .left .starts
+  pub ons : f .takes .ons ≤ c .left .ons
 
 pub runs : (f : Figures) (c : Cell) → mayRun f c ≡ true → Runs f c
 runs f c e =
-    let last = both (ltb (afterOn f (c .state)) (states f) && leb (startTakes f (c .state)) (c .starts)) (leb (f .peron) (c .ons)) e in
-    let two = both (ltb (afterOn f (c .state)) (states f)) (leb (startTakes f (c .state)) (c .starts)) (last .0) in
+    let last = both (ltb (afterOn f (c .state)) (states f) && leb (startTakes f (c .state)) (c .left .starts)) (leb (f .takes .ons) (c .left .ons)) e in
+    let two = both (ltb (afterOn f (c .state)) (states f)) (leb (startTakes f (c .state)) (c .left .starts)) (last .0) in
     record {
       leads = ltb-true (afterOn f (c .state)) (states f) (two .0);
-      starts = leb-true (startTakes f (c .state)) (c .starts) (two .1);
-      ons = leb-true (f .peron) (c .ons) (last .1);
+      starts = leb-true (startTakes f (c .state)) (c .left .starts) (two .1);
+      ons = leb-true (f .takes .ons) (c .left .ons) (last .1);
     }
 
 -- ---- what one interval adds is below the swing
@@ -56,9 +56,9 @@ pays-most f ok s = by (ltb s (f .mot))
 pub takes-most : (f : Figures) → Sound f → (s : ℕ) → startTakes f s ≤ 1
 takes-most f ok s = by (ltb s (f .mot))
   where
-    by : (t : Bool) → cond t 0 (f .perstart) ≤ 1
+    by : (t : Bool) → cond t 0 (f .takes .starts) ≤ 1
     by true = omega arith
-    by false = ok .perstart
+    by false = ok .takes .starts
 
 pub pmax-most : (f : Figures) → Sound f → f .pmax ≤ 500
 pmax-most f ok = let a : f .pmax * 1 ≤ f .pmax * f .block = mul-le-mul-left (f .pmax) (ok .block) in omega (arith, ok .top)
@@ -68,9 +68,9 @@ block-most f ok =
     let a : 1 * f .block ≤ f .pmax * f .block = mul-le-mul-right (f .block) (omega (arith, ok .pmin, ok .pmax)) in omega (arith, ok .top)
 
 -- what an output takes of the blocks
-pub blocks-most : (f : Figures) → Sound f → (k : ℕ) → k ≤ f .pmax → k * f .perblock ≤ 500
+pub blocks-most : (f : Figures) → Sound f → (k : ℕ) → k ≤ f .pmax → k * f .takes .blocks ≤ 500
 blocks-most f ok k h =
-    let a : k * f .perblock ≤ f .pmax * f .block = mul-le-mul h (one (f .perblock) (f .block) (ok .perblock) (ok .block)) in
+    let a : k * f .takes .blocks ≤ f .pmax * f .block = mul-le-mul h (one (f .takes .blocks) (f .block) (ok .takes .blocks) (ok .block)) in
     omega (arith, ok .top)
   where
     one : (p b : ℕ) → p ≤ 1 → 1 ≤ b → p ≤ b

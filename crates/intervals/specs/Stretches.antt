@@ -128,18 +128,18 @@ module _ (l : Ladder) (n : ℕ) where
 module _ (f : Figures) (l : Ladder) where
   -- the same for the rows that have on-intervals left
   pub record SpanRaised (was cells : List ℤ) (to from : ℕ) : Type 0 where
-    pub inside : (y z : ℕ) → y ≤ f .ons → z ≤ f .blocks
+    pub inside : (y z : ℕ) → y ≤ f .most .ons → z ≤ f .most .blocks
         → getD cells (to + (y * row f + z)) (pos 0)
-        ≡ cond (leb (f .peron) y) (bestOver (f .perblock) l was (from + (y - f .peron) * row f) z (getD was (to + (y * row f + z)) (pos 0)))
+        ≡ cond (leb (f .takes .ons) y) (bestOver (f .takes .blocks) l was (from + (y - f .takes .ons) * row f) z (getD was (to + (y * row f + z)) (pos 0)))
         (getD was (to + (y * row f + z)) (pos 0))
     pub apart : Apart was cells to (span f)
 
   -- and for the spans that have starts left
   pub record SectionRaised (takes : ℕ) (was cells : List ℤ) (to from : ℕ) : Type 0 where
-    pub inside : (x y z : ℕ) → x ≤ f .starts → y ≤ f .ons → z ≤ f .blocks
+    pub inside : (x y z : ℕ) → x ≤ f .most .starts → y ≤ f .most .ons → z ≤ f .most .blocks
         → getD cells (to + (x * span f + (y * row f + z))) (pos 0)
-        ≡ cond (leb takes x && leb (f .peron) y)
-        (bestOver (f .perblock) l was (from + (x - takes) * span f + (y - f .peron) * row f) z (getD was (to + (x * span f + (y * row f + z))) (pos 0)))
+        ≡ cond (leb takes x && leb (f .takes .ons) y)
+        (bestOver (f .takes .blocks) l was (from + (x - takes) * span f + (y - f .takes .ons) * row f) z (getD was (to + (x * span f + (y * row f + z))) (pos 0)))
         (getD was (to + (x * span f + (y * row f + z))) (pos 0))
     pub apart : Apart was cells to (section f)
 
@@ -154,18 +154,18 @@ pub record OfState (f : Figures) (s w cells : ℕ) : Type 0 where
 
 -- every cell of a state with the interval off, every cell of it, every cell of the layer, by the layer behind
 pub record OffMade (f : Figures) (s : ℕ) (was cells : List ℤ) : Type 0 where
-  pub inside : (x y z : ℕ) → x ≤ f .starts → y ≤ f .ons → z ≤ f .blocks
+  pub inside : (x y z : ℕ) → x ≤ f .most .starts → y ≤ f .most .ons → z ≤ f .most .blocks
       → inFront f cells (cell s x y z) ≡ offStored f (storedAt f was (width f)) (cell s x y z)
   pub apart : Apart was cells (s * section f) (section f)
 
 pub record StateMade (f : Figures) (price : ℤ) (s : ℕ) (was cells : List ℤ) : Type 0 where
-  pub inside : (x y z : ℕ) → x ≤ f .starts → y ≤ f .ons → z ≤ f .blocks
+  pub inside : (x y z : ℕ) → x ≤ f .most .starts → y ≤ f .most .ons → z ≤ f .most .blocks
       → inFront f cells (cell s x y z) ≡ cellStored f (storedAt f was (width f)) (cell s x y z) price
   pub apart : Apart was cells (s * section f) (section f)
 
 -- the same in a quarter, open or shut
 pub record QuarterMade (f : Figures) (q : Quarter) (s : ℕ) (was cells : List ℤ) : Type 0 where
-  pub inside : (x y z : ℕ) → x ≤ f .starts → y ≤ f .ons → z ≤ f .blocks
+  pub inside : (x y z : ℕ) → x ≤ f .most .starts → y ≤ f .most .ons → z ≤ f .most .blocks
       → inFront f cells (cell s x y z) ≡ quarterStored f (storedAt f was (width f)) (cell s x y z) q
   pub apart : Apart was cells (s * section f) (section f)
 

@@ -19,7 +19,7 @@ pub record Interval (f : Figures) (price : ℤ) : Type 0 where
 
 -- a cell has what an interval on with so many blocks takes
 abbrev pub Affords : Figures → Cell → ℕ → Type 0
-Affords f c k = (startTakes f (c .state) ≤ c .starts) × (f .peron ≤ c .ons) × (k * f .perblock ≤ c .blocks)
+Affords f c k = (startTakes f (c .state) ≤ c .left .starts) × (f .takes .ons ≤ c .left .ons) × (k * f .takes .blocks ≤ c .left .blocks)
 
 -- what an on-interval with k blocks adds, less what a start costs
 abbrev pub net : Figures → ℤ → ℕ → ℕ → ℤ
@@ -39,7 +39,7 @@ module _ (f : Figures) (stored : Cell → ℤ) (c : Cell) where
   offStored = cond (ltb (afterOff f (c .state)) (states f)) (stored (offCell f c)) infeasible
 
   abbrev pub roomFor : ℕ → Bool
-  roomFor k = leb (k * f .perblock) (c .blocks)
+  roomFor k = leb (k * f .takes .blocks) (c .left .blocks)
 
   abbrev pub onStored : ℤ → ℕ → ℤ
   onStored price k = stored (onCell f c k) +ℤ net f price (startPays f (c .state)) k

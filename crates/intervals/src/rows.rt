@@ -187,14 +187,14 @@ fn raise_row(scratch: &mut [i64], to: usize, from: usize, cells: usize, l: Ladde
 
 // The rows that have an on-interval left, from the rows with one less.
 pub fn raise_rows(scratch: &mut [i64], to: usize, from: usize, f: Figures, l: Ladder)
-    requires { ⌜ (Sound f) × (f .perblock ≡ 1) × (Steady l) × (Behind (now scratch) to from (span f)) ⌝ }
+    requires { ⌜ (Sound f) × (f .takes .blocks ≡ 1) × (Steady l) × (Behind (now scratch) to from (span f)) ⌝ }
     ensures { λ _. ⌜ SpanRaised f l (now (scratch .entry)) (now (scratch .exit)) to from ⌝ }
 {
     let cells = geometry::row_cells(f);
-    let mut y = f.peron;
+    let mut y = f.takes.ons;
     let mut at = to + y * cells;
     let mut behind = from;
-    while y <= f.ons {
+    while y <= f.most.ons {
         raise_row(scratch, at, behind, cells, l);
         at += cells;
         behind += cells;

@@ -1,6 +1,7 @@
 // One interval of the cells' machine: the states that it leads to, what a start takes and costs, what an output brings.
 
 use crate::rows::Ladder;
+use optimality::Budgets;
 use optimality::Cell;
 use optimality::Figures;
 ghost use mathlib.Core.Path.{_≡_};
@@ -51,7 +52,7 @@ pub fn after_on(f: Figures, s: usize) -> usize
 pub fn start_takes(f: Figures, s: usize) -> usize
     ensures { λ r. ⌜ r ≡ startTakes f s ⌝ }
 {
-    if s < f.mot { 0 } else { f.perstart }
+    if s < f.mot { 0 } else { f.takes.starts }
 }
 
 // Profits are in quarter-cents, and so a start costs 4 × suc.
@@ -68,12 +69,8 @@ pub fn off_cell(f: Figures, c: Cell) -> Cell
     ensures { λ r. ⌜ r ≡ offCell f c ⌝ }
 {
     let state = after_off(f, c.state);
-    Cell {
-        state,
-        starts: c.starts,
-        ons: c.ons,
-        blocks: c.blocks,
-    }
+    let left = c.left;
+    Cell { state, left }
 }
 
 // The cell that an interval on with k blocks leads to.
@@ -83,13 +80,13 @@ pub fn on_cell(f: Figures, c: Cell, k: usize) -> Cell
     ensures { λ r. ⌜ r ≡ onCell f c k ⌝ }
 {
     let state = after_on(f, c.state);
-    let starts = c.starts - start_takes(f, c.state);
-    Cell {
-        state,
+    let starts = c.left.starts - start_takes(f, c.state);
+    let left = Budgets {
         starts,
-        ons: c.ons - f.peron,
-        blocks: c.blocks - k * f.perblock,
-    }
+        ons: c.left.ons - f.takes.ons,
+        blocks: c.left.blocks - k * f.takes.blocks,
+    };
+    Cell { state, left }
 }
 
 // What an interval on with k blocks brings, less what its start costs.

@@ -83,15 +83,15 @@ module _ (f : Figures) (price : ℤ) (s : ℕ) (was mid : List ℤ) (off : OffMa
 
     -- the cells that an interval on leads to are read where they stand
     reads : (x y z k : ℕ)
-        → getD mid (source + (x - startTakes f s) * span f + (y - f .peron) * row f + (z - k * f .perblock)) (pos 0)
+        → getD mid (source + (x - startTakes f s) * span f + (y - f .takes .ons) * row f + (z - k * f .takes .blocks)) (pos 0)
         ≡ storedAt f was (width f) (onCell f (cell s x y z) k)
     reads x y z k =
         let i = (x - startTakes f s) * span f in
-        let j = (y - f .peron) * row f in
-        let l = z - k * f .perblock in
+        let j = (y - f .takes .ons) * row f in
+        let l = z - k * f .takes .blocks in
         let p : source + i + j + l ≡ source + (i + (j + l)) = omega arith in
         off .apart (source + i + j + l) (inr (omega (arith, section-fits f s inside))) ∙ ap (λ (n : ℕ). getD was n (pos 0)) p
-        ∙ sym (behind-in f was (afterOn f s) (x - startTakes f s) (y - f .peron) l)
+        ∙ sym (behind-in f was (afterOn f s) (x - startTakes f s) (y - f .takes .ons) l)
 
     pub state-raised : (cells : List ℤ) → SectionRaised f (ladderOf f price (startPays f s)) (startTakes f s) mid cells (s * section f) source
         → StateMade f price s was cells
@@ -104,9 +104,9 @@ module _ (f : Figures) (price : ℤ) (s : ℕ) (was mid : List ℤ) (off : OffMa
               let stored = storedAt f was (width f) in
               let base : getD mid (s * section f + placeIn f x y z) (pos 0) ≡ offStored f stored c = sym (front-in f mid s x y z) ∙ off .inside x y z i j k in
               let over =
-              ap (bestOver (f .perblock) (ladderOf f price (startPays f s)) mid (source + (x - startTakes f s) * span f + (y - f .peron) * row f) z) base
+              ap (bestOver (f .takes .blocks) (ladderOf f price (startPays f s)) mid (source + (x - startTakes f s) * span f + (y - f .takes .ons) * row f) z) base
               ∙ raised-same (roomFor f stored c)
-              (λ k. getD mid (source + (x - startTakes f s) * span f + (y - f .peron) * row f + (z - k * f .perblock)) (pos 0) +ℤ brings
+              (λ k. getD mid (source + (x - startTakes f s) * span f + (y - f .takes .ons) * row f + (z - k * f .takes .blocks)) (pos 0) +ℤ brings
               (ladderOf f price (startPays f s)) k)
               (onStored f stored c price)
               (offStored f stored c)
@@ -114,7 +114,7 @@ module _ (f : Figures) (price : ℤ) (s : ℕ) (was mid : List ℤ) (off : OffMa
               (rungs f)
               (λ k lo hi room. ap₂ _+ℤ_ (reads x y z k) (ladder-brings f price (startPays f s) k lo)) in
               rw t
-              (front-in f cells s x y z ∙ made .inside x y z i j k ∙ ap₂ (cond (leb (startTakes f s) x && leb (f .peron) y)) over base);
+              (front-in f cells s x y z ∙ made .inside x y z i j k ∙ ap₂ (cond (leb (startTakes f s) x && leb (f .takes .ons) y)) over base);
           apart = λ j out. made .apart j out ∙ off .apart j out;
         }
 
@@ -132,9 +132,9 @@ pub record SectionPlace (f : Figures) : Type 0 where
   pub x : ℕ
   pub y : ℕ
   pub z : ℕ
-  pub x≤ : x ≤ f .starts
-  pub y≤ : y ≤ f .ons
-  pub z≤ : z ≤ f .blocks
+  pub x≤ : x ≤ f .most .starts
+  pub y≤ : y ≤ f .most .ons
+  pub z≤ : z ≤ f .most .blocks
 
 module _ (f : Figures) (q : Quarter) (was : List ℤ) where
   abbrev pub sectionNow : ℕ → SectionPlace f → ℤ
@@ -167,8 +167,8 @@ module _ (f : Figures) (q : Quarter) (was : List ℤ) where
   states-done s old =
       record {
         inside = λ c h.
-            front-in f s (c .state) (c .starts) (c .ons) (c .blocks)
-            ∙ ap (λ (i : ℕ). getD s i (pos 0)) (sym (zero-add (c .state * section f + placeIn f (c .starts) (c .ons) (c .blocks))))
-            ∙ old .right (c .state) (h .state) (record { x = c .starts; y = c .ons; z = c .blocks; x≤ = h .starts; y≤ = h .ons; z≤ = h .blocks });
+            front-in f s (c .state) (c .left .starts) (c .left .ons) (c .left .blocks)
+            ∙ ap (λ (i : ℕ). getD s i (pos 0)) (sym (zero-add (c .state * section f + placeIn f (c .left .starts) (c .left .ons) (c .left .blocks))))
+            ∙ old .right (c .state) (h .state) (record { x = c .left .starts; y = c .left .ons; z = c .left .blocks; x≤ = h .left .starts; y≤ = h .left .ons; z≤ = h .left .blocks });
         apart = done-apart place (section f) placed was 0 sectionNow s (states f) (width f) (rw (sections-all f) (omega arith)) old;
       }

@@ -21,8 +21,8 @@ fn raise_span(scratch: &mut [i64], to: usize, from: usize, f: Figures, l: Ladder
     requires { ⌜ (Sound f) × (Steady l) × (end ≡ betterEnd l) × (Behind (now scratch) to from (span f)) ⌝ }
     ensures { λ _. ⌜ SpanRaised f l (now (scratch .entry)) (now (scratch .exit)) to from ⌝ }
 {
-    if f.perblock == 0 {
-        let skipped = f.peron * geometry::row_cells(f);
+    if f.takes.blocks == 0 {
+        let skipped = f.takes.ons * geometry::row_cells(f);
         let all = geometry::span_cells(f);
         rows::raise(scratch, to + skipped, from, all - skipped, end);
     } else {
@@ -40,7 +40,7 @@ fn raise_section(scratch: &mut [i64], to: usize, from: usize, f: Figures, takes:
     let mut x = takes;
     let mut at = to + x * cells;
     let mut behind = from;
-    while x <= f.starts {
+    while x <= f.most.starts {
         raise_span(scratch, at, behind, f, l, end);
         at += cells;
         behind += cells;

@@ -26,8 +26,8 @@ use Rattle.marks.proofs.Turned.{turn-same, runs-on}
 
 on-column : (f : Figures) (c : Cell) (k : ℕ) → columnOf f (onCell f c k) ≤ columnOf f c
 on-column f c k =
-    let a : (c .starts - startTakes f (c .state)) * span f ≤ c .starts * span f = mul-le-mul-right (span f) (omega arith) in
-    let b : (c .ons - f .peron) * row f ≤ c .ons * row f = mul-le-mul-right (row f) (omega arith) in
+    let a : (c .left .starts - startTakes f (c .state)) * span f ≤ c .left .starts * span f = mul-le-mul-right (span f) (omega arith) in
+    let b : (c .left .ons - f .takes .ons) * row f ≤ c .left .ons * row f = mul-le-mul-right (row f) (omega arith) in
     omega (arith, a, b)
 
 module _ (f : Figures) (q : Quarter) (w : ℕ) where
@@ -74,28 +74,28 @@ module _ (f : Figures) (q : Quarter) (w : ℕ) where
           at = omega (arith, on .1);
           line = λ one.
               let k = a .lined one in
-              same-place (row f) (c .ons) y (c .blocks) (place + (columnOf f c - column)) (in-row f (c .blocks) (i .blocks))
+              same-place (row f) (c .left .ons) y (c .left .blocks) (place + (columnOf f c - column)) (in-row f (c .left .blocks) (i .left .blocks))
               (omega (arith, k .1)) (omega (arith, on .1)) .0;
         }
       where
         in-line : y * row f + (place + (columnOf f c - column)) < span f
-        in-line = by (ltb 0 (f .perblock)) refl
+        in-line = by (ltb 0 (f .takes .blocks)) refl
           where
-            by : (t : Bool) → ltb 0 (f .perblock) ≡ t → y * row f + (place + (columnOf f c - column)) < span f
+            by : (t : Bool) → ltb 0 (f .takes .blocks) ≡ t → y * row f + (place + (columnOf f c - column)) < span f
             by true e =
-                let l = ltb-true 0 (f .perblock) e in
-                let k = a .lined (omega (arith, a .interval .sound .perblock)) in
+                let l = ltb-true 0 (f .takes .blocks) e in
+                let k = a .lined (omega (arith, a .interval .sound .takes .blocks)) in
                 omega (arith, k .1, row-fits f y (k .0))
             by false e =
-                let l = ltb-false 0 (f .perblock) e in
+                let l = ltb-false 0 (f .takes .blocks) e in
                 let k = a .flat (omega arith) in
                 let z : y * row f ≡ 0 = rw (k .0) (zero-mul (row f)) in
                 omega (arith, k .1, z)
 
-        on : (c .starts ≡ x) × (c .ons * row f + c .blocks ≡ y * row f + (place + (columnOf f c - column)))
+        on : (c .left .starts ≡ x) × (c .left .ons * row f + c .left .blocks ≡ y * row f + (place + (columnOf f c - column)))
         on =
-            same-place (span f) (c .starts) x (c .ons * row f + c .blocks) (y * row f + (place + (columnOf f c - column)))
-            (in-span f (c .ons) (c .blocks) (i .ons) (i .blocks)) in-line (omega (arith, a .columns .column-is))
+            same-place (span f) (c .left .starts) x (c .left .ons * row f + c .left .blocks) (y * row f + (place + (columnOf f c - column)))
+            (in-span f (c .left .ons) (c .left .blocks) (i .left .ons) (i .left .blocks)) in-line (omega (arith, a .columns .column-is))
 
     pub piece-columns : (now : List ℤ) → Partly f q w was now x y place column count (states f) → Columns f q w was now column (column + count)
     piece-columns now p =
@@ -111,24 +111,24 @@ module _ (f : Figures) (q : Quarter) (w : ℕ) where
 module _ (f : Figures) (q : Quarter) (w : ℕ) (was : List ℤ) (x y start long sections : ℕ) (b : Before f w was (q .price) (start + long))
     (l : Line f x y start long) (e : sections ≡ section f) where
   pub line-ends : start + long ≤ section f
-  line-ends = by (ltb 0 (f .perblock)) refl
+  line-ends = by (ltb 0 (f .takes .blocks)) refl
     where
       fit : x * span f + span f ≤ section f
       fit = span-fits f x (l .starts)
 
-      by : (t : Bool) → ltb 0 (f .perblock) ≡ t → start + long ≤ section f
+      by : (t : Bool) → ltb 0 (f .takes .blocks) ≡ t → start + long ≤ section f
       by true g =
-          let h = ltb-true 0 (f .perblock) g in
-          let k = l .lined (omega (arith, b .interval .sound .perblock)) in
+          let h = ltb-true 0 (f .takes .blocks) g in
+          let k = l .lined (omega (arith, b .interval .sound .takes .blocks)) in
           omega (arith, l .begins, k .1, row-fits f y (k .0), fit)
       by false g =
-          let h = ltb-false 0 (f .perblock) g in
+          let h = ltb-false 0 (f .takes .blocks) g in
           let k = l .flat (omega arith) in
           let z : y * row f ≡ 0 = rw (k .0) (zero-mul (row f)) in
           omega (arith, l .begins, k .1, z, fit)
 
   pub piece-asked : (cur : List ℤ) (at end : ℕ) → at < end → end ≤ long → end - at ≤ piece → Columns f q w was cur (start + end) (start + long)
-      → (f .perblock ≡ 1 → (end ≤ f .pmin) ⊎ WholeChunks f at (end - at)) → PieceAsked f w cur (q .price) x y at sections (start + at) (end - at)
+      → (f .takes .blocks ≡ 1 → (end ≤ f .pmin) ⊎ WholeChunks f at (end - at)) → PieceAsked f w cur (q .price) x y at sections (start + at) (end - at)
   piece-asked cur at end some inside few done chunks =
       let up : at + (end - at) ≡ end = omega arith in
       record {

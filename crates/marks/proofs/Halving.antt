@@ -28,7 +28,7 @@ use Rattle.marks.specs.Standing.{Stands, endsIn, spent}
 -- plans end in a cell alone
 abbrev only : Cell → Cell → BestProfit
 only at z =
-    cond (eqb (z .state) (at .state) && eqb (z .starts) (at .starts) && eqb (z .ons) (at .ons) && eqb (z .blocks) (at .blocks)) (Profit (pos 0)) Nothing
+    cond (eqb (z .state) (at .state) && eqb (z .left .starts) (at .left .starts) && eqb (z .left .ons) (at .left .ons) && eqb (z .left .blocks) (at .left .blocks)) (Profit (pos 0)) Nothing
 
 -- more of both changes nothing
 eqb-more : (a b : ℕ) → eqb a 0 ≡ eqb (a + b) b
@@ -39,25 +39,25 @@ eqb-more a b = by (eqb a 0) refl
     by false e = e ∙ sym (ne-eqb (a + b) b (λ h. let z = eqb-false a 0 e in z (omega arith)))
 
 lifted-ends : (at d : Cell) → endsIn (at .state) d ≡ only at (lifted at d)
-lifted-ends at d = rw (eqb-more (d .starts) (at .starts), eqb-more (d .ons) (at .ons), eqb-more (d .blocks) (at .blocks))
+lifted-ends at d = rw (eqb-more (d .left .starts) (at .left .starts), eqb-more (d .left .ons) (at .left .ons), eqb-more (d .left .blocks) (at .left .blocks))
 
 -- one cell
 is-only : (at y : Cell) (q : ℤ) → only at y ≡ Profit q → (y ≡ at) × (q ≡ pos 0)
-is-only at y q e = by (eqb (y .state) (at .state) && eqb (y .starts) (at .starts) && eqb (y .ons) (at .ons) && eqb (y .blocks) (at .blocks)) refl e
+is-only at y q e = by (eqb (y .state) (at .state) && eqb (y .left .starts) (at .left .starts) && eqb (y .left .ons) (at .left .ons) && eqb (y .left .blocks) (at .left .blocks)) refl e
   where
-    by : (t : Bool) → (eqb (y .state) (at .state) && eqb (y .starts) (at .starts) && eqb (y .ons) (at .ons) && eqb (y .blocks) (at .blocks)) ≡ t
+    by : (t : Bool) → (eqb (y .state) (at .state) && eqb (y .left .starts) (at .left .starts) && eqb (y .left .ons) (at .left .ons) && eqb (y .left .blocks) (at .left .blocks)) ≡ t
         → cond t (Profit (pos 0)) Nothing ≡ Profit q → (y ≡ at) × (q ≡ pos 0)
     by false k e = absurd (no-earning e)
     by true k e =
-        let a = both _ (eqb (y .blocks) (at .blocks)) k in
-        let b = both _ (eqb (y .ons) (at .ons)) (a .0) in
-        let c = both (eqb (y .state) (at .state)) (eqb (y .starts) (at .starts)) (b .0) in
-        let same : cell (y .state) (y .starts) (y .ons) (y .blocks) ≡ cell (at .state) (at .starts) (at .ons) (at .blocks) =
+        let a = both _ (eqb (y .left .blocks) (at .left .blocks)) k in
+        let b = both _ (eqb (y .left .ons) (at .left .ons)) (a .0) in
+        let c = both (eqb (y .state) (at .state)) (eqb (y .left .starts) (at .left .starts)) (b .0) in
+        let same : cell (y .state) (y .left .starts) (y .left .ons) (y .left .blocks) ≡ cell (at .state) (at .left .starts) (at .left .ons) (at .left .blocks) =
         rw (
           eqb-true (y .state) (at .state) (c .0),
-          eqb-true (y .starts) (at .starts) (c .1),
-          eqb-true (y .ons) (at .ons) (b .1),
-          eqb-true (y .blocks) (at .blocks) (a .1),
+          eqb-true (y .left .starts) (at .left .starts) (c .1),
+          eqb-true (y .left .ons) (at .left .ons) (b .1),
+          eqb-true (y .left .blocks) (at .left .blocks) (a .1),
         ) in
         (same, earned e)
       where
@@ -66,7 +66,7 @@ is-only at y q e = by (eqb (y .state) (at .state) && eqb (y .starts) (at .starts
 
 only-itself : (at : Cell) → only at at ≡ Profit (pos 0)
 only-itself at =
-    rw (eq-eqb (at .state) (at .state) refl, eq-eqb (at .starts) (at .starts) refl, eq-eqb (at .ons) (at .ons) refl, eq-eqb (at .blocks) (at .blocks) refl)
+    rw (eq-eqb (at .state) (at .state) refl, eq-eqb (at .left .starts) (at .left .starts) refl, eq-eqb (at .left .ons) (at .left .ons) refl, eq-eqb (at .left .blocks) (at .left .blocks) refl)
 
 only-above : (at z : Cell) → Below at z → only at z ≡ Nothing
 only-above at z b = by (only at z) refl
@@ -76,10 +76,10 @@ only-above at z b = by (only at z) refl
     by (Profit q) e =
         let k = is-only at z q e .0 in
         absurd
-        (⊎-elim (λ (l : z .starts < at .starts). omega (arith, ap (λ (y : Cell). y .starts) k))
-        (λ (r : (z .ons < at .ons) ⊎ (z .blocks < at .blocks)).
-        ⊎-elim (λ (l : z .ons < at .ons). omega (arith, ap (λ (y : Cell). y .ons) k))
-        (λ (l : z .blocks < at .blocks). omega (arith, ap (λ (y : Cell). y .blocks) k)) r) b)
+        (⊎-elim (λ (l : z .left .starts < at .left .starts). omega (arith, ap (λ (y : Cell). y .left .starts) k))
+        (λ (r : (z .left .ons < at .left .ons) ⊎ (z .left .blocks < at .left .blocks)).
+        ⊎-elim (λ (l : z .left .ons < at .left .ons). omega (arith, ap (λ (y : Cell). y .left .ons) k))
+        (λ (l : z .left .blocks < at .left .blocks). omega (arith, ap (λ (y : Cell). y .left .blocks) k)) r) b)
 
 same-parts : (a b c d : List ℕ) → length a ≡ length c → a ++ b ≡ c ++ d → (a ≡ c) × (b ≡ d)
 same-parts [] b [] d n e = (refl, e)
@@ -140,9 +140,9 @@ module _ (f : Figures) (ok : Sound f) (ends : Cell → BestProfit) (front later 
 
   pub spends : lifted at (spent c at) ≡ c
   spends =
-      let x : c .starts - at .starts + at .starts ≡ c .starts = up (c .starts) (at .starts) (λ l. not-below (inl l)) in
-      let y : c .ons - at .ons + at .ons ≡ c .ons = up (c .ons) (at .ons) (λ l. not-below (inr (inl l))) in
-      let z : c .blocks - at .blocks + at .blocks ≡ c .blocks = up (c .blocks) (at .blocks) (λ l. not-below (inr (inr l))) in
+      let x : c .left .starts - at .left .starts + at .left .starts ≡ c .left .starts = up (c .left .starts) (at .left .starts) (λ l. not-below (inl l)) in
+      let y : c .left .ons - at .left .ons + at .left .ons ≡ c .left .ons = up (c .left .ons) (at .left .ons) (λ l. not-below (inr (inl l))) in
+      let z : c .left .blocks - at .left .blocks + at .left .blocks ≡ c .left .blocks = up (c .left .blocks) (at .left .blocks) (λ l. not-below (inr (inr l))) in
       rw (x, y, z)
     where
       up : (a b : ℕ) → (a < b → ⊥) → a - b + b ≡ a

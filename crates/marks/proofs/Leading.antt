@@ -124,16 +124,16 @@ module _ (l : Ladder) (some : l .low ≤ l .high) (stored mark : ℤ) where
 
 module _ (f : Figures) (ok : Sound f) (w : ℕ) (cells : List ℤ) (price : ℤ) (s x : ℕ) where
   -- what may run has what it takes
-  running : (c : Cell) → c .state ≡ s → c .starts ≡ x → mayRun f c ≡ true → (startTakes f s ≤ x) × (f .peron ≤ c .ons)
+  running : (c : Cell) → c .state ≡ s → c .left .starts ≡ x → mayRun f c ≡ true → (startTakes f s ≤ x) × (f .takes .ons ≤ c .left .ons)
   running c es ex e =
-      let run = both _ (leb (f .peron) (c .ons)) e in
-      let start = both (ltb (afterOn f (c .state)) (states f)) (leb (startTakes f (c .state)) (c .starts)) (run .0) in
-      let t = leb-true (startTakes f (c .state)) (c .starts) (start .1) in
-      (rw (es, ex) at t, leb-true (f .peron) (c .ons) (run .1))
+      let run = both _ (leb (f .takes .ons) (c .left .ons)) e in
+      let start = both (ltb (afterOn f (c .state)) (states f)) (leb (startTakes f (c .state)) (c .left .starts)) (run .0) in
+      let t = leb-true (startTakes f (c .state)) (c .left .starts) (start .1) in
+      (rw (es, ex) at t, leb-true (f .takes .ons) (c .left .ons) (run .1))
 
-  runs : (c : Cell) → c .state ≡ s → c .starts ≡ x → afterOn f s < states f → startTakes f s ≤ x → f .peron ≤ c .ons → mayRun f c ≡ true
+  runs : (c : Cell) → c .state ≡ s → c .left .starts ≡ x → afterOn f s < states f → startTakes f s ≤ x → f .takes .ons ≤ c .left .ons → mayRun f c ≡ true
   runs c es ex leads takes ons =
-      rw (es, ex, lt-ltb (afterOn f s) (states f) leads, le-leb (startTakes f s) x takes, le-leb (f .peron) (c .ons) ons)
+      rw (es, ex, lt-ltb (afterOn f s) (states f) leads, le-leb (startTakes f s) x takes, le-leb (f .takes .ons) (c .left .ons) ons)
 
   -- no start is left
   pub no-start : x < startTakes f s → (y place i : ℕ) (c : Cell) → OfPiece f s x y place i c → {v : ℤ} (m : ℤ) → v ≡ infeasible
@@ -142,15 +142,15 @@ module _ (f : Figures) (ok : Sound f) (w : ℕ) (cells : List ℤ) (price : ℤ)
       inl (λ k r. let t = running c (p .state) (p .starts) (r .2) in omega (arith, t .0, short), e)
 
   -- where the cell stands that k blocks lead to
-  leads-to : (c : Cell) → c .state ≡ s → c .starts ≡ x → (k : ℕ)
-      → index f (onCell f c k) ≡ lineOf f s x + ((c .ons - f .peron) * row f + (c .blocks - k * f .perblock))
+  leads-to : (c : Cell) → c .state ≡ s → c .left .starts ≡ x → (k : ℕ)
+      → index f (onCell f c k) ≡ lineOf f s x + ((c .left .ons - f .takes .ons) * row f + (c .left .blocks - k * f .takes .blocks))
   unfolding index
   leads-to c es ex k = rw (es, ex) (omega arith)
 
   module _ (leads : afterOn f s < states f) (takes : startTakes f s ≤ x) where
     -- what an output brings, and where it leads
-    on-is : (c : Cell) → c .state ≡ s → c .starts ≡ x → (k at : ℕ) → f .pmin ≤ k
-        → (c .ons - f .peron) * row f + (c .blocks - k * f .perblock) ≡ at
+    on-is : (c : Cell) → c .state ≡ s → c .left .starts ≡ x → (k at : ℕ) → f .pmin ≤ k
+        → (c .left .ons - f .takes .ons) * row f + (c .left .blocks - k * f .takes .blocks) ≡ at
         → (onStored f (valueOf f w cells) c price k ≡ getD cells (lineOf f s x + at) (pos 0) +ℤ brings (laddered f price s) k)
         × (markOf f w cells (onCell f c k) ≡ getD cells (w + (lineOf f s x + at)) (pos 0))
     on-is c es ex k at lo e =
@@ -160,112 +160,112 @@ module _ (f : Figures) (ok : Sound f) (w : ℕ) (cells : List ℤ) (price : ℤ)
           ap (λ (j : ℕ). getD cells (w + j) (pos 0)) place,
         )
 
-    less-on : (c : Cell) → f .peron ≤ c .ons → (c .ons - f .peron) * row f + f .peron * row f ≡ c .ons * row f
+    less-on : (c : Cell) → f .takes .ons ≤ c .left .ons → (c .left .ons - f .takes .ons) * row f + f .takes .ons * row f ≡ c .left .ons * row f
     less-on c h =
-        let e : c .ons - f .peron + f .peron ≡ c .ons = omega arith in
-        sym (add-mul (c .ons - f .peron) (f .peron) (row f)) ∙ ap (λ (n : ℕ). n * row f) e
+        let e : c .left .ons - f .takes .ons + f .takes .ons ≡ c .left .ons = omega arith in
+        sym (add-mul (c .left .ons - f .takes .ons) (f .takes .ons) (row f)) ∙ ap (λ (n : ℕ). n * row f) e
 
     -- MWh not limited
-    pub flat-on : f .perblock ≡ 0 → (place i : ℕ) (c : Cell) → OfPiece f s x 0 place i c → {v m : ℤ}
-        → FlatAt cells w (lineOf f s x) (f .peron * row f) place (betterEnd (laddered f price s)) i v m
+    pub flat-on : f .takes .blocks ≡ 0 → (place i : ℕ) (c : Cell) → OfPiece f s x 0 place i c → {v m : ℤ}
+        → FlatAt cells w (lineOf f s x) (f .takes .ons * row f) place (betterEnd (laddered f price s)) i v m
         → OnPicked f (valueOf f w cells) (markOf f w cells) price c v m
-    flat-on none place i c p {v} {m} a = by (ltb (place + i) (f .peron * row f)) refl
+    flat-on none place i c p {v} {m} a = by (ltb (place + i) (f .takes .ons * row f)) refl
       where
-        at : c .ons * row f + c .blocks ≡ place + i
+        at : c .left .ons * row f + c .left .blocks ≡ place + i
         at = let z = zero-mul (row f) in omega (arith, p .at, z)
 
-        by : (t : Bool) → ltb (place + i) (f .peron * row f) ≡ t → OnPicked f (valueOf f w cells) (markOf f w cells) price c v m
+        by : (t : Bool) → ltb (place + i) (f .takes .ons * row f) ≡ t → OnPicked f (valueOf f w cells) (markOf f w cells) price c v m
         by true e =
-            let short = ltb-true (place + i) (f .peron * row f) e in
+            let short = ltb-true (place + i) (f .takes .ons * row f) e in
             inl (
               λ k r.
                   let t = running c (p .state) (p .starts) (r .2) in
-                  let m : f .peron * row f ≤ c .ons * row f = mul-le-mul-right (row f) (t .1) in
+                  let m : f .takes .ons * row f ≤ c .left .ons * row f = mul-le-mul-right (row f) (t .1) in
                   omega (arith, m, at, short),
               a .none short,
             )
         by false e =
-            let enough = ltb-false (place + i) (f .peron * row f) e in
-            let few = in-row f (c .blocks) (p .inside .blocks) in
-            let ons : f .peron ≤ c .ons = enough-on enough few (ltb (c .ons) (f .peron)) refl in
-            let spent : (k : ℕ) → c .blocks - k * f .perblock ≡ c .blocks = λ k. let z : k * f .perblock ≡ 0 = rw none (mul-zero k) in omega (arith, z) in
-            let source : (k : ℕ) → (c .ons - f .peron) * row f + (c .blocks - k * f .perblock) ≡ place + i - f .peron * row f =
+            let enough = ltb-false (place + i) (f .takes .ons * row f) e in
+            let few = in-row f (c .left .blocks) (p .inside .left .blocks) in
+            let ons : f .takes .ons ≤ c .left .ons = enough-on enough few (ltb (c .left .ons) (f .takes .ons)) refl in
+            let spent : (k : ℕ) → c .left .blocks - k * f .takes .blocks ≡ c .left .blocks = λ k. let z : k * f .takes .blocks ≡ 0 = rw none (mul-zero k) in omega (arith, z) in
+            let source : (k : ℕ) → (c .left .ons - f .takes .ons) * row f + (c .left .blocks - k * f .takes .blocks) ≡ place + i - f .takes .ons * row f =
             λ k. omega (arith, spent k, less-on c ons, at) in
             inr
             (rw (a .value enough, a .mark enough)
-            (picked-same (λ k. getD cells (lineOf f s x + (place + i - f .peron * row f)) (pos 0) +ℤ brings (laddered f price s) k)
-            (λ k. getD cells (w + (lineOf f s x + (place + i - f .peron * row f))) (pos 0))
+            (picked-same (λ k. getD cells (lineOf f s x + (place + i - f .takes .ons * row f)) (pos 0) +ℤ brings (laddered f price s) k)
+            (λ k. getD cells (w + (lineOf f s x + (place + i - f .takes .ons * row f))) (pos 0))
             (onStored f (valueOf f w cells) c price) (λ k. markOf f w cells (onCell f c k))
-            (λ k h. (h .0, h .1, runs c (p .state) (p .starts) leads takes ons, let z : k * f .perblock ≡ 0 = rw none (mul-zero k) in omega (arith, z)))
+            (λ k h. (h .0, h .1, runs c (p .state) (p .starts) leads takes ons, let z : k * f .takes .blocks ≡ 0 = rw none (mul-zero k) in omega (arith, z)))
             (λ k h. (h .0, h .1))
-            (λ k h. on-is c (p .state) (p .starts) k (place + i - f .peron * row f) (h .0) (source k))
-            (ends-picked (laddered f price s) (ok .pmax) (getD cells (lineOf f s x + (place + i - f .peron * row f)) (pos 0))
-            (getD cells (w + (lineOf f s x + (place + i - f .peron * row f))) (pos 0)))))
+            (λ k h. on-is c (p .state) (p .starts) k (place + i - f .takes .ons * row f) (h .0) (source k))
+            (ends-picked (laddered f price s) (ok .pmax) (getD cells (lineOf f s x + (place + i - f .takes .ons * row f)) (pos 0))
+            (getD cells (w + (lineOf f s x + (place + i - f .takes .ons * row f))) (pos 0)))))
           where
-            enough-on : f .peron * row f ≤ place + i → c .blocks < row f → (t : Bool) → ltb (c .ons) (f .peron) ≡ t → f .peron ≤ c .ons
+            enough-on : f .takes .ons * row f ≤ place + i → c .left .blocks < row f → (t : Bool) → ltb (c .left .ons) (f .takes .ons) ≡ t → f .takes .ons ≤ c .left .ons
             enough-on enough few true e =
-                let l = ltb-true (c .ons) (f .peron) e in
-                let m : (c .ons + 1) * row f ≤ f .peron * row f = mul-le-mul-right (row f) (omega arith) in
-                absurd (omega (arith, m, enough, few, at, add-mul (c .ons) 1 (row f), one-mul (row f)))
-            enough-on enough few false e = ltb-false (c .ons) (f .peron) e
+                let l = ltb-true (c .left .ons) (f .takes .ons) e in
+                let m : (c .left .ons + 1) * row f ≤ f .takes .ons * row f = mul-le-mul-right (row f) (omega arith) in
+                absurd (omega (arith, m, enough, few, at, add-mul (c .left .ons) 1 (row f), one-mul (row f)))
+            enough-on enough few false e = ltb-false (c .left .ons) (f .takes .ons) e
 
     -- limited
-    blocks-are : f .perblock ≡ 1 → (y place i : ℕ) (c : Cell) → OfPiece f s x y place i c → c .blocks ≡ place + i
+    blocks-are : f .takes .blocks ≡ 1 → (y place i : ℕ) (c : Cell) → OfPiece f s x y place i c → c .left .blocks ≡ place + i
     blocks-are one y place i c p =
         let e = p .line one in
-        let m : c .ons * row f ≡ y * row f = ap (λ (n : ℕ). n * row f) e in
+        let m : c .left .ons * row f ≡ y * row f = ap (λ (n : ℕ). n * row f) e in
         omega (arith, m, p .at)
 
-    pub lined-none : f .perblock ≡ 1 → (y place i : ℕ) → (y < f .peron) ⊎ (place + i < f .pmin) → (c : Cell) → OfPiece f s x y place i c → {v : ℤ} (m : ℤ)
+    pub lined-none : f .takes .blocks ≡ 1 → (y place i : ℕ) → (y < f .takes .ons) ⊎ (place + i < f .pmin) → (c : Cell) → OfPiece f s x y place i c → {v : ℤ} (m : ℤ)
         → v ≡ infeasible → OnPicked f (valueOf f w cells) (markOf f w cells) price c v m
     lined-none one y place i short c p m e =
         let b = blocks-are one y place i c p in
         inl (
           λ k r.
               let t = running c (p .state) (p .starts) (r .2) in
-              let n : k * f .perblock ≡ k = rw one (mul-one k) in
-              ⊎-elim (λ (h : y < f .peron). omega (arith, h, t .1, p .line one)) (λ (h : place + i < f .pmin). omega (arith, h, n, b, r .0, r .3)) short,
+              let n : k * f .takes .blocks ≡ k = rw one (mul-one k) in
+              ⊎-elim (λ (h : y < f .takes .ons). omega (arith, h, t .1, p .line one)) (λ (h : place + i < f .pmin). omega (arith, h, n, b, r .0, r .3)) short,
           e,
         )
 
-    pub lined-on : f .perblock ≡ 1 → (y place i : ℕ) → f .peron ≤ y → (c : Cell) → OfPiece f s x y place i c → {v m : ℤ}
-        → PickedAt (laddered f price s) cells w (lineOf f s x + (y - f .peron) * row f) (place + i) v m
+    pub lined-on : f .takes .blocks ≡ 1 → (y place i : ℕ) → f .takes .ons ≤ y → (c : Cell) → OfPiece f s x y place i c → {v m : ℤ}
+        → PickedAt (laddered f price s) cells w (lineOf f s x + (y - f .takes .ons) * row f) (place + i) v m
         → OnPicked f (valueOf f w cells) (markOf f w cells) price c v m
     lined-on one y place i ons c p {v} {m} a =
         let b = blocks-are one y place i c p in
         let line = p .line one in
-        let have : f .peron ≤ c .ons = omega (arith, ons, line) in
-        let at : (k : ℕ) → k ≤ place + i → (c .ons - f .peron) * row f + (c .blocks - k * f .perblock) ≡ (y - f .peron) * row f + (place + i - k) =
+        let have : f .takes .ons ≤ c .left .ons = omega (arith, ons, line) in
+        let at : (k : ℕ) → k ≤ place + i → (c .left .ons - f .takes .ons) * row f + (c .left .blocks - k * f .takes .blocks) ≡ (y - f .takes .ons) * row f + (place + i - k) =
         λ k h.
-        let n : k * f .perblock ≡ k = rw one (mul-one k) in
-        let e : (c .ons - f .peron) * row f ≡ (y - f .peron) * row f = ap (λ (j : ℕ). (j - f .peron) * row f) line in
+        let n : k * f .takes .blocks ≡ k = rw one (mul-one k) in
+        let e : (c .left .ons - f .takes .ons) * row f ≡ (y - f .takes .ons) * row f = ap (λ (j : ℕ). (j - f .takes .ons) * row f) line in
         omega (arith, n, e, b) in
-        let grouped : (k : ℕ) → lineOf f s x + ((y - f .peron) * row f + (place + i - k)) ≡ lineOf f s x + (y - f .peron) * row f + (place + i - k) =
+        let grouped : (k : ℕ) → lineOf f s x + ((y - f .takes .ons) * row f + (place + i - k)) ≡ lineOf f s x + (y - f .takes .ons) * row f + (place + i - k) =
         λ k. omega arith in
         inr
-        (picked-same (worth (laddered f price s) cells w (lineOf f s x + (y - f .peron) * row f) (place + i))
-        (markBy (laddered f price s) cells w (lineOf f s x + (y - f .peron) * row f) (place + i))
+        (picked-same (worth (laddered f price s) cells w (lineOf f s x + (y - f .takes .ons) * row f) (place + i))
+        (markBy (laddered f price s) cells w (lineOf f s x + (y - f .takes .ons) * row f) (place + i))
         (onStored f (valueOf f w cells) c price) (λ k. markOf f w cells (onCell f c k))
-        (λ k h. (h .0, h .1, runs c (p .state) (p .starts) leads takes have, let n : k * f .perblock ≡ k = rw one (mul-one k) in omega (arith, n, b, h .2)))
-        (λ k h. (h .0, h .1, let n : k * f .perblock ≡ k = rw one (mul-one k) in omega (arith, n, b, h .3)))
+        (λ k h. (h .0, h .1, runs c (p .state) (p .starts) leads takes have, let n : k * f .takes .blocks ≡ k = rw one (mul-one k) in omega (arith, n, b, h .2)))
+        (λ k h. (h .0, h .1, let n : k * f .takes .blocks ≡ k = rw one (mul-one k) in omega (arith, n, b, h .3)))
         (λ k h.
-        let r = on-is c (p .state) (p .starts) k ((y - f .peron) * row f + (place + i - k)) (h .0) (at k (h .2)) in
+        let r = on-is c (p .state) (p .starts) k ((y - f .takes .ons) * row f + (place + i - k)) (h .0) (at k (h .2)) in
         rw (grouped k) at r)
         a)
 
 -- ---- the line stands in the layer
 
-pub line-fits : (f : Figures) (s x : ℕ) → afterOn f s < states f → x ≤ f .starts → lineOf f s x + span f ≤ width f
+pub line-fits : (f : Figures) (s x : ℕ) → afterOn f s < states f → x ≤ f .most .starts → lineOf f s x + span f ≤ width f
 line-fits f s x leads starts =
     let a = section-fits f (afterOn f s) leads in
     let b = span-fits f (x - startTakes f s) (omega arith) in
     omega (arith, a, b)
 
-pub row-in-line : (f : Figures) (s x y : ℕ) → afterOn f s < states f → x ≤ f .starts → y ≤ f .ons
-    → lineOf f s x + (y - f .peron) * row f + row f ≤ width f
+pub row-in-line : (f : Figures) (s x y : ℕ) → afterOn f s < states f → x ≤ f .most .starts → y ≤ f .most .ons
+    → lineOf f s x + (y - f .takes .ons) * row f + row f ≤ width f
 row-in-line f s x y leads starts ons =
     let a = line-fits f s x leads starts in
-    let b = row-fits f (y - f .peron) (omega arith) in
+    let b = row-fits f (y - f .takes .ons) (omega arith) in
     omega (arith, a, b)
 
 -- ---- a place is one line and one column
@@ -306,13 +306,13 @@ module _ (f : Figures) (w : ℕ) (cells : List ℤ) (price : ℤ) (s x y place c
       let c = numbered f (afterOn f s * section f + off + i) (omega (arith, here)) in
       let e : c .of .state * section f + columnOf f (c .of) ≡ afterOn f s * section f + (off + i) = index-is (c .of) ∙ (omega (arith, c .is)) in
       let u = same-place (section f) (c .of .state) (afterOn f s) (columnOf f (c .of)) (off + i)
-      (in-section f (c .of .starts) (c .of .ons) (c .of .blocks) (c .inside .starts) (c .inside .ons) (c .inside .blocks)) (omega arith) e in
+      (in-section f (c .of .left .starts) (c .of .left .ons) (c .of .left .blocks) (c .inside .left .starts) (c .inside .left .ons) (c .inside .left .blocks)) (omega arith) e in
       rw (← c .is) (a .small (c .of) (c .inside) (u .0) (omega (arith, u .1)))
 
   spans : (x - startTakes f s) * span f ≤ x * span f
   spans = mul-le-mul-right (span f) (omega arith)
 
-  flat-small : f .perblock ≡ 0 → Small cells (lineOf f s x) (place + count)
+  flat-small : f .takes .blocks ≡ 0 → Small cells (lineOf f s x) (place + count)
   flat-small none =
       let fit = span-fits f (x - startTakes f s) (omega (arith, a .starts)) in
       let k = a .flat none in
@@ -323,30 +323,30 @@ module _ (f : Figures) (w : ℕ) (cells : List ℤ) (price : ℤ) (s x y place c
       (rw z at (small-from 0 ((x - startTakes f s) * span f + (place + count)) (omega (arith, spans)) (omega (arith, fit, k .1))
       ((x - startTakes f s) * span f + i) (omega arith)))
 
-  lined-small : f .perblock ≡ 1 → Small cells (lineOf f s x + (y - f .peron) * row f) (place + count)
+  lined-small : f .takes .blocks ≡ 1 → Small cells (lineOf f s x + (y - f .takes .ons) * row f) (place + count)
   lined-small one =
       let k = a .lined one in
-      let rows : (y - f .peron) * row f ≤ y * row f = mul-le-mul-right (row f) (omega arith) in
+      let rows : (y - f .takes .ons) * row f ≤ y * row f = mul-le-mul-right (row f) (omega arith) in
       let fit = span-fits f (x - startTakes f s) (omega (arith, a .starts)) in
-      let in-span = row-fits f (y - f .peron) (omega (arith, k .0)) in
+      let in-span = row-fits f (y - f .takes .ons) (omega (arith, k .0)) in
       λ i h.
-      let off = (x - startTakes f s) * span f + (y - f .peron) * row f in
-      let e : lineOf f s x + (y - f .peron) * row f + i ≡ afterOn f s * section f + (off + i) = omega arith in
+      let off = (x - startTakes f s) * span f + (y - f .takes .ons) * row f in
+      let e : lineOf f s x + (y - f .takes .ons) * row f + i ≡ afterOn f s * section f + (off + i) = omega arith in
       let z : afterOn f s * section f + 0 + (off + i) ≡ afterOn f s * section f + (off + i) = omega arith in
       rw e
       (rw z at (small-from 0 (off + (place + count)) (omega (arith, spans, rows)) (omega (arith, fit, in-span, k .1)) (off + i) (omega arith)))
 
-  pub flat-line : f .perblock ≡ 0 → FlatLine cells w (lineOf f s x) place count (betterEnd (laddered f price s))
+  pub flat-line : f .takes .blocks ≡ 0 → FlatLine cells w (lineOf f s x) place count (betterEnd (laddered f price s))
   flat-line none =
       let fits = line-fits f s x (a .leads) (a .starts) in
       let room : lineOf f s x + (place + count) ≤ w = omega (arith, fits, a .wide, a .flat none .1) in
       record { values = room; marks = a .marks; small = flat-small none; gains = end-small (laddered f price s) steady }
 
-  pub lined-piece : f .perblock ≡ 1 → f .pmin ≤ place → Piece (laddered f price s) cells w (lineOf f s x + (y - f .peron) * row f) place count
+  pub lined-piece : f .takes .blocks ≡ 1 → f .pmin ≤ place → Piece (laddered f price s) cells w (lineOf f s x + (y - f .takes .ons) * row f) place count
   lined-piece one lo =
       let k = a .lined one in
       let fits = row-in-line f s x y (a .leads) (a .starts) (k .0) in
-      let room : lineOf f s x + (y - f .peron) * row f + (place + count) ≤ w = omega (arith, fits, a .wide, k .1) in
+      let room : lineOf f s x + (y - f .takes .ons) * row f + (place + count) ≤ w = omega (arith, fits, a .wide, k .1) in
       ⊎-elim (λ (h : place + count ≤ f .pmin). absurd (omega (arith, a .some)))
       (λ (c : WholeChunks f place count).
       record {

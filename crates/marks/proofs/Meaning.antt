@@ -39,7 +39,7 @@ module _ (f : Figures) (ok : Sound f) (q : Quarter) (stored marked : Cell → �
       by true e =
           ≤ℤ-antisym
           (raised-least (roomFor f stored c) reach base (f .pmin) (rungs f) base (≤ℤ-refl base)
-          (λ j l u r. absurd (none j (l, omega (arith, ok .pmax), e, leb-true (j * f .perblock) (c .blocks) r))))
+          (λ j l u r. absurd (none j (l, omega (arith, ok .pmax), e, leb-true (j * f .takes .blocks) (c .left .blocks) r))))
           (raised-above (roomFor f stored c) reach base (f .pmin) (rungs f))
       by false e = refl
 
@@ -52,22 +52,22 @@ module _ (f : Figures) (ok : Sound f) (q : Quarter) (stored marked : Cell → �
         let up = raised-above (roomFor f stored c) reach base (f .pmin) (rungs f) in
         let on : v ≤ℤ raised (roomFor f stored c) reach base (f .pmin) (rungs f) =
         rw (← p .is) (raised-reach (roomFor f stored c) reach base (f .pmin) (rungs f) (p .at) (r .0) (omega (arith, r .1, ok .pmax))
-        (le-leb (p .at * f .perblock) (c .blocks) (r .3))) in
+        (le-leb (p .at * f .takes .blocks) (c .left .blocks) (r .3))) in
         let down = raised-least (roomFor f stored c) reach base (f .pmin) (rungs f) best b
-        (λ j l u fits. ≤ℤ-trans (p .most j (l, omega (arith, u, ok .pmax), r .2, leb-true (j * f .perblock) (c .blocks) fits)) o) in
+        (λ j l u fits. ≤ℤ-trans (p .most j (l, omega (arith, u, ok .pmax), r .2, leb-true (j * f .takes .blocks) (c .left .blocks) fits)) o) in
         rw (r .2)
         (≤ℤ-antisym down (⊎-elim (λ (h : best ≤ℤ base). ≤ℤ-trans h up) (λ (h : best ≤ℤ v). ≤ℤ-trans h on) one))
 
     picked-first : firstOn f stored c (q .price) v (f .pmin) (rungs f) ≡ p .at
     picked-first =
         let r = p .inside in
-        first-at f stored c (q .price) v (p .at) (r .0) (r .1) (λ j l u. short j l u (leb (j * f .perblock) (c .blocks)) refl)
-        (rw (le-leb (p .at * f .perblock) (c .blocks) (r .3), p .is, le-ltZ v v (≤ℤ-refl v)))
+        first-at f stored c (q .price) v (p .at) (r .0) (r .1) (λ j l u. short j l u (leb (j * f .takes .blocks) (c .left .blocks)) refl)
+        (rw (le-leb (p .at * f .takes .blocks) (c .left .blocks) (r .3), p .is, le-ltZ v v (≤ℤ-refl v)))
       where
-        short : (j : ℕ) → f .pmin ≤ j → j < p .at → (t : Bool) → leb (j * f .perblock) (c .blocks) ≡ t → (t && not (ltZ (reach j) v)) ≡ false
+        short : (j : ℕ) → f .pmin ≤ j → j < p .at → (t : Bool) → leb (j * f .takes .blocks) (c .left .blocks) ≡ t → (t && not (ltZ (reach j) v)) ≡ false
         short j l u true e =
             let r = p .inside in
-            rw (lt-ltZ (reach j) v (p .first j (l, omega (arith, r .1), r .2, leb-true (j * f .perblock) (c .blocks) e) u))
+            rw (lt-ltZ (reach j) v (p .first j (l, omega (arith, r .1), r .2, leb-true (j * f .takes .blocks) (c .left .blocks) e) u))
         short j l u false e = refl
 
   module _ {v m : ℤ} (t : Turn f q stored marked c v m) (floor : infeasible ≤ℤ base) where

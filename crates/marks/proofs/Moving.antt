@@ -115,7 +115,7 @@ module _ (f : Figures) (w : ℕ) (was now : List ℤ) (s column count : ℕ) whe
 pub column-of : (f : Figures) (s x y place i column : ℕ) (c : Cell) → column ≡ x * span f + (y * row f + place) → OfPiece f s x y place i c
     → columnOf f c ≡ column + i
 column-of f s x y place i column c e p =
-    let m : c .starts * span f ≡ x * span f = ap (λ (n : ℕ). n * span f) (p .starts) in
+    let m : c .left .starts * span f ≡ x * span f = ap (λ (n : ℕ). n * span f) (p .starts) in
     omega (arith, e, m, p .at)
 
 pub turned-here : (f : Figures) (q : Quarter) (w : ℕ) (was mid now empty ran : List ℤ) (s x y place column to count : ℕ)

@@ -51,7 +51,7 @@ module _ (f : Figures) (ok : Sound f) (q : Quarter) (w : ℕ) (wide : w ≡ widt
   elsewhere s c h other = by (ltb (c .state) s) refl (ltb s (c .state)) refl
     where
       here : columnOf f c < section f
-      here = in-section f (c .starts) (c .ons) (c .blocks) (h .starts) (h .ons) (h .blocks)
+      here = in-section f (c .left .starts) (c .left .ons) (c .left .blocks) (h .left .starts) (h .left .ons) (h .left .blocks)
 
       by : (a : Bool) → ltb (c .state) s ≡ a → (b : Bool) → ltb s (c .state) ≡ b
           → (index f c < s * section f + column) ⊎ (s * section f + column + count ≤ index f c)

@@ -35,7 +35,7 @@ module _ (f : Figures) (s : ℕ) (oldest : s + 2 ≡ f .mot) where
   module _ (c : Cell) (is : c .state ≡ s + 1) where
     -- the same, one interval younger
     abbrev younger : Cell
-    younger = cell s (c .starts) (c .ons) (c .blocks)
+    younger = cell s (c .left .starts) (c .left .ons) (c .left .blocks)
 
     after : afterOn f s ≡ afterOn f (c .state)
     after = after-younger ∙ sym after-oldest ∙ sym (ap (afterOn f) is)
@@ -47,10 +47,10 @@ module _ (f : Figures) (s : ℕ) (oldest : s + 2 ≡ f .mot) where
     pays = rw (is, lt-ltb s (f .mot) (omega (arith, oldest)), lt-ltb (s + 1) (f .mot) (omega (arith, oldest)))
 
     leads : (k : ℕ) → onCell f younger k ≡ onCell f c k
-    leads k = ap₂ (λ (t n : ℕ). cell t (c .starts - n) (c .ons - f .peron) (c .blocks - k * f .perblock)) after takes
+    leads k = ap₂ (λ (t n : ℕ). cell t (c .left .starts - n) (c .left .ons - f .takes .ons) (c .left .blocks - k * f .takes .blocks)) after takes
 
     may : mayRun f younger ≡ mayRun f c
-    may = ap₂ (λ (t n : ℕ). ltb t (states f) && leb n (c .starts) && leb (f .peron) (c .ons)) after takes
+    may = ap₂ (λ (t n : ℕ). ltb t (states f) && leb n (c .left .starts) && leb (f .takes .ons) (c .left .ons)) after takes
 
     on-older : (stored marked stored′ marked′ : Cell → ℤ)
         → ((k : ℕ) → Runs f c k → (stored (onCell f c k) ≡ stored′ (onCell f c k)) × (marked (onCell f c k) ≡ marked′ (onCell f c k)))
@@ -79,13 +79,13 @@ pub next-image : (f : Figures) → Sound f → (q : Quarter) (w : ℕ) → w ≡
     → {Stands : ℕ → ℤ → ℤ → Type 0} (was now ran : List ℤ) (s : ℕ) → s + 2 ≡ f .mot → Pairs w Stands was now (s * section f + column) count
     → (before : List ℤ) → Imaged (OnHere f q w was s x y place) before ran count → Imaged (OnHere f q w now (s + 1) x y place) ran ran count
 next-image f ok q w wide x y place column count at fits {Stands} was now ran s oldest p before image =
-    record { inside = λ i h c o. older i c o (image .inside i h (cell s (c .starts) (c .ons) (c .blocks)) (same-place i c o)); same = refl }
+    record { inside = λ i h c o. older i c o (image .inside i h (cell s (c .left .starts) (c .left .ons) (c .left .blocks)) (same-place i c o)); same = refl }
   where
-    same-place : (i : ℕ) (c : Cell) → OfPiece f (s + 1) x y place i c → OfPiece f s x y place i (cell s (c .starts) (c .ons) (c .blocks))
+    same-place : (i : ℕ) (c : Cell) → OfPiece f (s + 1) x y place i c → OfPiece f s x y place i (cell s (c .left .starts) (c .left .ons) (c .left .blocks))
     same-place i c o =
         let h = o .inside in
         record {
-          inside = record { state = omega (arith, oldest, ok .mdt); starts = h .starts; ons = h .ons; blocks = h .blocks };
+          inside = record { state = omega (arith, oldest, ok .mdt); left = record { starts = h .left .starts; ons = h .left .ons; blocks = h .left .blocks } };
           state = refl;
           starts = o .starts;
           at = o .at;
@@ -93,7 +93,7 @@ next-image f ok q w wide x y place column count at fits {Stands} was now ran s o
         }
 
     older : (i : ℕ) (c : Cell) → OfPiece f (s + 1) x y place i c → {v m : ℤ}
-        → OnAt f q (valueOf f w was) (markOf f w was) (cell s (c .starts) (c .ons) (c .blocks)) v m → OnAt f q (valueOf f w now) (markOf f w now) c v m
+        → OnAt f q (valueOf f w was) (markOf f w was) (cell s (c .left .starts) (c .left .ons) (c .left .blocks)) v m → OnAt f q (valueOf f w now) (markOf f w now) c v m
     older i c o {v} {m} on =
         record {
           opened = λ e.

@@ -21,8 +21,8 @@ use Rattle.carrying.proofs.Picking.{picked-same}
 -- what may run leads on
 pub runs-on : (f : Figures) (c : Cell) → mayRun f c ≡ true → afterOn f (c .state) < states f
 runs-on f c e =
-    let run = both _ (leb (f .peron) (c .ons)) e in
-    let start = both (ltb (afterOn f (c .state)) (states f)) (leb (startTakes f (c .state)) (c .starts)) (run .0) in
+    let run = both _ (leb (f .takes .ons) (c .left .ons)) e in
+    let start = both (ltb (afterOn f (c .state)) (states f)) (leb (startTakes f (c .state)) (c .left .starts)) (run .0) in
     ltb-true (afterOn f (c .state)) (states f) (start .0)
 
 module _ (f : Figures) (stored marked stored′ marked′ : Cell → ℤ) (c : Cell)

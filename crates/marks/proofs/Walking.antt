@@ -84,7 +84,7 @@ module _ (f : Figures) (ends : Cell → BestProfit) (later : List Quarter) where
       (was now : List ℤ) (given : Cell → ℤ) (m : MarkedLayer f ends front later given (valueOf f w was) (markOf f w was))
       (turned : Columns f q w was now 0 (section f)) where
     turn : (c : Cell) → InTable f c → Turn f q (valueOf f w was) (markOf f w was) c (valueOf f w now c) (markOf f w now c)
-    turn c i = turned .done c i (omega arith) (in-section f (c .starts) (c .ons) (c .blocks) (i .starts) (i .ons) (i .blocks))
+    turn c i = turned .done c i (omega arith) (in-section f (c .left .starts) (c .left .ons) (c .left .blocks) (i .left .starts) (i .left .ons) (i .left .blocks))
 
     floor : (c : Cell) → InTable f c → infeasible ≤ℤ offStored f (valueOf f w was) c
     floor c i =

@@ -42,11 +42,11 @@ module _ (f : Figures) (w : ℕ) (cells : List ℤ) where
 
 -- by its column, the place of a cell among those of its state
 abbrev pub columnOf : Figures → Cell → ℕ
-columnOf f c = c .starts * span f + (c .ons * row f + c .blocks)
+columnOf f c = c .left .starts * span f + (c .left .ons * row f + c .left .blocks)
 
 -- the outputs on that a cell allows
 abbrev pub Runs : Figures → Cell → ℕ → Type 0
-Runs f c k = (f .pmin ≤ k) × (k ≤ f .pmax) × (mayRun f c ≡ true) × (k * f .perblock ≤ c .blocks)
+Runs f c k = (f .pmin ≤ k) × (k ≤ f .pmax) × (mayRun f c ≡ true) × (k * f .takes .blocks ≤ c .left .blocks)
 
 -- an interval on, or none
 abbrev pub OnPicked : Figures → (Cell → ℤ) → (Cell → ℤ) → ℤ → Cell → ℤ → ℤ → Type 0
@@ -57,9 +57,9 @@ OnPicked f stored marked price c v m =
 pub record OfPiece (f : Figures) (s x y place i : ℕ) (c : Cell) : Type 0 where
   pub inside : InTable f c
   pub state : c .state ≡ s
-  pub starts : c .starts ≡ x
-  pub at : c .ons * row f + c .blocks ≡ y * row f + (place + i)
-  pub line : f .perblock ≡ 1 → c .ons ≡ y
+  pub starts : c .left .starts ≡ x
+  pub at : c .left .ons * row f + c .left .blocks ≡ y * row f + (place + i)
+  pub line : f .takes .blocks ≡ 1 → c .left .ons ≡ y
 
 abbrev pub OnOf : Figures → ℕ → List ℤ → ℤ → ℕ → ℕ → ℕ → ℕ → ℕ → ℤ → ℤ → Type 0
 OnOf f w cells price s x y place i v m = (c : Cell) → OfPiece f s x y place i c → OnPicked f (valueOf f w cells) (markOf f w cells) price c v m
@@ -90,11 +90,11 @@ pub record OnAsked (f : Figures) (w : ℕ) (cells : List ℤ) (price : ℤ) (s x
       → natAbs (valueOf f w cells c) ≤ 2 ^ 62
   pub state : s < states f
   pub leads : afterOn f s < states f
-  pub starts : x ≤ f .starts
+  pub starts : x ≤ f .most .starts
   pub some : 1 ≤ count
   pub few : count ≤ piece
-  pub flat : f .perblock ≡ 0 → (y ≡ 0) × (place + count ≤ span f)
-  pub lined : f .perblock ≡ 1 → (y ≤ f .ons) × (place + count ≤ row f) × ((place + count ≤ f .pmin) ⊎ WholeChunks f place count)
+  pub flat : f .takes .blocks ≡ 0 → (y ≡ 0) × (place + count ≤ span f)
+  pub lined : f .takes .blocks ≡ 1 → (y ≤ f .most .ons) × (place + count ≤ row f) × ((place + count ≤ f .pmin) ⊎ WholeChunks f place count)
 
 -- where a start is left, the line and the outputs
 pub record Behind (f : Figures) (price : ℤ) (s x line : ℕ) (l : Ladder) : Type 0 where

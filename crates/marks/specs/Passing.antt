@@ -38,18 +38,18 @@ pub record Before (f : Figures) (w : ℕ) (cells : List ℤ) (price : ℤ) (to :
 
 -- a line: a row where MWh is limited, else a span
 pub record Line (f : Figures) (x y start long : ℕ) : Type 0 where
-  pub starts : x ≤ f .starts
+  pub starts : x ≤ f .most .starts
   pub begins : start ≡ x * span f + y * row f
-  pub flat : f .perblock ≡ 0 → (y ≡ 0) × (long ≡ span f)
-  pub lined : f .perblock ≡ 1 → (y ≤ f .ons) × (long ≡ row f)
+  pub flat : f .takes .blocks ≡ 0 → (y ≡ 0) × (long ≡ span f)
+  pub lined : f .takes .blocks ≡ 1 → (y ≤ f .most .ons) × (long ≡ row f)
 
 -- the first of its places with blocks enough to run
 abbrev pub firstOf : Figures → ℕ → ℕ
-firstOf f long = min long (f .perblock * f .pmin)
+firstOf f long = min long (f .takes .blocks * f .pmin)
 
 -- the columns of x starts left
 pub record Span (f : Figures) (x sections start : ℕ) : Type 0 where
-  pub starts : x ≤ f .starts
+  pub starts : x ≤ f .most .starts
   pub sections-are : sections ≡ section f
   pub begins : start ≡ x * span f
 

@@ -16,7 +16,7 @@ use Rattle.commitment.specs.Best.{plan}
 use Rattle.optimality.specs.declared.Cell.{Cell}
 use Rattle.optimality.specs.declared.Figures.{Figures}
 use Rattle.optimality.specs.Machine.{Quarter, go, inQuarter, walk}
-use Rattle.optimality.specs.Cells.{Sound, InTable, cell, cellStep, planAt, valueAt}
+use Rattle.optimality.specs.Cells.{Sound, InTable, less, cellStep, planAt, valueAt}
 use Rattle.geometry.specs.Geometry.{width, index}
 use Rattle.geometry.specs.Layers.{Layer}
 use Rattle.marks.specs.Lines.{valueOf, markOf}
@@ -78,8 +78,8 @@ pub record Numbered (f : Figures) (w : ℕ) (was now : List ℤ) (quarters : Lis
 
 -- plans end in a state with nothing left
 abbrev pub endsIn : ℕ → Cell → BestProfit
-endsIn s c = cond (eqb (c .state) s && eqb (c .starts) 0 && eqb (c .ons) 0 && eqb (c .blocks) 0) (Profit (pos 0)) Nothing
+endsIn s c = cond (eqb (c .state) s && eqb (c .left .starts) 0 && eqb (c .left .ons) 0 && eqb (c .left .blocks) 0) (Profit (pos 0)) Nothing
 
 -- what a plan from c spends on the way to `at`
 abbrev pub spent : Cell → Cell → Cell
-spent c at = cell (c .state) (c .starts - at .starts) (c .ons - at .ons) (c .blocks - at .blocks)
+spent c at = record { state = c .state; left = less (c .left) (at .left) }

@@ -94,9 +94,9 @@ pub record PieceAsked (f : Figures) (w : ℕ) (cells : List ℤ) (price : ℤ) (
   pub wide : w ≡ width f
   pub marks : w + w ≤ length cells
   pub small : (c : Cell) → InTable f c → columnOf f c < column + count → natAbs (valueOf f w cells c) ≤ 2 ^ 62
-  pub starts : x ≤ f .starts
+  pub starts : x ≤ f .most .starts
   pub some : 1 ≤ count
   pub few : count ≤ piece
-  pub flat : f .perblock ≡ 0 → (y ≡ 0) × (place + count ≤ span f)
-  pub lined : f .perblock ≡ 1 → (y ≤ f .ons) × (place + count ≤ row f) × ((place + count ≤ f .pmin) ⊎ WholeChunks f place count)
+  pub flat : f .takes .blocks ≡ 0 → (y ≡ 0) × (place + count ≤ span f)
+  pub lined : f .takes .blocks ≡ 1 → (y ≤ f .most .ons) × (place + count ≤ row f) × ((place + count ≤ f .pmin) ⊎ WholeChunks f place count)
   pub columns : InColumn f x y place sections column count

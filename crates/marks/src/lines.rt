@@ -43,7 +43,7 @@ fn flat(
 
 // The line that an interval on leads to from the spans of x starts left.
 fn line_behind(f: Figures, s: usize, x: usize) -> usize
-    requires { ⌜ (Sound f) × (s < states f) × (afterOn f s < states f) × (startTakes f s ≤ x) × (x ≤ f .starts) ⌝ }
+    requires { ⌜ (Sound f) × (s < states f) × (afterOn f s < states f) × (startTakes f s ≤ x) × (x ≤ f .most .starts) ⌝ }
     ensures { λ r. ⌜ r ≡ lineOf f s x ⌝ }
 {
     let section = geometry::section_cells(f);
@@ -66,11 +66,11 @@ fn flat_image(
     count: usize,
     out: &mut [i64],
 )
-    requires { ⌜ (OnAsked f w (now cells) price s x 0 place count) × (f .perblock ≡ 0) × (piece + piece ≤ length (now out)) ⌝ }
+    requires { ⌜ (OnAsked f w (now cells) price s x 0 place count) × (f .takes .blocks ≡ 0) × (piece + piece ≤ length (now out)) ⌝ }
     requires { ⌜ Behind f price s x line l ⌝ }
     ensures { λ _. ⌜ Imaged (OnOf f w (now (cells .entry)) price s x 0 place) (now (out .entry)) (now (out .exit)) count ⌝ }
 {
-    let skipped = f.peron * geometry::row_cells(f);
+    let skipped = f.takes.ons * geometry::row_cells(f);
     flat(
         cells,
         w,
@@ -98,16 +98,24 @@ fn lined_image(
     count: usize,
     out: &mut [i64],
 )
-    requires { ⌜ (OnAsked f w (now cells) price s x y place count) × (f .perblock ≡ 1) × (piece + piece ≤ length (now out)) ⌝ }
+    requires { ⌜ (OnAsked f w (now cells) price s x y place count) × (f .takes .blocks ≡ 1) × (piece + piece ≤ length (now out)) ⌝ }
     requires { ⌜ Behind f price s x line l ⌝ }
     ensures { λ _. ⌜ Imaged (OnOf f w (now (cells .entry)) price s x y place) (now (out .entry)) (now (out .exit)) count ⌝ }
 {
     let low = l.low;
-    if (y < f.peron) | (place < low) {
+    if (y < f.takes.ons) | (place < low) {
         images::nothing(out, count);
     } else {
         let row = geometry::row_cells(f);
-        images::windows(cells, w, line + (y - f.peron) * row, place, count, l, out);
+        images::windows(
+            cells,
+            w,
+            line + (y - f.takes.ons) * row,
+            place,
+            count,
+            l,
+            out,
+        );
     }
 }
 
@@ -133,7 +141,7 @@ pub fn image(
     }
     let l = steps::ladder(f, price, steps::start_pays(f, s));
     let line = line_behind(f, s, x);
-    if f.perblock == 0 {
+    if f.takes.blocks == 0 {
         flat_image(cells, w, f, price, s, x, line, l, place, count, out);
     } else {
         lined_image(cells, w, f, price, s, x, y, line, l, place, count, out);

@@ -86,7 +86,7 @@ fn step_line(
     requires { ⌜ (piece + piece ≤ length (now begun)) × (piece + piece ≤ length (now ran)) ⌝ }
     ensures { λ _. ⌜ Columns f (quarter price opens) w (now (cells .entry)) (now (cells .exit)) start (start + long) ⌝ }
 {
-    let first = integers::smaller(long, f.perblock * f.pmin);
+    let first = integers::smaller(long, f.takes.blocks * f.pmin);
     upper_pieces(
         &mut *cells,
         w,
@@ -134,12 +134,12 @@ fn step_rows(
     begun: &mut [i64],
     ran: &mut [i64],
 )
-    requires { ⌜ (Before f w (now cells) price (start + geometry.span f)) × (Span f x section start) × (f .perblock ≡ 1) ⌝ }
+    requires { ⌜ (Before f w (now cells) price (start + geometry.span f)) × (Span f x section start) × (f .takes .blocks ≡ 1) ⌝ }
     requires { ⌜ (piece + piece ≤ length (now begun)) × (piece + piece ≤ length (now ran)) ⌝ }
     ensures { λ _. ⌜ Columns f (quarter price opens) w (now (cells .entry)) (now (cells .exit)) start (start + geometry.span f) ⌝ }
 {
     let row = geometry::row_cells(f);
-    let mut y = f.ons + 1;
+    let mut y = f.most.ons + 1;
     while 0 < y {
         y -= 1;
         step_line(
@@ -176,7 +176,7 @@ fn step_span(
     requires { ⌜ (piece + piece ≤ length (now begun)) × (piece + piece ≤ length (now ran)) ⌝ }
     ensures { λ _. ⌜ Columns f (quarter price opens) w (now (cells .entry)) (now (cells .exit)) start (start + geometry.span f) ⌝ }
 {
-    if f.perblock == 0 {
+    if f.takes.blocks == 0 {
         let span = geometry::span_cells(f);
         step_line(
             cells,
@@ -213,7 +213,7 @@ pub fn step(
 {
     let span = geometry::span_cells(f);
     let section = geometry::section_cells(f);
-    let mut x = f.starts + 1;
+    let mut x = f.most.starts + 1;
     while 0 < x {
         x -= 1;
         step_span(cells, w, f, price, opens, x, section, x * span, begun, ran);

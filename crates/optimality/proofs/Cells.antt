@@ -15,6 +15,7 @@ use Rattle.commitment.specs.declared.UnitRecord.{UnitRecord}
 use Rattle.commitment.specs.Profit.{earned, startCost}
 use Rattle.commitment.specs.Best.{outputs}
 use Rattle.lists.proofs.Conjunctions.{both}
+use Rattle.optimality.specs.declared.Budgets.{Budgets}
 use Rattle.optimality.specs.declared.Figures.{Figures}
 use Rattle.optimality.specs.declared.Cell.{Cell}
 use Rattle.optimality.specs.Machine.{go, anywhere, Quarter, inQuarter, bestFrom}
@@ -32,13 +33,13 @@ abbrev pub Timed : UnitRecord → Bool → ℕ → ℕ → Type 0
 Timed u true spent s = (1 ≤ spent) × (s + 1 ≡ min spent (u .generator .mot))
 Timed u false spent s = (1 ≤ spent) × (s + 1 ≡ u .generator .mot + min spent (u .generator .mdt))
 
-abbrev Budgets : UnitRecord → ℕ → Limit → Limit → Limit → Cell → Type 0
-Budgets u n a b c x =
-    Left 1 1 (takenOf (u .limits .starts)) n a (x .starts) × Left 1 1 (takenOf (u .limits .hours)) n b (x .ons)
-    × Left (u .generator .block) (u .generator .pmax) (takenOf (u .limits .mwh)) n c (x .blocks)
+abbrev AsLeft : UnitRecord → ℕ → Limit → Limit → Limit → Cell → Type 0
+AsLeft u n a b c x =
+    Left 1 1 (takenOf (u .limits .starts)) n a (x .left .starts) × Left 1 1 (takenOf (u .limits .hours)) n b (x .left .ons)
+    × Left (u .generator .block) (u .generator .pmax) (takenOf (u .limits .mwh)) n c (x .left .blocks)
 
 abbrev pub Alike : UnitRecord → ℕ → Status → Cell → Type 0
-Alike u n (status on spent a b c) x = Timed u on spent (x .state) × Budgets u n a b c x
+Alike u n (status on spent a b c) x = Timed u on spent (x .state) × AsLeft u n a b c x
 
 swap : (a b c d : Bool) → (a && b && c && d) ≡ (b && a && c && d)
 swap true true c d = refl
@@ -46,9 +47,9 @@ swap true false c d = refl
 swap false true c d = refl
 swap false false c d = refl
 
-module _ (u : UnitRecord) (ok : Ranged u) (a-top b-top c-top : ℕ) where
+module _ (u : UnitRecord) (ok : Ranged u) (most : Budgets) where
   abbrev f : Figures
-  f = figuresWith u a-top b-top c-top
+  f = figuresWith u most
 
   -- ---- the state after an interval
 
@@ -107,11 +108,11 @@ module _ (u : UnitRecord) (ok : Ranged u) (a-top b-top c-top : ℕ) where
 
   -- ---- an interval off, and on with k blocks
 
-  none-used : (n : ℕ) (a b c : Limit) (x : Cell) → Budgets u (suc n) a b c x → Budgets u n a b c x
+  none-used : (n : ℕ) (a b c : Limit) (x : Cell) → AsLeft u (suc n) a b c x → AsLeft u n a b c x
   none-used n a b c x r = (
-    left-less 1 1 (omega arith) (takenOf (u .limits .starts)) n a (x .starts) (r .0),
-    left-less 1 1 (omega arith) (takenOf (u .limits .hours)) n b (x .ons) (r .1),
-    left-less (u .generator .block) (u .generator .pmax) (ok .block) (takenOf (u .limits .mwh)) n c (x .blocks) (r .2),
+    left-less 1 1 (omega arith) (takenOf (u .limits .starts)) n a (x .left .starts) (r .0),
+    left-less 1 1 (omega arith) (takenOf (u .limits .hours)) n b (x .left .ons) (r .1),
+    left-less (u .generator .block) (u .generator .pmax) (ok .block) (takenOf (u .limits .mwh)) n c (x .left .blocks) (r .2),
   )
 
   match-off : (n : ℕ) (on : Bool) (spent : ℕ) (a b c : Limit) (x : Cell) (price : ℤ) → Alike u (suc n) (status on spent a b c) x
@@ -139,40 +140,40 @@ module _ (u : UnitRecord) (ok : Ranged u) (a-top b-top c-top : ℕ) where
       → Match (Alike u n) (commit u (status on spent a b c) price (suc m)) (onStep f x price k)
   match-on n on spent a b c x price m k i hk e r = case on (r .0)
     where
-      left : Budgets u (suc n) a b c x
+      left : AsLeft u (suc n) a b c x
       left = r .1
 
-      starts : leb (takenOf (u .limits .starts)) (x .starts) ≡ affords a 1
-      starts = one-affords (takenOf (u .limits .starts)) n a (x .starts) (left .0)
+      starts : leb (takenOf (u .limits .starts)) (x .left .starts) ≡ affords a 1
+      starts = one-affords (takenOf (u .limits .starts)) n a (x .left .starts) (left .0)
 
-      hours : leb (takenOf (u .limits .hours)) (x .ons) ≡ affords b 1
-      hours = one-affords (takenOf (u .limits .hours)) n b (x .ons) (left .1)
+      hours : leb (takenOf (u .limits .hours)) (x .left .ons) ≡ affords b 1
+      hours = one-affords (takenOf (u .limits .hours)) n b (x .left .ons) (left .1)
 
-      mwh : leb (k * takenOf (u .limits .mwh)) (x .blocks) ≡ affords c (suc m)
+      mwh : leb (k * takenOf (u .limits .mwh)) (x .left .blocks) ≡ affords c (suc m)
       mwh =
-          left-affords (u .generator .block) (u .generator .pmax) (ok .block) (takenOf (u .limits .mwh)) n k c (x .blocks) hk (left .2)
+          left-affords (u .generator .block) (u .generator .pmax) (ok .block) (takenOf (u .limits .mwh)) n k c (x .left .blocks) hk (left .2)
           ∙ ap (affords c) (sym i)
 
-      hours-left : Left 1 1 (takenOf (u .limits .hours)) n (spend b 1) (x .ons - takenOf (u .limits .hours))
-      hours-left = one-spend (takenOf (u .limits .hours)) n b (x .ons) (left .1)
+      hours-left : Left 1 1 (takenOf (u .limits .hours)) n (spend b 1) (x .left .ons - takenOf (u .limits .hours))
+      hours-left = one-spend (takenOf (u .limits .hours)) n b (x .left .ons) (left .1)
 
-      mwh-left : Left (u .generator .block) (u .generator .pmax) (takenOf (u .limits .mwh)) n (spend c (suc m)) (x .blocks - k * takenOf (u .limits .mwh))
-      mwh-left = rw i (left-spend (u .generator .block) (u .generator .pmax) (ok .block) (takenOf (u .limits .mwh)) n k c (x .blocks) hk (left .2))
+      mwh-left : Left (u .generator .block) (u .generator .pmax) (takenOf (u .limits .mwh)) n (spend c (suc m)) (x .left .blocks - k * takenOf (u .limits .mwh))
+      mwh-left = rw i (left-spend (u .generator .block) (u .generator .pmax) (ok .block) (takenOf (u .limits .mwh)) n k c (x .left .blocks) hk (left .2))
 
       case : (on : Bool) → Timed u on spent (x .state) → Match (Alike u n) (commit u (status on spent a b c) price (suc m)) (onStep f x price k)
       case true h =
           let t = run-goes-on spent (x .state) h in
-          match-allow (Alike u n) (affords b 1 && affords c (suc m)) (mayRun f x && leb (k * takenOf (u .limits .mwh)) (x .blocks))
+          match-allow (Alike u n) (affords b 1 && affords c (suc m)) (mayRun f x && leb (k * takenOf (u .limits .mwh)) (x .left .blocks))
           (go (earned (u .generator) (u .costs) price (suc m)) (status true (suc spent) a (spend b 1) (spend c (suc m))))
           (go (gain f price k -ℤ pos (startPays f (x .state))) (onCell f x k))
-          (rw (t .0, t .2, leb·zero (x .starts), hours, mwh))
+          (rw (t .0, t .2, leb·zero (x .left .starts), hours, mwh))
           (λ o.
-          let starts-left = one-less (takenOf (u .limits .starts)) n a (x .starts) (left .0) in
+          let starts-left = one-less (takenOf (u .limits .starts)) n a (x .left .starts) (left .0) in
           rw (t .2, t .3) (e ∙ sym (+ℤ-idr (gain f price k)), (t .1, (starts-left, hours-left, mwh-left))))
       case false h =
           let t = spell-ends spent (x .state) h in
           match-allow (Alike u n) (affords a 1 && leb (u .generator .mdt) spent && affords b 1 && affords c (suc m))
-          (mayRun f x && leb (k * takenOf (u .limits .mwh)) (x .blocks))
+          (mayRun f x && leb (k * takenOf (u .limits .mwh)) (x .left .blocks))
           (go (earned (u .generator) (u .costs) price (suc m) -ℤ pos (startCost (u .costs))) (status true 1 (spend a 1) (spend b 1) (spend c (suc m))))
           (go (gain f price k -ℤ pos (startPays f (x .state))) (onCell f x k))
           ((rw (t .0, t .2, starts, hours, mwh)) ∙ swap (leb (u .generator .mdt) spent) (affords a 1) (affords b 1) (affords c (suc m)))
@@ -182,7 +183,7 @@ module _ (u : UnitRecord) (ok : Ranged u) (a-top b-top c-top : ℕ) where
           let lasted = both (affords a 1) (leb (u .generator .mdt) spent) (first .0) .1 in
           rw (t .2, t .3, t .1 lasted) (
             ap (λ (g : ℤ). g -ℤ pos (startCost (u .costs))) e,
-            ((omega arith, omega (arith, ok .mot)), (one-spend (takenOf (u .limits .starts)) n a (x .starts) (left .0), hours-left, mwh-left)),
+            ((omega arith, omega (arith, ok .mot)), (one-spend (takenOf (u .limits .starts)) n a (x .left .starts) (left .0), hours-left, mwh-left)),
           ))
 
   matches : (n : ℕ) (s : Status) (x : Cell) (price : ℤ) (m : ℕ) → List·Memᴰ m (outputs (u .generator)) → Alike u (suc n) s x

@@ -21,11 +21,11 @@ use Rattle.lists.proofs.Conjunctions.{both}
 use Rattle.commitment.specs.Ranges.{generatorKept, openingKept, costsKept, limitsKept, permitKept, rangesKept, InOrder}
 use Rattle.commitment.specs.Keeping.{wasOn, opensIn}
 use Rattle.commitment.specs.Best.{best}
-use Rattle.commitment.specs.Cells.{inCounts, mostCounts, counted, countFor}
+use Rattle.commitment.specs.Cells.{inCounts, mostCounts, counted}
 use Rattle.commitment.specs.Limits.{limitKept, limitFor, withLimit, limited}
 use Rattle.optimality.specs.declared.Figures.{Figures}
 use Rattle.optimality.specs.Machine.{anywhere}
-use Rattle.optimality.specs.Cells.{takenOf, figuresWith, figuresOf, Sound, InTable, quartersOf, planAt, openingState, openingCell}
+use Rattle.optimality.specs.Cells.{takenOf, figuresWith, countsOf, figuresOf, Sound, InTable, quartersOf, planAt, openingState, openingCell}
 use Rattle.optimality.specs.Runs.{AtMost, Under}
 use Rattle.optimality.proofs.Ranges.{Ranged}
 use Rattle.optimality.proofs.Commit.{scaled, before, best-steps}
@@ -159,12 +159,13 @@ module _ (u : UnitRecord) (ok : Ranged u) (n : ℕ) where
         vec = ok .vec;
         mlc = ok .mlc;
         suc = ok .suc;
-        perstart = taken (u .limits .starts);
-        peron = taken (u .limits .hours);
-        perblock = taken (u .limits .mwh);
-        starts = omega (arith, counted-most (u .generator) n Starts (u .limits .starts));
-        ons = omega (arith, counted-most (u .generator) n Hours (u .limits .hours));
-        blocks = omega (arith, counted-most (u .generator) n Mwh (u .limits .mwh), mul-le-mul h (ok .pmax-most));
+        takes = record { starts = taken (u .limits .starts); ons = taken (u .limits .hours); blocks = taken (u .limits .mwh) };
+        most =
+            record {
+              starts = omega (arith, counted-most (u .generator) n Starts (u .limits .starts));
+              ons = omega (arith, counted-most (u .generator) n Hours (u .limits .hours));
+              blocks = omega (arith, counted-most (u .generator) n Mwh (u .limits .mwh), mul-le-mul h (ok .pmax-most));
+            };
       }
     where
       taken : (l : Limit) → takenOf l ≤ 1
@@ -177,9 +178,12 @@ module _ (u : UnitRecord) (ok : Ranged u) (n : ℕ) where
   opening-in-table limits h =
       record {
         state = state (wasOn (u .opening));
-        starts = counted-rise (u .generator) n Starts (limits .starts) (u .limits .starts) (ok .block) (h Starts);
-        ons = counted-rise (u .generator) n Hours (limits .hours) (u .limits .hours) (ok .block) (h Hours);
-        blocks = counted-rise (u .generator) n Mwh (limits .mwh) (u .limits .mwh) (ok .block) (h Mwh);
+        left =
+            record {
+              starts = counted-rise (u .generator) n Starts (limits .starts) (u .limits .starts) (ok .block) (h Starts);
+              ons = counted-rise (u .generator) n Hours (limits .hours) (u .limits .hours) (ok .block) (h Hours);
+              blocks = counted-rise (u .generator) n Mwh (limits .mwh) (u .limits .mwh) (ok .block) (h Mwh);
+            };
       }
     where
       state : (on : Bool) → stateOf u on < u .generator .mot + u .generator .mdt
@@ -193,14 +197,14 @@ unfolding figuresOf
 best-under u ok prices limits h =
     let n = length prices in
     let v : UnitRecord = limited u limits in
-    let same : figuresWith v (countFor u n Starts) (countFor u n Hours) (countFor u n Mwh) ≡ figuresOf u n =
+    let same : figuresWith v (countsOf u n) ≡ figuresOf u n =
     rw (
       taken-same (limits .starts) (u .limits .starts) (h Starts),
       taken-same (limits .hours) (u .limits .hours) (h Hours),
       taken-same (limits .mwh) (u .limits .mwh) (h Mwh),
     ) in
     best-steps v prices
-    ∙ same-plan v ok (countFor u n Starts) (countFor u n Hours) (countFor u n Mwh) (quartersOf u prices) (before v) (openingCell v n)
+    ∙ same-plan v ok (countsOf u n) (quartersOf u prices) (before v) (openingCell v n)
     (rw (quarters-length (opensIn (u .permit)) 0 prices) (opening-alike v ok n))
     ∙ ap (λ (f : Figures). planAt f anywhere (quartersOf u prices) (openingCell v n)) same
 

@@ -20,11 +20,11 @@ use Rattle.optimality.specs.Cells.{cell, states, afterOff, afterOn, star
 
 -- with as much more as `at` has left
 abbrev pub lifted : Cell → Cell → Cell
-lifted at d = cell (d .state) (d .starts + at .starts) (d .ons + at .ons) (d .blocks + at .blocks)
+lifted at d = cell (d .state) (d .left .starts + at .left .starts) (d .left .ons + at .left .ons) (d .left .blocks + at .left .blocks)
 
 -- less of something than `at` has left
 abbrev pub Below : Cell → Cell → Type 0
-Below at z = (z .starts < at .starts) ⊎ ((z .ons < at .ons) ⊎ (z .blocks < at .blocks))
+Below at z = (z .left .starts < at .left .starts) ⊎ ((z .left .ons < at .left .ons) ⊎ (z .left .blocks < at .left .blocks))
 
 -- a step that leads below, if it leads anywhere
 abbrev StepsBelow : Cell → Step Cell → Type 0
@@ -45,10 +45,10 @@ module _ (f : Figures) (at : Cell) where
 
   on-below : (z : Cell) (price : ℤ) (k : ℕ) → Below at z → StepsBelow at (onStep f z price k)
   on-below z price k b =
-      below-allowed (mayRun f z && leb (k * f .perblock) (z .blocks)) (go (gain f price k -ℤ pos (startPays f (z .state))) (onCell f z k))
-      (⊎-elim (λ (l : z .starts < at .starts). inl (omega arith))
-      (λ (r : (z .ons < at .ons) ⊎ (z .blocks < at .blocks)).
-      inr (⊎-elim (λ (l : z .ons < at .ons). inl (omega arith)) (λ (l : z .blocks < at .blocks). inr (omega arith)) r)) b)
+      below-allowed (mayRun f z && leb (k * f .takes .blocks) (z .left .blocks)) (go (gain f price k -ℤ pos (startPays f (z .state))) (onCell f z k))
+      (⊎-elim (λ (l : z .left .starts < at .left .starts). inl (omega arith))
+      (λ (r : (z .left .ons < at .left .ons) ⊎ (z .left .blocks < at .left .blocks)).
+      inr (⊎-elim (λ (l : z .left .ons < at .left .ons). inl (omega arith)) (λ (l : z .left .blocks < at .left .blocks). inr (omega arith)) r)) b)
 
   step-below : (z : Cell) (q : Quarter) (m : ℕ) → Below at z → StepsBelow at (inQuarter (cellStep f) z q m)
   step-below z q m b = below-allowed (eqb m 0 || q .opens) (cellStep f z (q .price) m) (by (eqb m 0))
@@ -81,51 +81,51 @@ module _ (f : Figures) (at : Cell) where
 
     -- what the lifted cell allows
     abbrev may : Bool
-    may = mayRun f (lifted at d) && leb (k * f .perblock) (d .blocks + at .blocks)
+    may = mayRun f (lifted at d) && leb (k * f .takes .blocks) (d .left .blocks + at .left .blocks)
 
-    has : may ≡ true → (takes ≤ d .starts + at .starts) × (f .peron ≤ d .ons + at .ons) × (k * f .perblock ≤ d .blocks + at .blocks)
+    has : may ≡ true → (takes ≤ d .left .starts + at .left .starts) × (f .takes .ons ≤ d .left .ons + at .left .ons) × (k * f .takes .blocks ≤ d .left .blocks + at .left .blocks)
         × (ltb (afterOn f (d .state)) (states f) ≡ true)
     has e =
-        let all = both (mayRun f (lifted at d)) (leb (k * f .perblock) (d .blocks + at .blocks)) e in
-        let run = both _ (leb (f .peron) (d .ons + at .ons)) (all .0) in
-        let start = both (ltb (afterOn f (d .state)) (states f)) (leb takes (d .starts + at .starts)) (run .0) in (
-          leb-true takes (d .starts + at .starts) (start .1),
-          leb-true (f .peron) (d .ons + at .ons) (run .1),
-          leb-true (k * f .perblock) (d .blocks + at .blocks) (all .1),
+        let all = both (mayRun f (lifted at d)) (leb (k * f .takes .blocks) (d .left .blocks + at .left .blocks)) e in
+        let run = both _ (leb (f .takes .ons) (d .left .ons + at .left .ons)) (all .0) in
+        let start = both (ltb (afterOn f (d .state)) (states f)) (leb takes (d .left .starts + at .left .starts)) (run .0) in (
+          leb-true takes (d .left .starts + at .left .starts) (start .1),
+          leb-true (f .takes .ons) (d .left .ons + at .left .ons) (run .1),
+          leb-true (k * f .takes .blocks) (d .left .blocks + at .left .blocks) (all .1),
           start .0,
         )
 
     on-lifts : Lifts at (onStep f d price k) (onStep f (lifted at d) price k)
     on-lifts =
-        by (ltb (afterOn f (d .state)) (states f)) refl (leb takes (d .starts)) refl (leb (f .peron) (d .ons)) refl (leb (k * f .perblock) (d .blocks)) refl
+        by (ltb (afterOn f (d .state)) (states f)) refl (leb takes (d .left .starts)) refl (leb (f .takes .ons) (d .left .ons)) refl (leb (k * f .takes .blocks) (d .left .blocks)) refl
       where
-        by : (t : Bool) → ltb (afterOn f (d .state)) (states f) ≡ t → (a : Bool) → leb takes (d .starts) ≡ a → (b : Bool) → leb (f .peron) (d .ons) ≡ b
-            → (c : Bool) → leb (k * f .perblock) (d .blocks) ≡ c
+        by : (t : Bool) → ltb (afterOn f (d .state)) (states f) ≡ t → (a : Bool) → leb takes (d .left .starts) ≡ a → (b : Bool) → leb (f .takes .ons) (d .left .ons) ≡ b
+            → (c : Bool) → leb (k * f .takes .blocks) (d .left .blocks) ≡ c
             → Lifts at (allow (t && a && b && c) (go earns (onCell f d k))) (onStep f (lifted at d) price k)
         by true t true a true b true c =
-            let ha = leb-true takes (d .starts) a in
-            let hb = leb-true (f .peron) (d .ons) b in
-            let hc = leb-true (k * f .perblock) (d .blocks) c in
-            let x : d .starts + at .starts - takes ≡ d .starts - takes + at .starts = omega arith in
-            let y : d .ons + at .ons - f .peron ≡ d .ons - f .peron + at .ons = omega arith in
-            let z : d .blocks + at .blocks - k * f .perblock ≡ d .blocks - k * f .perblock + at .blocks = omega arith in
+            let ha = leb-true takes (d .left .starts) a in
+            let hb = leb-true (f .takes .ons) (d .left .ons) b in
+            let hc = leb-true (k * f .takes .blocks) (d .left .blocks) c in
+            let x : d .left .starts + at .left .starts - takes ≡ d .left .starts - takes + at .left .starts = omega arith in
+            let y : d .left .ons + at .left .ons - f .takes .ons ≡ d .left .ons - f .takes .ons + at .left .ons = omega arith in
+            let z : d .left .blocks + at .left .blocks - k * f .takes .blocks ≡ d .left .blocks - k * f .takes .blocks + at .left .blocks = omega arith in
             rw (
               t,
-              le-leb takes (d .starts + at .starts) (omega arith),
-              le-leb (f .peron) (d .ons + at .ons) (omega arith),
-              le-leb (k * f .perblock) (d .blocks + at .blocks) (omega arith),
+              le-leb takes (d .left .starts + at .left .starts) (omega arith),
+              le-leb (f .takes .ons) (d .left .ons + at .left .ons) (omega arith),
+              le-leb (k * f .takes .blocks) (d .left .blocks + at .left .blocks) (omega arith),
               x,
               y,
               z,
             )
         by true t true a true b false c =
-            let hc = leb-false (k * f .perblock) (d .blocks) c in
+            let hc = leb-false (k * f .takes .blocks) (d .left .blocks) c in
             whether may earns (onCell f (lifted at d) k) (λ e. let h = has e in inr (inr (omega (arith, h .2))))
         by true t true a false b c i =
-            let hb = leb-false (f .peron) (d .ons) b in
+            let hb = leb-false (f .takes .ons) (d .left .ons) b in
             whether may earns (onCell f (lifted at d) k) (λ e. let h = has e in inr (inl (omega (arith, h .1))))
         by true t false a b i c j =
-            let ha = leb-false takes (d .starts) a in
+            let ha = leb-false takes (d .left .starts) a in
             whether may earns (onCell f (lifted at d) k) (λ e. let h = has e in inl (omega (arith, h .0)))
         by false t a i b j c l = whether may earns (onCell f (lifted at d) k) (λ e. absurd (true≢false (sym (has e .3) ∙ t)))
 

@@ -17,8 +17,9 @@ use Rattle.optimality.specs.declared.Cell.{Cell}
 use Rattle.commitment.specs.declared.BestProfit.{BestProfit}
 use Rattle.commitment.specs.declared.BestProfit.the-variants.{Nothing, Profit}
 use Rattle.optimality.specs.Machine.{Step, Quarter, inQuarter, go, allow, after, along, more, most, valueAlong}
-use Rattle.optimality.specs.Cells.{Sound, InTable, states, afterOff, afterOn, startTakes, startPays, gain, mayRun}
+use Rattle.optimality.specs.Cells.{taking, Sound, InTable, states, afterOff, afterOn, startTakes, startPays, gain, mayRun}
 use Rattle.optimality.specs.Cells.{offCell, onCell, offStep, onStep, cellStep, rungs, choices, planAt, valueAt, offValue, onValue, onBest}
+use Rattle.optimality.proofs.Within.{within-within, less-within}
 use Rattle.optimality.proofs.Outputs.{ladder-is, blocks-join}
 use Rattle.optimality.proofs.Values.{no-earning, value-from, first-reaching}
 
@@ -59,9 +60,9 @@ pub record OffTurn (f : Figures) (ends : Cell → BestProfit) (q : Quarter) (qua
 
 pub record OnTurn (f : Figures) (ends : Cell → BestProfit) (q : Quarter) (quarters : List Quarter) (c : Cell) (k : ℕ) : Type 0 where
   pub leads : afterOn f (c .state) < states f
-  pub starts : startTakes f (c .state) ≤ c .starts
-  pub ons : f .peron ≤ c .ons
-  pub blocks : k * f .perblock ≤ c .blocks
+  pub starts : startTakes f (c .state) ≤ c .left .starts
+  pub ons : f .takes .ons ≤ c .left .ons
+  pub blocks : k * f .takes .blocks ≤ c .left .blocks
   pub steps : inQuarter (cellStep f) c q (k * f .block) ≡ go (gain f (q .price) k -ℤ pos (startPays f (c .state))) (onCell f c k)
   pub is : planAt f ends (q ∷ quarters) c
       ≡ after (k * f .block) (gain f (q .price) k -ℤ pos (startPays f (c .state))) (planAt f ends quarters (onCell f c k))
@@ -73,10 +74,11 @@ leads-on false g y rest p e = absurd (no-earning e)
 
 -- the table has the cell that follows
 pub off-in-table : (f : Figures) (c : Cell) → InTable f c → afterOff f (c .state) < states f → InTable f (offCell f c)
-off-in-table f c h t = record { state = t; starts = h .starts; ons = h .ons; blocks = h .blocks }
+off-in-table f c h t = record { state = t; left = h .left }
 
 pub on-in-table : (f : Figures) (c : Cell) (k : ℕ) → InTable f c → afterOn f (c .state) < states f → InTable f (onCell f c k)
-on-in-table f c k h t = record { state = t; starts = omega (arith, h .starts); ons = omega (arith, h .ons); blocks = omega (arith, h .blocks) }
+on-in-table f c k h t =
+    record { state = t; left = within-within (less-within (c .left) (taking f (c .state) k)) (h .left) }
 
 module _ (f : Figures) (ok : Sound f) (ends : Cell → BestProfit) where
   in-blocks : (c : Cell) (q : Quarter) (k : ℕ) → 1 ≤ k → inQuarter (cellStep f) c q (k * f .block) ≡ allow (q .opens) (onStep f c (q .price) k)
@@ -214,16 +216,16 @@ module _ (f : Figures) (ok : Sound f) (ends : Cell → BestProfit) where
         → ((j : ℕ) → f .pmin ≤ j → j < k → onValue f rest c (q .price) j ≡ Profit best → ⊥) → onValue f rest c (q .price) k ≡ Profit best
         → OnTurn f ends q quarters c k
     on-turn opened off k lo hi short h =
-        let room = leb (k * f .perblock) (c .blocks) in
+        let room = leb (k * f .takes .blocks) (c .left .blocks) in
         let t = leads-on (mayRun f c && room) (gain f (q .price) k -ℤ pos (startPays f (c .state))) (onCell f c k) rest best h in
         let all = both (mayRun f c) room t in
-        let run = both _ (leb (f .peron) (c .ons)) (all .0) in
-        let start = both (ltb (afterOn f (c .state)) (states f)) (leb (startTakes f (c .state)) (c .starts)) (run .0) in
+        let run = both _ (leb (f .takes .ons) (c .left .ons)) (all .0) in
+        let start = both (ltb (afterOn f (c .state)) (states f)) (leb (startTakes f (c .state)) (c .left .starts)) (run .0) in
         record {
           leads = ltb-true (afterOn f (c .state)) (states f) (start .0);
-          starts = leb-true (startTakes f (c .state)) (c .starts) (start .1);
-          ons = leb-true (f .peron) (c .ons) (run .1);
-          blocks = leb-true (k * f .perblock) (c .blocks) (all .1);
+          starts = leb-true (startTakes f (c .state)) (c .left .starts) (start .1);
+          ons = leb-true (f .takes .ons) (c .left .ons) (run .1);
+          blocks = leb-true (k * f .takes .blocks) (c .left .blocks) (all .1);
           steps = open-blocks c q k opened (omega (arith, ok .pmin)) ∙ (rw t);
           is = plan-on opened off k lo hi short h ∙ (rw t);
         }

@@ -16,12 +16,28 @@ use Rattle.commitment.specs.Keeping.{wasOn, opensIn}
 use Rattle.commitment.specs.Profit.{margin}
 use Rattle.commitment.specs.Best.{Plan, ladder}
 use Rattle.commitment.specs.Cells.{countFor}
+use Rattle.optimality.specs.declared.Budgets.{Budgets}
 use Rattle.optimality.specs.declared.Figures.{Figures}
 use Rattle.optimality.specs.declared.Cell.{Cell}
 use Rattle.optimality.specs.Machine.{Step, Quarter, quartersFrom, inQuarter, allow, go, bestFrom, more, valueAlong, valueFrom}
 
+-- ---- budgets
+
+abbrev pub budgets : ℕ → ℕ → ℕ → Budgets
+budgets starts ons blocks = record { starts = starts; ons = ons; blocks = blocks }
+
 abbrev pub cell : ℕ → ℕ → ℕ → ℕ → Cell
-cell state starts ons blocks = record { state = state; starts = starts; ons = ons; blocks = blocks }
+cell state starts ons blocks = record { state = state; left = budgets starts ons blocks }
+
+-- each at most the other's
+pub record Within (a b : Budgets) : Type 0 where
+  pub starts : a .starts ≤ b .starts
+  pub ons : a .ons ≤ b .ons
+  pub blocks : a .blocks ≤ b .blocks
+
+-- what is left of the first after the second
+abbrev pub less : Budgets → Budgets → Budgets
+less a b = budgets (a .starts - b .starts) (a .ons - b .ons) (a .blocks - b .blocks)
 
 -- ---- the figures of a unit, for n intervals
 
@@ -31,8 +47,8 @@ takenOf None = 0
 takenOf (At limit) = 1
 
 -- with the most that a cell can have left of each
-abbrev pub figuresWith : UnitRecord → ℕ → ℕ → ℕ → Figures
-figuresWith u starts ons blocks =
+abbrev pub figuresWith : UnitRecord → Budgets → Figures
+figuresWith u most =
     record {
       block = u .generator .block;
       pmin = u .generator .pmin;
@@ -42,17 +58,32 @@ figuresWith u starts ons blocks =
       vec = u .costs .vec;
       mlc = u .costs .mlc;
       suc = u .costs .suc;
-      perstart = takenOf (u .limits .starts);
-      peron = takenOf (u .limits .hours);
-      perblock = takenOf (u .limits .mwh);
-      starts = starts;
-      ons = ons;
-      blocks = blocks;
+      takes = budgets (takenOf (u .limits .starts)) (takenOf (u .limits .hours)) (takenOf (u .limits .mwh));
+      most = most;
+    }
+
+-- the same with other budgets
+abbrev pub withMost : Figures → Budgets → Figures
+withMost f most =
+    record {
+      block = f .block;
+      pmin = f .pmin;
+      pmax = f .pmax;
+      mot = f .mot;
+      mdt = f .mdt;
+      vec = f .vec;
+      mlc = f .mlc;
+      suc = f .suc;
+      takes = f .takes;
+      most = most;
     }
 
 -- a, b and c of the specification
+abbrev pub countsOf : UnitRecord → ℕ → Budgets
+countsOf u n = budgets (countFor u n Starts) (countFor u n Hours) (countFor u n Mwh)
+
 unfoldable pub figuresOf : UnitRecord → ℕ → Figures
-figuresOf u n = figuresWith u (countFor u n Starts) (countFor u n Hours) (countFor u n Mwh)
+figuresOf u n = figuresWith u (countsOf u n)
 
 -- the ranges of the figures
 pub record Sound (f : Figures) : Type 0 where
@@ -67,12 +98,8 @@ pub record Sound (f : Figures) : Type 0 where
   pub vec : f .vec ≤ mostVec
   pub mlc : f .mlc ≤ mostMlc
   pub suc : f .suc ≤ mostSuc
-  pub perstart : f .perstart ≤ 1
-  pub peron : f .peron ≤ 1
-  pub perblock : f .perblock ≤ 1
-  pub starts : f .starts ≤ mostIntervals
-  pub ons : f .ons ≤ mostIntervals
-  pub blocks : f .blocks ≤ mostIntervals * mostBlocks
+  pub takes : Within (f .takes) (budgets 1 1 1)
+  pub most : Within (f .most) (budgets mostIntervals mostIntervals (mostIntervals * mostBlocks))
 
 -- ---- state numbers: below mot on for s + 1 intervals (mot or more at the last), from mot on off for s - mot + 1 (mdt or more at the last)
 
@@ -91,7 +118,7 @@ afterOn f s = cond (ltb s (f .mot)) (min (s + 1) (f .mot - 1)) (cond (eqb (s + 1
 
 -- what going on takes of the starts, and what it costs
 abbrev pub startTakes : Figures → ℕ → ℕ
-startTakes f s = cond (ltb s (f .mot)) 0 (f .perstart)
+startTakes f s = cond (ltb s (f .mot)) 0 (f .takes .starts)
 
 abbrev pub startPays : Figures → ℕ → ℕ
 startPays f s = cond (ltb s (f .mot)) 0 (4 * f .suc)
@@ -102,21 +129,25 @@ gain f price k = margin price (k * f .block) (f .vec) (f .pmin * f .block) (f .m
 
 -- whether the unit may be on, but for the blocks
 abbrev pub mayRun : Figures → Cell → Bool
-mayRun f c = ltb (afterOn f (c .state)) (states f) && leb (startTakes f (c .state)) (c .starts) && leb (f .peron) (c .ons)
+mayRun f c = ltb (afterOn f (c .state)) (states f) && leb (startTakes f (c .state)) (c .left .starts) && leb (f .takes .ons) (c .left .ons)
+
+-- what an interval on with k blocks takes
+abbrev pub taking : Figures → ℕ → ℕ → Budgets
+taking f s k = budgets (startTakes f s) (f .takes .ons) (k * f .takes .blocks)
 
 -- the cell that an interval off, or on with k blocks, leads to
 abbrev pub offCell : Figures → Cell → Cell
-offCell f c = cell (afterOff f (c .state)) (c .starts) (c .ons) (c .blocks)
+offCell f c = record { state = afterOff f (c .state); left = c .left }
 
 abbrev pub onCell : Figures → Cell → ℕ → Cell
-onCell f c k = cell (afterOn f (c .state)) (c .starts - startTakes f (c .state)) (c .ons - f .peron) (c .blocks - k * f .perblock)
+onCell f c k = record { state = afterOn f (c .state); left = less (c .left) (taking f (c .state) k) }
 
 abbrev pub offStep : Figures → Cell → Step Cell
 offStep f c = allow (ltb (afterOff f (c .state)) (states f)) (go (pos 0) (offCell f c))
 
 abbrev pub onStep : Figures → Cell → ℤ → ℕ → Step Cell
 onStep f c price k =
-    allow (mayRun f c && leb (k * f .perblock) (c .blocks)) (go (gain f price k -ℤ pos (startPays f (c .state))) (onCell f c k))
+    allow (mayRun f c && leb (k * f .takes .blocks) (c .left .blocks)) (go (gain f price k -ℤ pos (startPays f (c .state))) (onCell f c k))
 
 -- an output in MW: 0 is off, another so many blocks
 abbrev pub cellStep : Figures → Cell → ℤ → ℕ → Step Cell
@@ -162,11 +193,9 @@ openingState u =
     cond (wasOn (u .opening)) (min (u .opening .held) (u .generator .mot) - 1) (u .generator .mot + min (u .opening .held) (u .generator .mdt) - 1)
 
 unfoldable pub openingCell : UnitRecord → ℕ → Cell
-openingCell u n = cell (openingState u) (countFor u n Starts) (countFor u n Hours) (countFor u n Mwh)
+openingCell u n = record { state = openingState u; left = countsOf u n }
 
 -- a cell of the table has no more left than the tops
 pub record InTable (f : Figures) (c : Cell) : Type 0 where
   pub state : c .state < states f
-  pub starts : c .starts ≤ f .starts
-  pub ons : c .ons ≤ f .ons
-  pub blocks : c .blocks ≤ f .blocks
+  pub left : Within (c .left) (f .most)

@@ -43,7 +43,7 @@ module _ (f : Figures) (stored : Cell → ℤ) (c : Cell) where
 -- whether the blocks left allow k, from a cell with z of them, and it reaches the best; its cells stand in the row at `row`
 abbrev pub reachesBest : Figures → List ℤ → ℕ → ℕ → ℤ → ℕ → ℤ → ℕ → Bool
 reachesBest f cells row z price pays best k =
-    leb (k * f .perblock) z && not (ltZ (getD cells (row + (z - k * f .perblock)) (pos 0) +ℤ net f price pays k) best)
+    leb (k * f .takes .blocks) z && not (ltZ (getD cells (row + (z - k * f .takes .blocks)) (pos 0) +ℤ net f price pays k) best)
 
 -- what an interval with so many blocks takes is left, none where it is off
 abbrev pub Allowed : Figures → Cell → ℕ → Type 0

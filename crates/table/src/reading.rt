@@ -1,6 +1,7 @@
 // Reading a plan off the table: the output that a cell's number was made of, and the cell that it leads to.
 
 use intervals::steps;
+use optimality::Budgets;
 use optimality::Cell;
 use optimality::Figures;
 ghost use mathlib.Core.Path.{_≡_};
@@ -62,7 +63,7 @@ fn first_on(scratch: &[i64], at: usize, f: Figures, price: i64, c: Cell, best: i
 {
     let pays = steps::start_pays(f, c.state);
     let row = at + on_row(f, c);
-    let z = c.blocks;
+    let z = c.left.blocks;
     let mut above = 0;
     let mut tries = 1;
     loop {
@@ -81,13 +82,16 @@ fn first_on(scratch: &[i64], at: usize, f: Figures, price: i64, c: Cell, best: i
 // The row of the cells that an interval on leads to.
 fn on_row(f: Figures, c: Cell) -> usize
     requires { ⌜ (Sound f) × (InTable f c) × (mayRun f c ≡ true) ⌝ }
-    ensures { λ r. ⌜ r ≡ geometry.index f (cell (afterOn f (c .state)) (c .starts - startTakes f (c .state)) (c .ons - f .peron) 0) ⌝ }
+    ensures { λ r. ⌜ r ≡ geometry.index f (cell (afterOn f (c .state)) (c .left .starts - startTakes f (c .state)) (c .left .ons - f .takes .ons) 0) ⌝ }
 {
+    let left = Budgets {
+        starts: c.left.starts,
+        ons: c.left.ons,
+        blocks: 0,
+    };
     let first = Cell {
         state: c.state,
-        starts: c.starts,
-        ons: c.ons,
-        blocks: 0,
+        left,
     };
     geometry::index(f, steps::on_cell(f, first, 0))
 }
@@ -106,7 +110,7 @@ fn reaches(
     requires { ⌜ (Interval f price) × (pays ≤ mostPays) × (k ≤ f .pmax) × (Readable (now scratch) row (z + 1)) ⌝ }
     ensures { λ r. ⌜ r ≡ reachesBest f (now (scratch .entry)) row z price pays best k ⌝ }
 {
-    let spent = k * f.perblock;
+    let spent = k * f.takes.blocks;
     if z < spent {
         return false;
     }

@@ -14,7 +14,7 @@ use Rattle.geometry.proofs.index.Tie as tie
 small : (c : tie.Start) →
     let f = c .args .f in
     let x = c .args .c in
-    x .state * section f + (x .starts * span f + (x .ons * row f + x .blocks)) < 2 ^ 64
+    x .state * section f + (x .left .starts * span f + (x .left .ons * row f + x .left .blocks)) < 2 ^ 64
 unfolding index
 small c =
     let wide : width (c .args .f) < 2 ^ 64 = lt-of-le-of-lt (width-most (c .args .f) (c .pre .0)) (lit< tt) in

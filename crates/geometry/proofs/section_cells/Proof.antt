@@ -17,7 +17,7 @@ mul-result c =
 
 returns : tie.Need-returns
 unfolding section
-returns c = ap (λ (cells : ℕ). (c .before .before .args .f .starts + 1) * cells) (c .span-cells .ensures)
+returns c = ap (λ (cells : ℕ). (c .before .before .args .f .most .starts + 1) * cells) (c .span-cells .ensures)
 
 pub section-cells-spec : {M : Type 1} → statement M
 section-cells-spec = tie.close (tie.spec (λ c. search needs) (λ c κs. search needs) mul-result returns)

@@ -17,7 +17,7 @@ mul-result c =
 
 returns : tie.Need-returns
 unfolding span
-returns c = ap (λ (cells : ℕ). (c .before .before .args .f .ons + 1) * cells) (c .row-cells .ensures)
+returns c = ap (λ (cells : ℕ). (c .before .before .args .f .most .ons + 1) * cells) (c .row-cells .ensures)
 
 pub span-cells-spec : {M : Type 1} → statement M
 span-cells-spec = tie.close (tie.spec (λ c. search needs) (λ c κs. search needs) mul-result returns)

@@ -11,10 +11,10 @@ use Rattle.intervals.proofs.rows.raise_rows.Tie as tie
 
 abbrev Inv-loop : tie.InvT-loop
 Inv-loop scratch₀ to from f l cells y₀ at₀ behind₀ scratch y at behind =
-    Round (row f) (f .peron) (f .ons) to from y at behind × RowsDone f l scratch₀ to from scratch y
+    Round (row f) (f .takes .ons) (f .most .ons) to from y at behind × RowsDone f l scratch₀ to from scratch y
 
 abbrev μ-loop : tie.MeasureT-loop
-μ-loop scratch₀ to from f l cells y₀ at₀ behind₀ scratch y at behind = f .ons + 1 - y
+μ-loop scratch₀ to from f l cells y₀ at₀ behind₀ scratch y at behind = f .most .ons + 1 - y
 
 here : (c : tie.Then1 Inv-loop μ-loop) →
     let at-loop = c .before .before in
@@ -25,7 +25,7 @@ here c =
     let o = at-loop .before .before in
     let a = o .args in
     let l = at-loop .loop in
-    round-behind (row (a .f)) (a .f .peron) (a .f .ons) (a .to) (a .from) (l .y) (l .at) (l .behind) (c .if1 .taken) (l .inv .0) (a .scratch .now)
+    round-behind (row (a .f)) (a .f .takes .ons) (a .f .most .ons) (a .to) (a .from) (l .y) (l .at) (l .behind) (c .if1 .taken) (l .inv .0) (a .scratch .now)
     (l .scratch) (span (a .f))
     (o .pre .3)
     (row-fits (a .f) (l .y) (c .if1 .taken))
@@ -33,15 +33,15 @@ here c =
     (l .inv .1 .after)
 
 -- the rows that are skipped
-skipped : (c : tie.After-row-cells Inv-loop μ-loop) → c .before .args .f .peron * c .row-cells .result ≤ span (c .before .args .f)
-skipped c = rw (c .row-cells .ensures) (rows-fit (c .before .args .f) (c .before .args .f .peron) (omega (arith, c .before .pre .0 .peron)))
+skipped : (c : tie.After-row-cells Inv-loop μ-loop) → c .before .args .f .takes .ons * c .row-cells .result ≤ span (c .before .args .f)
+skipped c = rw (c .row-cells .ensures) (rows-fit (c .before .args .f) (c .before .args .f .takes .ons) (omega (arith, c .before .pre .0 .takes .ons)))
 
 loop-holds : tie.Need-loop-holds Inv-loop μ-loop
 loop-holds c =
     let o = c .before in
     let a = o .args in
     rw (c .row-cells .ensures) (
-      round-first (row (a .f)) (a .f .peron) (a .f .ons) (a .to) (a .from) (omega (arith, o .pre .0 .peron)),
+      round-first (row (a .f)) (a .f .takes .ons) (a .f .most .ons) (a .to) (a .from) (omega (arith, o .pre .0 .takes .ons)),
       rows-first (a .f) (a .l) (a .scratch .now)
           (a .to) (a .from),
     )
@@ -55,7 +55,7 @@ loop-again c =
     let a = o .args in
     let l = at-loop .loop in (
       rw (known .row-cells .ensures)
-          (round-next (row (a .f)) (a .f .peron) (a .f .ons) (a .to) (a .from) (l .y) (l .at) (l .behind) (turn .if1 .taken) (l .inv .0)),
+          (round-next (row (a .f)) (a .f .takes .ons) (a .f .most .ons) (a .to) (a .from) (l .y) (l .at) (l .behind) (turn .if1 .taken) (l .inv .0)),
       rows-next (a .f) (a .l) (a .scratch .now) (a .to) (a .from) (l .scratch) (c .before .raise-row .last .0) (l .y) (l .inv .0 .low) (turn .if1 .taken)
           (o .pre .1)
           (o .pre .3 .before)
@@ -79,5 +79,5 @@ raise-rows-spec =
     (λ c κs. let known = c .before .before .before .before in rw (known .row-cells .ensures) (known .before .pre .2, here (c .before)))
     (λ c. let turn = c .before .before .before in omega (arith, here turn, turn .before .before .before .row-cells .ensures))
     (λ c. let turn = c .before .before .before in omega (arith, here turn, turn .before .before .before .row-cells .ensures))
-    (λ c. let turn = c .before .before .before in omega (arith, turn .if1 .taken, turn .before .before .before .before .pre .0 .ons))
+    (λ c. let turn = c .before .before .before in omega (arith, turn .if1 .taken, turn .before .before .before .before .pre .0 .most .ons))
     (λ c. omega (arith, c .before .before .before .if1 .taken)) loop-again (λ c. c .before .before .loop .inv .1 .same) returns)

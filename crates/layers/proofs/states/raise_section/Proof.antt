@@ -16,10 +16,10 @@ use Rattle.layers.proofs.states.raise_section.Tie as tie
 
 abbrev Inv-loop : tie.InvT-loop
 Inv-loop scratch₀ to from f takes l end cells x₀ at₀ behind₀ scratch x at behind =
-    Round (span f) takes (f .starts) to from x at behind × SpansDone f l scratch₀ to from takes scratch x
+    Round (span f) takes (f .most .starts) to from x at behind × SpansDone f l scratch₀ to from takes scratch x
 
 abbrev μ-loop : tie.MeasureT-loop
-μ-loop scratch₀ to from f takes l end cells x₀ at₀ behind₀ scratch x at behind = f .starts + 1 - x
+μ-loop scratch₀ to from f takes l end cells x₀ at₀ behind₀ scratch x at behind = f .most .starts + 1 - x
 
 here : (c : tie.Then1 Inv-loop μ-loop) →
     let at-loop = c .before .before in
@@ -30,7 +30,7 @@ here c =
     let o = at-loop .before .before .before in
     let a = o .args in
     let l = at-loop .loop in
-    round-behind (span (a .f)) (a .takes) (a .f .starts) (a .to) (a .from) (l .x) (l .at) (l .behind) (c .if1 .taken) (l .inv .0) (a .scratch .now)
+    round-behind (span (a .f)) (a .takes) (a .f .most .starts) (a .to) (a .from) (l .x) (l .at) (l .behind) (c .if1 .taken) (l .inv .0) (a .scratch .now)
     (l .scratch) (section (a .f))
     (o .pre .3)
     (span-fits (a .f) (l .x) (c .if1 .taken))
@@ -50,7 +50,7 @@ loop-holds c =
     let o = c .before .before in
     let a = o .args in
     rw (c .span-cells .ensures) (
-      round-first (span (a .f)) (a .takes) (a .f .starts) (a .to) (a .from) (omega (arith, o .pre .1)),
+      round-first (span (a .f)) (a .takes) (a .f .most .starts) (a .to) (a .from) (omega (arith, o .pre .1)),
       spans-first (a .f) (a .l) (a .scratch .now) (a .to)
           (a .from) (a .takes),
     )
@@ -64,7 +64,7 @@ loop-again c =
     let a = o .args in
     let l = at-loop .loop in (
       rw (known .span-cells .ensures)
-          (round-next (span (a .f)) (a .takes) (a .f .starts) (a .to) (a .from) (l .x) (l .at) (l .behind) (turn .if1 .taken) (l .inv .0)),
+          (round-next (span (a .f)) (a .takes) (a .f .most .starts) (a .to) (a .from) (l .x) (l .at) (l .behind) (turn .if1 .taken) (l .inv .0)),
       spans-next (a .f) (a .l) (a .scratch .now) (a .to) (a .from) (a .takes) (l .scratch) (c .before .raise-span .last .0) (l .x) (l .inv .0 .low)
           (turn .if1 .taken)
           (o .pre .3 .before)
@@ -88,5 +88,5 @@ raise-section-spec =
     (λ c κs. let ended = c .before .before .before .before .before in (ended .before .pre .0, ended .before .pre .2, end-is ended, here (c .before)))
     (λ c. let turn = c .before .before .before in omega (arith, here turn, turn .before .before .before .span-cells .ensures))
     (λ c. let turn = c .before .before .before in omega (arith, here turn, turn .before .before .before .span-cells .ensures))
-    (λ c. let turn = c .before .before .before in omega (arith, turn .if1 .taken, turn .before .before .before .before .before .pre .0 .starts))
+    (λ c. let turn = c .before .before .before in omega (arith, turn .if1 .taken, turn .before .before .before .before .before .pre .0 .most .starts))
     (λ c. omega (arith, c .before .before .before .if1 .taken)) loop-again (λ c. c .before .before .loop .inv .1 .same) returns)

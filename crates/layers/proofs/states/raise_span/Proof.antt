@@ -12,10 +12,10 @@ use Rattle.intervals.proofs.Passes.{rows-by-ends}
 use Rattle.layers.proofs.states.raise_span.Statement.{statement}
 use Rattle.layers.proofs.states.raise_span.Tie as tie
 
-skipped : (c : tie.After-row-cells) → let f = c .before .before .before .args .f in f .peron * c .row-cells .result ≤ span f
+skipped : (c : tie.After-row-cells) → let f = c .before .before .before .args .f in f .takes .ons * c .row-cells .result ≤ span f
 skipped c =
     let o = c .before .before .before in
-    rw (c .row-cells .ensures) (rows-fit (o .args .f) (o .args .f .peron) (omega (arith, o .pre .0 .peron)))
+    rw (c .row-cells .ensures) (rows-fit (o .args .f) (o .args .f .takes .ons) (omega (arith, o .pre .0 .takes .ons)))
 
 raise-requires : tie.Need-raise-requires
 raise-requires c κs =
@@ -25,7 +25,7 @@ raise-requires c κs =
     let all = c .before .span-cells .result in
     let h = skipped rows in
     let e = c .before .span-cells .ensures in
-    let gap = a .f .peron * rows .row-cells .result in (
+    let gap = a .f .takes .ons * rows .row-cells .result in (
       behind-within (a .scratch .now) (a .scratch .now) (a .to) (a .from) (span (a .f)) (a .to + gap) (a .from) (all - gap) (o .pre .3)
           (omega (arith, h, e, o .pre .3 .before))
           (omega arith)
@@ -38,7 +38,7 @@ raise-requires c κs =
 raise-rows-requires : tie.Need-raise-rows-requires
 raise-rows-requires c κs =
     let o = c .before .before .before in
-    (o .pre .0, omega (arith, c .before .if1 .left, o .pre .0 .perblock), o .pre .1, o .pre .3)
+    (o .pre .0, omega (arith, c .before .if1 .left, o .pre .0 .takes .blocks), o .pre .1, o .pre .3)
 
 returns : tie.Need-returns
 returns c =

@@ -32,14 +32,14 @@ gain-is : (c : tie.After-better-end) →
 gain-is c = let o = c .before .before .before in c .better-end .ensures ∙ ap betterEnd (behind o .ladder-is)
 
 -- the places without an output
-skipped-is : (c : tie.After-row-cells) → let a = c .before .args in a .f .peron * c .row-cells .result ≡ a .f .peron * row (a .f)
-skipped-is c = ap (λ (n : ℕ). c .before .args .f .peron * n) (c .row-cells .ensures)
+skipped-is : (c : tie.After-row-cells) → let a = c .before .args in a .f .takes .ons * c .row-cells .result ≡ a .f .takes .ons * row (a .f)
+skipped-is c = ap (λ (n : ℕ). c .before .args .f .takes .ons * n) (c .row-cells .ensures)
 
-few-skipped : (c : tie.Start) → c .args .f .peron * row (c .args .f) < 2 ^ 64
+few-skipped : (c : tie.Start) → c .args .f .takes .ons * row (c .args .f) < 2 ^ 64
 few-skipped c =
     let f = c .args .f in
     let ok = asked c .interval .sound in
-    let m : f .peron * row f ≤ 1 * row f = mul-le-mul-right (row f) (ok .peron) in
+    let m : f .takes .ons * row f ≤ 1 * row f = mul-le-mul-right (row f) (ok .takes .ons) in
     let few : row f < 2 ^ 64 = lt-of-le-of-lt (row-most f ok) (lit< tt) in
     omega (arith, m, one-mul (row f), few)
 

@@ -38,10 +38,10 @@ behind c =
     record { takes = left else; line-is = c .line-behind .ensures; ladder-is = is }
 
 -- where MWh is limited, one block takes one
-limited : (c : tie.Else2) → let o = c .before .before .before .before .before .before .before in o .args .f .perblock ≡ 1
+limited : (c : tie.Else2) → let o = c .before .before .before .before .before .before .before in o .args .f .takes .blocks ≡ 1
 limited c =
     let o = c .before .before .before .before .before .before .before in
-    omega (arith, c .if2 .left, asked o .interval .sound .perblock)
+    omega (arith, c .if2 .left, asked o .interval .sound .takes .blocks)
 
 flat-image-requires : tie.Need-flat-image-requires
 flat-image-requires c κs =
@@ -49,7 +49,7 @@ flat-image-requires c κs =
     let line = then .before .before in
     let o = line .before .before .before .before .before in
     let k = asked o in
-    let none : o .args .f .perblock ≡ 0 = then .if2 .taken in
+    let none : o .args .f .takes .blocks ≡ 0 = then .if2 .taken in
     rw (plain-fits (o .fits .price)) ((rw (k .flat none .0) at k, none, o .pre .1), behind line)
 
 lined-image-requires : tie.Need-lined-image-requires

@@ -33,13 +33,13 @@ either false b e = inr e
 -- short of an on-interval, or of blocks at every place
 short : (c : tie.Then1) →
     let a = c .before .before .args in
-    (i : ℕ) → i < a .count → (a .y < a .f .peron) ⊎ (a .place + i < a .f .pmin)
+    (i : ℕ) → i < a .count → (a .y < a .f .takes .ons) ⊎ (a .place + i < a .f .pmin)
 short c i h =
     let o = c .before .before in
     let a = o .args in
-    ⊎-elim (λ (e : ltb (a .y) (a .f .peron) ≡ true). inl (ltb-true (a .y) (a .f .peron) e))
+    ⊎-elim (λ (e : ltb (a .y) (a .f .takes .ons) ≡ true). inl (ltb-true (a .y) (a .f .takes .ons) e))
     (λ (e : ltb (a .place) (a .l .low) ≡ true). inr (below (ltb-true (a .place) (a .l .low) e)))
-    (either (ltb (a .y) (a .f .peron)) (ltb (a .place) (a .l .low)) (c .if1 .taken))
+    (either (ltb (a .y) (a .f .takes .ons)) (ltb (a .place) (a .l .low)) (c .if1 .taken))
   where
     below : let a = c .before .before .args in a .place < a .l .low → a .place + i < a .f .pmin
     below l =
@@ -51,12 +51,12 @@ short c i h =
 
 enough : (c : tie.Else1) →
     let a = c .before .before .args in
-    (a .f .peron ≤ a .y) × (a .f .pmin ≤ a .place)
+    (a .f .takes .ons ≤ a .y) × (a .f .pmin ≤ a .place)
 enough c =
     let o = c .before .before in
     let a = o .args in
-    let n = neither (ltb (a .y) (a .f .peron)) (ltb (a .place) (a .l .low)) (c .if1 .left) in
-    (ltb-false (a .y) (a .f .peron) (n .0), let g = ltb-false (a .place) (a .l .low) (n .1) in omega (arith, g, lowest o))
+    let n = neither (ltb (a .y) (a .f .takes .ons)) (ltb (a .place) (a .l .low)) (c .if1 .left) in
+    (ltb-false (a .y) (a .f .takes .ons) (n .0), let g = ltb-false (a .place) (a .l .low) (n .1) in omega (arith, g, lowest o))
 
 returns : tie.Need-returns
 returns c =
@@ -75,7 +75,7 @@ returns c =
 -- the row
 at-row : (c : tie.After-row-cells) →
     let a = c .before .before .before .args in
-    a .line + (a .y - a .f .peron) * c .row-cells .result ≡ lineOf (a .f) (a .s) (a .x) + (a .y - a .f .peron) * row (a .f)
+    a .line + (a .y - a .f .takes .ons) * c .row-cells .result ≡ lineOf (a .f) (a .s) (a .x) + (a .y - a .f .takes .ons) * row (a .f)
 at-row c =
     let o = c .before .before .before in
     let a = o .args in
@@ -83,7 +83,7 @@ at-row c =
 
 row-room : (c : tie.After-row-cells) →
     let a = c .before .before .before .args in
-    a .line + (a .y - a .f .peron) * c .row-cells .result ≤ a .w
+    a .line + (a .y - a .f .takes .ons) * c .row-cells .result ≤ a .w
 row-room c =
     let o = c .before .before .before in
     let a = o .args in

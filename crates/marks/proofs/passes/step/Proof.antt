@@ -17,7 +17,7 @@ use Rattle.marks.proofs.passes.step.Tie as tie
 
 abbrev Inv-loop : tie.InvT-loop
 Inv-loop cells₀ w f price opens begun₀ ran₀ span section x₀ cells begun ran x =
-    (x ≤ f .starts + 1) × (length begun ≡ length begun₀) × (length ran ≡ length ran₀)
+    (x ≤ f .most .starts + 1) × (length begun ≡ length begun₀) × (length ran ≡ length ran₀)
     × Columns f (quarter (toZ w64 price) opens) w cells₀ cells (x * geometry.span f) (geometry.section f)
 
 abbrev μ-loop : tie.MeasureT-loop
@@ -87,13 +87,13 @@ loop-holds : tie.Need-loop-holds Inv-loop μ-loop
 unfolding geometry.section
 loop-holds c =
     let a = c .before .before .before .args in
-    (omega arith, refl, refl, columns-none (a .f) _ (a .w) (a .cells .now) ((a .f .starts + 1) * geometry.span (a .f)))
+    (omega arith, refl, refl, columns-none (a .f) _ (a .w) (a .cells .now) ((a .f .most .starts + 1) * geometry.span (a .f)))
 
 pub step-spec : {M : Type 1} → statement M
 step-spec =
     tie.close
     (tie.spec Inv-loop μ-loop (λ c κs. c .pre .0 .interval .sound) (λ c κs. c .before .pre .0 .interval .sound)
-    (λ c. omega (arith, c .before .before .before .pre .0 .interval .sound .starts)) loop-holds (λ c. c .loop-test .taken)
+    (λ c. omega (arith, c .before .before .before .pre .0 .interval .sound .most .starts)) loop-holds (λ c. c .loop-test .taken)
     (λ c.
     let turn = c .before in
     let sections = turn .before .before .before in

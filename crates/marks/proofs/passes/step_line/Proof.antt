@@ -21,10 +21,10 @@ line : (c : tie.Start) → let a = c .args in Line (a .f) (a .x) (a .y) (a .star
 line c = c .pre .0 .1
 
 -- few places are before it
-lowest : (c : tie.Start) → c .args .f .perblock * c .args .f .pmin ≤ c .args .f .pmin
+lowest : (c : tie.Start) → c .args .f .takes .blocks * c .args .f .pmin ≤ c .args .f .pmin
 lowest c =
     let f = c .args .f in
-    let m : f .perblock * f .pmin ≤ 1 * f .pmin = mul-le-mul-right (f .pmin) (before c .interval .sound .perblock) in
+    let m : f .takes .blocks * f .pmin ≤ 1 * f .pmin = mul-le-mul-right (f .pmin) (before c .interval .sound .takes .blocks) in
     omega (arith, m, one-mul (f .pmin))
 
 upper-pieces-requires : tie.Need-upper-pieces-requires

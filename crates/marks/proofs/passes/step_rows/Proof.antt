@@ -17,7 +17,7 @@ use Rattle.marks.proofs.passes.step_rows.Tie as tie
 
 abbrev Inv-loop : tie.InvT-loop
 Inv-loop cells₀ w f price opens x section start begun₀ ran₀ row y₀ cells begun ran y =
-    (y ≤ f .ons + 1) × (length begun ≡ length begun₀) × (length ran ≡ length ran₀)
+    (y ≤ f .most .ons + 1) × (length begun ≡ length begun₀) × (length ran ≡ length ran₀)
     × Columns f (quarter (toZ w64 price) opens) w cells₀ cells (start + y * geometry.row f) (start + geometry.span f)
 
 abbrev μ-loop : tie.MeasureT-loop
@@ -117,12 +117,12 @@ loop-holds : tie.Need-loop-holds Inv-loop μ-loop
 unfolding geometry.span
 loop-holds c =
     let a = c .before .before .args in
-    (omega arith, refl, refl, columns-none (a .f) _ (a .w) (a .cells .now) (a .start + (a .f .ons + 1) * geometry.row (a .f)))
+    (omega arith, refl, refl, columns-none (a .f) _ (a .w) (a .cells .now) (a .start + (a .f .most .ons + 1) * geometry.row (a .f)))
 
 pub step-rows-spec : {M : Type 1} → statement M
 step-rows-spec =
     tie.close
-    (tie.spec Inv-loop μ-loop (λ c κs. before c .interval .sound) (λ c. omega (arith, before (c .before .before) .interval .sound .ons)) loop-holds
+    (tie.spec Inv-loop μ-loop (λ c κs. before c .interval .sound) (λ c. omega (arith, before (c .before .before) .interval .sound .most .ons)) loop-holds
     (λ c. c .loop-test .taken)
     (λ c. let turn = c .before in let r = turn .before .before .before .row-cells .ensures in rw r (omega (arith, below turn, inside turn)))
     (λ c. let turn = c .before in let r = turn .before .before .before .row-cells .ensures in rw r (omega (arith, below turn, inside turn)))

@@ -39,7 +39,7 @@ step-rows-requires : tie.Need-step-rows-requires
 step-rows-requires c κs =
     let else = c .before .before .before in
     let o = else .before .before in
-    ((rw (plain-fits (o .fits .price)) (before o), o .pre .0 .1, omega (arith, else .if1 .left, before o .interval .sound .perblock)), o .pre .1)
+    ((rw (plain-fits (o .fits .price)) (before o), o .pre .0 .1, omega (arith, else .if1 .left, before o .interval .sound .takes .blocks)), o .pre .1)
 
 returns : tie.Need-returns
 returns c =

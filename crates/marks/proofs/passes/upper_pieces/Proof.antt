@@ -59,13 +59,13 @@ last : (c : tie.After-last-piece Inv-loop μ-loop) →
 last c = rw (most-is (c .before .before .before .before)) at (c .last-piece .ensures)
 
 -- where MWh is limited, a place with blocks enough
-first-is : (c : tie.After-last-piece Inv-loop μ-loop) → let a = c .before .before .before .before .args in a .f .perblock ≡ 1 → a .first ≡ a .f .pmin
+first-is : (c : tie.After-last-piece Inv-loop μ-loop) → let a = c .before .before .before .before .args in a .f .takes .blocks ≡ 1 → a .first ≡ a .f .pmin
 first-is c one =
     let turn = c .before in
     let l = turn .before in
     let o = l .before .before in
     let f = o .args .f in
-    let m : f .perblock * f .pmin ≡ f .pmin = rw one (one-mul (f .pmin)) in
+    let m : f .takes .blocks * f .pmin ≡ f .pmin = rw one (one-mul (f .pmin)) in
     omega (arith, m, o .pre .1 .0, turn .loop-test .taken, l .loop .inv .1)
 
 asked : (c : tie.After-last-piece Inv-loop μ-loop) →

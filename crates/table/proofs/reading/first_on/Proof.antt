@@ -31,30 +31,27 @@ abbrev μ-loop : tie.MeasureT-loop
 μ-loop scratch at f price best pays row z above₀ tries₀ above tries = suc (f .pmax) - (f .pmin + above)
 
 -- the cell of the row with i blocks left
-in-row : (c : tie.Start Inv-loop μ-loop) (i : ℕ) → i ≤ c .args .c .blocks →
+in-row : (c : tie.Start Inv-loop μ-loop) (i : ℕ) → i ≤ c .args .c .left .blocks →
     let a = c .args in
-    InTable (a .f) (cell (afterOn (a .f) (a .c .state)) (a .c .starts - startTakes (a .f) (a .c .state)) (a .c .ons - a .f .peron) i)
+    InTable (a .f) (cell (afterOn (a .f) (a .c .state)) (a .c .left .starts - startTakes (a .f) (a .c .state)) (a .c .left .ons - a .f .takes .ons) i)
 in-row c i h =
     let a = c .args in
     let here = c .pre .0 .1 in
     record {
       state = runs (a .f) (a .c) (c .pre .1 .may) .leads;
-      starts = omega (arith, here .starts);
-      ons = omega (arith, here .ons);
-      blocks = omega
-          (arith, here .blocks);
+      left = record { starts = omega (arith, here .left .starts); ons = omega (arith, here .left .ons); blocks = omega (arith, here .left .blocks) };
     }
 
 abbrev number : (c : tie.Start Inv-loop μ-loop) → ℕ → ℕ
 number c i =
     let a = c .args in
-    index (a .f) (cell (afterOn (a .f) (a .c .state)) (a .c .starts - startTakes (a .f) (a .c .state)) (a .c .ons - a .f .peron) i)
+    index (a .f) (cell (afterOn (a .f) (a .c .state)) (a .c .left .starts - startTakes (a .f) (a .c .state)) (a .c .left .ons - a .f .takes .ons) i)
 
 -- it stands i places into the row
-stands : (c : tie.Start Inv-loop μ-loop) (i : ℕ) → i ≤ c .args .c .blocks → (number c i ≡ number c 0 + i) × (number c 0 + i < width (c .args .f))
+stands : (c : tie.Start Inv-loop μ-loop) (i : ℕ) → i ≤ c .args .c .left .blocks → (number c i ≡ number c 0 + i) × (number c 0 + i < width (c .args .f))
 stands c i h =
     let a = c .args in
-    let e = index-along (a .f) (afterOn (a .f) (a .c .state)) (a .c .starts - startTakes (a .f) (a .c .state)) (a .c .ons - a .f .peron) i in
+    let e = index-along (a .f) (afterOn (a .f) (a .c .state)) (a .c .left .starts - startTakes (a .f) (a .c .state)) (a .c .left .ons - a .f .takes .ons) i in
     (e, omega (arith, e, index-lt (a .f) _ (in-row c i h)))
 
 -- the test of an output, as `firstOn` has it
@@ -62,14 +59,14 @@ met-is : (c : tie.At-loop Inv-loop μ-loop) (j : ℕ) →
     let o = c .before .before .before in
     let a = o .args in
     reachesOn (a .f) (storedAt (a .f) (a .scratch .now) (a .at)) (a .c) (a .price) (a .best) j
-    ≡ reachesBest (a .f) (a .scratch .now) (a .at + c .before .on-row .result) (a .c .blocks) (toZ w64 (ofZ w64 (a .price)))
+    ≡ reachesBest (a .f) (a .scratch .now) (a .at + c .before .on-row .result) (a .c .left .blocks) (toZ w64 (ofZ w64 (a .price)))
     (c .before .before .start-pays .result)
     (toZ w64 (ofZ w64 (a .best)))
     j
 met-is c j =
     let o = c .before .before .before in
     let a = o .args in
-    let i = a .c .blocks - j * a .f .perblock in
+    let i = a .c .left .blocks - j * a .f .takes .blocks in
     let p : a .at + c .before .on-row .result + i ≡ a .at + number o i = omega (arith, c .before .on-row .ensures, stands o i (omega arith) .0) in
     rw (plain-fits (o .fits .price), plain-fits (o .fits .best), c .before .before .start-pays .ensures, p)
 
@@ -111,7 +108,7 @@ reaches-requires c κs =
       rw (l .before .before .start-pays .ensures) (pays-most (a .f) (o .pre .0 .0 .sound) (a .c .state)),
       omega (arith, not-past l, o .pre .1 .high),
       record {
-        fits = omega (arith, e, stands o (a .c .blocks) (omega arith) .1, o .pre .0 .2 .fits);
+        fits = omega (arith, e, stands o (a .c .left .blocks) (omega arith) .1, o .pre .0 .2 .fits);
         small = λ i h.
             let p : a .at + (number o 0 + i) ≡ a .at + l .before .on-row .result + i = omega (arith, e) in
             rw p at (o .pre .0 .2 .small (number o 0 + i) (stands o i (omega arith) .1));

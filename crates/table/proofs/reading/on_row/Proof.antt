@@ -14,12 +14,12 @@ may c = runs (c .args .f) (c .args .c) (c .pre .2)
 -- no block is left and none is taken
 first : (c : tie.After-on-cell) →
     let a = c .before .args in
-    c .on-cell .result ≡ cell (afterOn (a .f) (a .c .state)) (a .c .starts - startTakes (a .f) (a .c .state)) (a .c .ons - a .f .peron) 0
+    c .on-cell .result ≡ cell (afterOn (a .f) (a .c .state)) (a .c .left .starts - startTakes (a .f) (a .c .state)) (a .c .left .ons - a .f .takes .ons) 0
 first c =
     let a = c .before .args in
-    let none : 0 - 0 * a .f .perblock ≡ 0 = omega arith in
+    let none : 0 - 0 * a .f .takes .blocks ≡ 0 = omega arith in
     c .on-cell .ensures
-    ∙ ap (λ (n : ℕ). cell (afterOn (a .f) (a .c .state)) (a .c .starts - startTakes (a .f) (a .c .state)) (a .c .ons - a .f .peron) n) none
+    ∙ ap (λ (n : ℕ). cell (afterOn (a .f) (a .c .state)) (a .c .left .starts - startTakes (a .f) (a .c .state)) (a .c .left .ons - a .f .takes .ons) n) none
 
 on-cell-requires : tie.Need-on-cell-requires
 on-cell-requires c κs = ((c .pre .0, c .pre .1 .state), (may c .starts, may c .ons, omega arith))
@@ -30,7 +30,7 @@ index-requires c κs =
     let h = o .pre .1 in (
       o .pre .0,
       rw (first c)
-          (record { state = may o .leads; starts = omega (arith, h .starts); ons = omega (arith, h .ons); blocks = omega arith }),
+          (record { state = may o .leads; left = record { starts = omega (arith, h .left .starts); ons = omega (arith, h .left .ons); blocks = omega arith } }),
     )
 
 returns : tie.Need-returns

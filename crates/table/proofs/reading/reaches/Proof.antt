@@ -23,25 +23,25 @@ brings c = plain-fits (record { sfits = c .net .ok }) ∙ (rw (plain-fits (c .be
 
 reached : (c : tie.After-net) →
     let a = c .before .before .before .before .args in
-    Within (2 ^ 62 + swing) (getD (a .scratch .now) (a .row + (a .z - a .k * a .f .perblock)) (pos 0) +ℤ net (a .f) (a .price) (a .pays) (a .k))
+    Within (2 ^ 62 + swing) (getD (a .scratch .now) (a .row + (a .z - a .k * a .f .takes .blocks)) (pos 0) +ℤ net (a .f) (a .price) (a .pays) (a .k))
 reached c =
     let o = c .before .before .before .before in
     let a = o .args in
-    gained-within (getD (a .scratch .now) (a .row + (a .z - a .k * a .f .perblock)) (pos 0)) (net (a .f) (a .price) (a .pays) (a .k))
-    (o .pre .3 .small (a .z - a .k * a .f .perblock) (omega arith))
+    gained-within (getD (a .scratch .now) (a .row + (a .z - a .k * a .f .takes .blocks)) (pos 0)) (net (a .f) (a .price) (a .pays) (a .k))
+    (o .pre .3 .small (a .z - a .k * a .f .takes .blocks) (omega arith))
     (net-small (a .f) (o .pre .0 .sound) (a .price) (o .pre .0 .priced) (a .pays) (a .k) (o .pre .1) (o .pre .2))
 
 read : (c : tie.After-v) →
     let a = c .before .before .before .args in
-    toZ w64 (ofZ w64 (getD (a .scratch .now) (a .row + (a .z - a .k * a .f .perblock)) (pos 0))) ≡ getD (a .scratch .now)
-    (a .row + (a .z - a .k * a .f .perblock)) (pos 0)
+    toZ w64 (ofZ w64 (getD (a .scratch .now) (a .row + (a .z - a .k * a .f .takes .blocks)) (pos 0))) ≡ getD (a .scratch .now)
+    (a .row + (a .z - a .k * a .f .takes .blocks)) (pos 0)
 read c = plain-fits (record { sfits = c .v .given })
 
 -- the test, of the numbers themselves
 tested : (c : tie.After-net) →
     let a = c .before .before .before .before .args in
-    toZ w64 (ofZ w64 (toZ w64 (ofZ w64 (getD (a .scratch .now) (a .row + (a .z - a .k * a .f .perblock)) (pos 0))) +ℤ toZ w64 (ofZ w64 (c .net .result))))
-    ≡ getD (a .scratch .now) (a .row + (a .z - a .k * a .f .perblock)) (pos 0) +ℤ net (a .f) (a .price) (a .pays) (a .k)
+    toZ w64 (ofZ w64 (toZ w64 (ofZ w64 (getD (a .scratch .now) (a .row + (a .z - a .k * a .f .takes .blocks)) (pos 0))) +ℤ toZ w64 (ofZ w64 (c .net .result))))
+    ≡ getD (a .scratch .now) (a .row + (a .z - a .k * a .f .takes .blocks)) (pos 0) +ℤ net (a .f) (a .price) (a .pays) (a .k)
 tested c = rw (read (c .before), brings c) (plain (reached c) (lit< tt))
 
 returns-2 : tie.Need-returns-2

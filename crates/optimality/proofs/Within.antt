@@ -1,0 +1,33 @@
+-- Budgets that are within others, and figures with smaller ones.
+use Prim.Native.Nat.{_≤_}
+use native.Mathlib.Omega.{arith}
+use Rattle.optimality.specs.declared.Budgets.{Budgets}
+use Rattle.optimality.specs.declared.Figures.{Figures}
+use Rattle.optimality.specs.Cells.{Within, Sound, withMost, less}
+
+pub within-itself : (a : Budgets) → Within a a
+within-itself a = record { starts = omega arith; ons = omega arith; blocks = omega arith }
+
+pub within-within : {a b c : Budgets} → Within a b → Within b c → Within a c
+within-within p q = record { starts = omega arith; ons = omega arith; blocks = omega arith }
+
+pub less-within : (a b : Budgets) → Within (less a b) a
+less-within a b = record { starts = omega arith; ons = omega arith; blocks = omega arith }
+
+pub with-sound : (f : Figures) (most : Budgets) → Within most (f .most) → Sound f → Sound (withMost f most)
+with-sound f most within ok =
+    record {
+      block = ok .block;
+      pmin = ok .pmin;
+      pmax = ok .pmax;
+      top = ok .top;
+      mot = ok .mot;
+      mot-most = ok .mot-most;
+      mdt = ok .mdt;
+      mdt-most = ok .mdt-most;
+      vec = ok .vec;
+      mlc = ok .mlc;
+      suc = ok .suc;
+      takes = ok .takes;
+      most = within-within within (ok .most);
+    }
