@@ -11,6 +11,7 @@ pub mod Ranges
 pub mod Outputs
 pub mod Best
 pub mod Split
+pub mod Cut
 pub mod Shift
 pub mod Simulate
 pub mod Left
