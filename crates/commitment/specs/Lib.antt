@@ -9,6 +9,7 @@ pub mod Windows
 pub mod Profit
 pub mod Order
 pub mod Best
+pub mod Months
 pub mod Rivals
 pub mod Valuing
 pub mod Cells

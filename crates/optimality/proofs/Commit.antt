@@ -40,16 +40,16 @@ abbrev pub scaled : ℕ → Limit → Limit
 scaled unit None = None
 scaled unit (At limit) = At (unit * limit)
 
-within-counted : (unit n : ℕ) (l : Limit) → within unit n l ≡ affords (scaled unit l) n
+pub within-counted : (unit n : ℕ) (l : Limit) → within unit n l ≡ affords (scaled unit l) n
 within-counted unit n None = refl
 within-counted unit n (At limit) = refl
 
-affords-none : (l : Limit) → affords l 0 ≡ true
+pub affords-none : (l : Limit) → affords l 0 ≡ true
 affords-none None = refl
 affords-none (At left) = leb·zero left
 
 -- some, and then some more
-affords-sum : (l : Limit) (j n : ℕ) → affords l (j + n) ≡ (affords l j && affords (spend l j) n)
+pub affords-sum : (l : Limit) (j n : ℕ) → affords l (j + n) ≡ (affords l j && affords (spend l j) n)
 affords-sum None j n = refl
 affords-sum (At left) j n = test (leb j left) refl (leb n (left - j)) refl
   where
@@ -58,7 +58,7 @@ affords-sum (At left) j n = test (leb j left) refl (leb n (left - j)) refl
     test true e false f = simp (e, f, lt-leb (j + n) left (omega (arith, leb-true j left e, leb-false n (left - j) f)))
     test false e t f = simp (e, lt-leb (j + n) left (omega (arith, leb-false j left e)))
 
-affords-one : (l : Limit) (n : ℕ) → affords l (suc n) ≡ (affords l 1 && affords (spend l 1) n)
+pub affords-one : (l : Limit) (n : ℕ) → affords l (suc n) ≡ (affords l 1 && affords (spend l 1) n)
 affords-one l n = ap (affords l) (sym (one-add n)) ∙ affords-sum l 1 n
 
 -- ---- the machine: on or off, for how long, and what is left of the starts, the on-intervals and the outputs
@@ -146,7 +146,7 @@ held true false m stop f = refl
 held true false m (go g x) f = refl
 held false rest m step f = refl
 
-hours-last : (rules hours : Bool) (p : Plan) → cond (rules && hours) p nothing ≡ cond hours (cond rules p nothing) nothing
+pub hours-last : (rules hours : Bool) (p : Plan) → cond (rules && hours) p nothing ≡ cond hours (cond rules p nothing) nothing
 hours-last true true p = refl
 hours-last true false p = refl
 hours-last false true p = refl
@@ -241,7 +241,7 @@ module _ (u : UnitRecord) where
       ∙ simp within-counted (run-from (opensIn (u .permit)) 0 prices s (before u) e)
 
 -- two functions that agree on lists of one length agree on all lists of so many outputs
-lists-ext : (ms : List ℕ) (n : ℕ) (f g : List ℕ → Plan) → ((s : List ℕ) → length s ≡ n → f s ≡ g s) → map f (lists ms n) ≡ map g (lists ms n)
+pub lists-ext : (ms : List ℕ) (n : ℕ) (f g : List ℕ → Plan) → ((s : List ℕ) → length s ≡ n → f s ≡ g s) → map f (lists ms n) ≡ map g (lists ms n)
 lists-ext ms zero f g h = ap (λ (a : Plan). a ∷ []) (h [] refl)
 lists-ext ms (suc n) f g h = each (λ m. lists-ext ms n (λ s. f (m ∷ s)) (λ s. g (m ∷ s)) (λ s e. h (m ∷ s) (ap suc e))) ms
   where

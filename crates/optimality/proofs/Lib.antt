@@ -14,6 +14,8 @@ pub mod Split
 pub mod Cut
 pub mod Shift
 pub mod Simulate
+pub mod Watched
+pub mod Years
 pub mod Left
 pub mod Cells
 pub mod Opening
