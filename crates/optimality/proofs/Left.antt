@@ -18,7 +18,7 @@ Left unit most taken n (At left) x = (taken ≡ 1) × (min (left / unit) (n * mo
 
 module _ (unit most : ℕ) (counts : 1 ≤ unit) where
   -- whole units of what is left after k units
-  units-less : (left k : ℕ) → (left - k * unit) / unit ≡ left / unit - k
+  pub units-less : (left k : ℕ) → (left - k * unit) / unit ≡ left / unit - k
   units-less left k = test (leb (k * unit) left) refl
     where
       test : (t : Bool) → leb (k * unit) left ≡ t → (left - k * unit) / unit ≡ left / unit - k
@@ -69,7 +69,7 @@ module _ (unit most : ℕ) (counts : 1 ≤ unit) where
 
 -- ---- one an interval
 
-one-many : (taken : ℕ) → 1 * taken ≡ taken
+pub one-many : (taken : ℕ) → 1 * taken ≡ taken
 one-many taken = omega arith
 
 pub one-affords : (taken n : ℕ) (l : Limit) (x : ℕ) → Left 1 1 taken (suc n) l x → leb taken x ≡ affords l 1

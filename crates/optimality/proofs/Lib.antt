@@ -17,6 +17,7 @@ pub mod Simulate
 pub mod Watched
 pub mod Years
 pub mod Left
+pub mod Capped
 pub mod Cells
 pub mod Opening
 pub mod Values
