@@ -46,9 +46,10 @@ module _ (unit most : ℕ) (counts : 1 ≤ unit) where
       let has = leb-true (k * taken) x may in
       let one : k * taken ≡ k = rw (r .0 .0) (mul-one k) in
       let year = left-spend unit most counts taken n k (At all) (x + d) h (r .0) in
-      let above : x + d - k * taken ≡ x - k * taken + d = omega arith in
-      (subst (λ (y : ℕ). Left unit most taken n (At (all - k * unit)) y) above year,
-      rw (units-less unit most counts left k, one) (omega (arith, r .1, one)))
+      let above : x + d - k * taken ≡ x - k * taken + d = omega arith in (
+        subst (λ (y : ℕ). Left unit most taken n (At (all - k * unit)) y) above year,
+        rw (units-less unit most counts left k, one) (omega (arith, r .1, one)),
+      )
 
   -- an interval that uses none
   pub capped-less : (taken n : ℕ) (a m : Limit) (d x : ℕ) → Capped unit most taken (suc n) a m d x → Capped unit most taken n a m d x

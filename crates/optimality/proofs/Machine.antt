@@ -56,3 +56,10 @@ module _ (State Input : Type 0) (step : State → Input → ℕ → Step State) 
       (fun-ext (λ m.
       best-along m (step x i m) (run State Input step ends is) ss
       ∙ along-ext m (step x i m) rest best (λ y. optimal outputs is y)))
+
+  -- inputs that are made of others
+  pub best-map : {From : Type 0} (made : From → Input) (outputs : List ℕ) (is : List From) (x : State)
+      → bestFrom State Input step ends outputs (map made is) x ≡ bestFrom State From (λ y i. step y (made i)) ends outputs is x
+  best-map made outputs [] x = refl
+  best-map made outputs (i ∷ is) x =
+      ap (λ (f : State → Plan). firstBest (map (λ m. along m (step x (made i) m) f) outputs)) (fun-ext (λ y. best-map made outputs is y))

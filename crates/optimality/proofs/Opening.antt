@@ -23,6 +23,7 @@ use Rattle.commitment.specs.Keeping.{wasOn, opensIn}
 use Rattle.commitment.specs.Best.{best}
 use Rattle.commitment.specs.Cells.{inCounts, mostCounts, counted}
 use Rattle.commitment.specs.Limits.{limitKept, limitFor, withLimit, limited}
+use Rattle.optimality.specs.declared.Budgets.{Budgets}
 use Rattle.optimality.specs.declared.Figures.{Figures}
 use Rattle.optimality.specs.Machine.{anywhere}
 use Rattle.optimality.specs.Cells.{takenOf, figuresWith, countsOf, figuresOf, Sound, InTable, quartersOf, planAt, openingState, openingCell}
@@ -31,7 +32,7 @@ use Rattle.optimality.proofs.Ranges.{Ranged}
 use Rattle.optimality.proofs.Commit.{scaled, before, best-steps}
 use Rattle.optimality.proofs.Quarters.{quarters-length}
 use Rattle.optimality.proofs.Left.{Left}
-use Rattle.optimality.proofs.Cells.{Timed, Alike, same-plan}
+use Rattle.optimality.proofs.Cells.{Timed, Plain, same-plan}
 
 -- ---- the opening cell is alike to the status before interval 1
 
@@ -45,9 +46,13 @@ opening-time u ok = test (wasOn (u .opening))
     test true = (ok .held, omega (arith, ok .held, ok .mot))
     test false = (ok .held, omega (arith, ok .held, ok .mdt))
 
-opening-alike : (u : UnitRecord) → Ranged u → (n : ℕ) → Alike u n (before u) (openingCell u n)
+opening-alike : (u : UnitRecord) (ok : Ranged u) (most : Budgets) (n : ℕ) → Plain u ok most n (before u) (openingCell u n)
 unfolding openingCell
-opening-alike u ok n = (opening-time u ok, (starts-left (u .limits .starts), hours-left (u .limits .hours), mwh-left (u .limits .mwh)))
+opening-alike u ok most n = (
+  refl,
+  opening-time u ok,
+  ((starts-left (u .limits .starts), refl), (hours-left (u .limits .hours), refl), (mwh-left (u .limits .mwh), refl)),
+)
   where
     starts-left : (l : Limit) → Left 1 1 (takenOf l) n (scaled 1 l) (counted (u .generator) n Starts l)
     starts-left None = refl
@@ -205,7 +210,7 @@ best-under u ok prices limits h =
     ) in
     best-steps v prices
     ∙ same-plan v ok (countsOf u n) (quartersOf u prices) (before v) (openingCell v n)
-    (rw (quarters-length (opensIn (u .permit)) 0 prices) (opening-alike v ok n))
+    (rw (quarters-length (opensIn (u .permit)) 0 prices) (opening-alike v ok (countsOf u n) n))
     ∙ ap (λ (f : Figures). planAt f anywhere (quartersOf u prices) (openingCell v n)) same
 
 -- the best plan is that of the opening cell

@@ -1,6 +1,6 @@
 -- A case with months inside it as a machine: what the watch of the months passes is what keeps every month, so the best schedule that does is found step
 -- by step.
-use mathlib.Core.Path.{_≡_, refl, sym, ap, ap₂, _∙_}
+use mathlib.Core.Path.{_≡_, refl, sym, ap, ap₂, _∙_, fun-ext}
 use mathlib.Core.Bool.{Bool, true, false, cond, _&&_, and-false}
 use mathlib.Core.List.{List, [], _∷_, _++_, map}
 use Prim.Native.Nat.{ℕ, zero, suc, _≤_, min}
@@ -17,9 +17,9 @@ use Rattle.commitment.specs.Best.{Plan, nothing, plan, outputs, lists, firstBes
 use Rattle.commitment.specs.Keeping.{wasOn, opensIn, startsIn, onIntervals, outputSum, keepsCase}
 use Rattle.commitment.specs.Months.{Month, onAfter, keepsIn, keepsMonths, intervalsOf, candidateIn, bestIn}
 use Rattle.commitment.specs.Profit.{profit}
-use Rattle.optimality.specs.Machine.{Step, stop, go, Quarter, inQuarter, anywhere, along, after, run, bestFrom}
+use Rattle.optimality.specs.Machine.{Step, stop, go, allow, Quarter, inQuarter, anywhere, along, after, run, bestFrom}
 use Rattle.optimality.specs.Cells.{quartersOf}
-use Rattle.optimality.specs.Watched.{Watch, passes, watched, unwatched}
+use Rattle.optimality.specs.Watched.{Watch, beside, passes, watched, unwatched}
 use Rattle.optimality.specs.Years.{Anew, same, anew, YearQuarter, inMonth, monthFrom, yearQuarters, inYear}
 use Rattle.optimality.proofs.Machine.{map-append, along-ext, optimal}
 use Rattle.optimality.proofs.Quarters.{quarters-length}
@@ -148,7 +148,7 @@ module _ {State : Type 0} (step : State → Quarter → ℕ → Step State) (end
 
 -- ---- the best of all schedules that keep every month
 
-module _ (u : UnitRecord) (months : List Month) where
+module _ (u : UnitRecord) where
   -- the machine of the year, and where it begins
   abbrev pub yearStep : Status × Spare → YearQuarter → ℕ → Step (Status × Spare)
   yearStep = watched Status Spare YearQuarter (inYear (inQuarter (commit u))) monthWatch
@@ -156,7 +156,7 @@ module _ (u : UnitRecord) (months : List Month) where
   abbrev pub yearBefore : Status × Spare
   yearBefore = (before u, spare (wasOn (u .opening)) None None None)
 
-  module _ (prices : List ℤ) (whole : length prices ≤ intervalsOf months) where
+  module _ (months : List Month) (prices : List ℤ) (whole : length prices ≤ intervalsOf months) where
     abbrev quarters : List YearQuarter
     quarters = yearQuarters months (quartersOf u prices)
 
@@ -188,3 +188,25 @@ module _ (u : UnitRecord) (months : List Month) where
         ap firstBest (lists-ext ms (length prices) (candidateIn u months prices) runs candidate-year)
         ∙ ap (λ (n : ℕ). firstBest (map runs (lists ms n))) (sym year-length)
         ∙ optimal (Status × Spare) YearQuarter yearStep (unwatched anywhere) ms quarters yearBefore
+
+  -- ---- a watch without figures allows all
+
+  free-along : (m : ℕ) (on : Bool) (r : Step Status) (both : Status × Spare → Plan) (alone : Status → Plan)
+      → ((y : Status) (on′ : Bool) → both (y, spare on′ None None None) ≡ alone y)
+      → along m (allow (spares (spare on None None None) m) (beside (sparing (spare on None None None) m) r)) both ≡ along m r alone
+  free-along zero on stop both alone h = refl
+  free-along zero on (go g y) both alone h = ap (after zero g) (h y false)
+  free-along (suc m) true stop both alone h = refl
+  free-along (suc m) true (go g y) both alone h = ap (after (suc m) g) (h y true)
+  free-along (suc m) false stop both alone h = refl
+  free-along (suc m) false (go g y) both alone h = ap (after (suc m) g) (h y true)
+
+  pub free : (ends : Status → BestProfit) (outputs : List ℕ) (qs : List Quarter) (x : Status) (on : Bool)
+      → bestFrom (Status × Spare) YearQuarter yearStep (unwatched ends) outputs (map inMonth qs) (x, spare on None None None)
+      ≡ bestFrom Status Quarter (inQuarter (commit u)) ends outputs qs x
+  free ends outputs [] x on = refl
+  free ends outputs (q ∷ qs) x on =
+      let both = bestFrom (Status × Spare) YearQuarter yearStep (unwatched ends) outputs (map inMonth qs) in
+      let alone = bestFrom Status Quarter (inQuarter (commit u)) ends outputs qs in
+      ap (λ (f : ℕ → Plan). firstBest (map f outputs))
+      (fun-ext (λ m. free-along m on (inQuarter (commit u) x q m) both alone (λ y on′. free ends outputs qs y on′)))
