@@ -19,6 +19,7 @@ pub mod Years
 pub mod Left
 pub mod Capped
 pub mod Cells
+pub mod Months
 pub mod Opening
 pub mod Values
 pub mod Turns

@@ -1,0 +1,170 @@
+-- A year is its months: the best profit of a case with months inside it is worked out month by month over the cells of the table, each month with what is
+-- left of the year capped by its own figures.
+use mathlib.Core.Path.{_≡_, refl, sym, ap, _∙_, subst}
+use mathlib.Core.Bool.{Bool}
+use mathlib.Core.List.{List, [], _∷_, _++_, map}
+use Prim.Native.Nat.{ℕ, _+_, _-_, _*_, _/_, _≤_, min}
+use native.Mathlib.Nat.{div-one, one-mul}
+use native.Mathlib.Omega.{arith}
+use lib.ListN.{length, take, drop, length-append, take-append-drop}
+use Rattle.commitment.specs.declared.BestProfit.{BestProfit}
+use Rattle.commitment.specs.declared.Limit.{Limit}
+use Rattle.commitment.specs.declared.Limit.the-variants.{None, At}
+use Rattle.commitment.specs.declared.Limitation.{Limitation}
+use Rattle.commitment.specs.declared.Limitation.the-variants.{Starts, Hours, Mwh}
+use Rattle.commitment.specs.declared.Limits.{Limits}
+use Rattle.commitment.specs.declared.UnitRecord.{UnitRecord}
+use Rattle.commitment.specs.Best.{outputs, profitOf}
+use Rattle.commitment.specs.Cells.{inCounts}
+use Rattle.commitment.specs.Limits.{limitFor}
+use Rattle.commitment.specs.Months.{Month}
+use Rattle.optimality.specs.declared.Budgets.{Budgets}
+use Rattle.optimality.specs.declared.Cell.{Cell}
+use Rattle.optimality.specs.declared.Figures.{Figures}
+use Rattle.optimality.specs.Machine.{Quarter, anywhere, bestFrom, valueFrom}
+use Rattle.optimality.specs.Cells.{figuresWith, takenOf, planAt, valueAt}
+use Rattle.optimality.specs.Watched.{unwatched}
+use Rattle.optimality.specs.Years.{YearQuarter, inMonth, monthFrom, yearQuarters, capped, cappedBy, boxIn, raised, aboveBox, yearValue}
+use Rattle.optimality.proofs.Ranges.{Ranged}
+use Rattle.optimality.proofs.Commit.{Status, status, scaled}
+use Rattle.optimality.proofs.Cut.{cut-value}
+use Rattle.optimality.proofs.Values.{value-from}
+use Rattle.optimality.proofs.Turns.{plan-value}
+use Rattle.optimality.proofs.Years.{Spare, spare, yearStep}
+use Rattle.optimality.proofs.Left.{Left}
+use Rattle.optimality.proofs.Capped.{Capped}
+use Rattle.optimality.proofs.Cells.{isOn, Alike, Plain, month-plan}
+
+-- ---- a limitation at a month's beginning and at its end
+
+-- a month figure stands beside a year figure
+abbrev pub Beside : Limit → Limit → Type 0
+Beside a None = Unit {0}
+Beside None (At figure) = ⊥
+Beside (At all) (At figure) = Unit {0}
+
+abbrev pub AllBeside : Limits → Limits → Type 0
+AllBeside year month = (which : Limitation) → Beside (limitFor year which) (limitFor month which)
+
+module _ (unit most taken n : ℕ) where
+  -- as much as the month's figure comes to is taken from the year's
+  enters : (a : Limit) (m : Limit) (y cap : ℕ) → Left unit most taken n a y → (m ≡ None → cap ≡ y)
+      → ((left : ℕ) → m ≡ At left → (cap ≡ min y (left / unit)) × (taken ≡ 1)) → Capped unit most taken n a m (y - cap) cap
+  enters a None y cap r none at = rw (none refl) (r, omega arith)
+  enters None (At left) y cap r none at = absurd (omega (arith, r, at left refl .1))
+  enters (At all) (At left) y cap r none at =
+      let e = at left refl .0 in
+      let whole : cap + (y - cap) ≡ y = omega arith in
+      (rw whole r, rw whole (omega arith))
+
+  leaves : (a m : Limit) (d x : ℕ) → Capped unit most taken n a m d x → Capped unit most taken n a None 0 (x + d)
+  leaves a None d x r = let same : x + d ≡ x = omega (arith, r .1) in (rw same (r .0), refl)
+  leaves None (At left) d x r = absurd r
+  leaves (At all) (At left) d x r = (r .0, refl)
+
+-- the figure of a month, scaled to counts of which `unit` make one of the cell's
+module _ (u : UnitRecord) (unit most n : ℕ) (which : Limitation) (scale : ℕ)
+    (counts : (figure : ℕ) → inCounts (u .generator) which figure ≡ scale * figure / unit) where
+  begins : (year month a : Limit) (y : ℕ) → Beside year month → Left unit most (takenOf year) n a y
+      → Capped unit most (takenOf year) n a (scaled scale month) (y - capped (u .generator) which month y) (capped (u .generator) which month y)
+  begins year None a y h r = enters unit most (takenOf year) n a None y y r (λ e. refl) (λ left e. absurd (not-at left e))
+    where
+      not-at : (left : ℕ) → _≡_ {A = Limit} None (At left) → ⊥
+      not-at left e = let z : _≡_ {A = ℕ} 0 1 = cc in omega arith
+  begins None (At figure) a y h r = absurd h
+  begins (At all) (At figure) a y h r =
+      enters unit most 1 n a (At (scale * figure)) y (min y (inCounts (u .generator) which figure)) r (λ e. absurd (not-none e))
+      (λ left e. (rw (counts figure) (ap (λ (z : ℕ). min y (z / unit)) (at-is e)), refl))
+    where
+      not-none : _≡_ {A = Limit} (At (scale * figure)) None → ⊥
+      not-none e = let z : _≡_ {A = ℕ} 0 1 = cc in omega arith
+
+      at-is : {left : ℕ} → _≡_ {A = Limit} (At (scale * figure)) (At left) → scale * figure ≡ left
+      at-is e = cc
+
+-- ---- a month's beginning and its end
+
+module _ (u : UnitRecord) (ok : Ranged u) (most : Budgets) where
+  abbrev f : Figures
+  f = figuresWith u most
+
+  abbrev filled : Limits → Bool → Spare
+  filled limits on = spare on (scaled 1 (limits .starts)) (scaled 4 (limits .hours)) (scaled 4 (limits .mwh))
+
+  pub month-begins : (limits : Limits) → AllBeside (u .limits) limits → (n : ℕ) (s : Status) (c : Cell) → Plain u ok most n s c
+      → Alike u (aboveBox (u .generator) limits c) n (s, filled limits (isOn s)) (boxIn (u .generator) limits c)
+  month-begins limits h n (status on spent a b d) c (same, timed, (starts, hours, mwh)) = (
+    refl,
+    timed,
+    (
+      begins u 1 1 n Starts 1 (λ k. sym (div-one (1 * k) ∙ one-mul k)) (u .limits .starts) (limits .starts) a (c .left .starts) (h Starts) (starts .0),
+      begins u 1 1 n Hours 4 (λ k. sym (div-one (4 * k))) (u .limits .hours) (limits .hours) b (c .left .ons) (h Hours) (hours .0),
+      begins u (u .generator .block) (u .generator .pmax) n Mwh 4 (λ k. refl) (u .limits .mwh) (limits .mwh) d (c .left .blocks) (h Mwh) (mwh .0),
+    ),
+  )
+
+  pub month-ends : (above : Budgets) (n : ℕ) (s : Status) (v : Spare) (x : Cell) → Alike u above n (s, v) x → Plain u ok most n s (raised above x)
+  month-ends above n (status on spent a b c) (spare on′ a′ b′ c′) x (same, timed, (starts, hours, mwh)) = (
+    refl,
+    timed,
+    (
+      leaves 1 1 (takenOf (u .limits .starts)) n a a′ (above .starts) (x .left .starts) starts,
+      leaves 1 1 (takenOf (u .limits .hours)) n b b′ (above .ons) (x .left .ons) hours,
+      leaves (u .generator .block) (u .generator .pmax) (takenOf (u .limits .mwh)) n c c′ (above .blocks) (x .left .blocks) mwh,
+    ),
+  )
+
+  -- ---- the best profit, month by month
+
+  abbrev worth : List YearQuarter → Status × Spare → BestProfit
+  worth = valueFrom (Status × Spare) YearQuarter (yearStep u) (unwatched anywhere) (outputs (u .generator))
+
+  -- from the first quarter of a month on its figures stand, whatever was left of others
+  refill : (limits : Limits) (front : List Quarter) (ends : Status × Spare → BestProfit) (s : Status) (a b c : Limit)
+      → ((v w : Spare) → front ≡ [] → ends (s, spare (isOn s) a b c) ≡ ends (s, filled limits (isOn s)))
+      → valueFrom (Status × Spare) YearQuarter (yearStep u) ends (outputs (u .generator)) (monthFrom limits front) (s, spare (isOn s) a b c)
+      ≡ valueFrom (Status × Spare) YearQuarter (yearStep u) ends (outputs (u .generator)) (map inMonth front) (s, filled limits (isOn s))
+  refill limits [] ends s a b c none = none (filled limits (isOn s)) (filled limits (isOn s)) refl
+  refill limits (q ∷ front) ends s a b c none = refl
+
+  -- month figures stand beside year figures in every month
+  abbrev pub Months : List Month → Type 0
+  Months [] = Unit {0}
+  Months (m ∷ ms) = AllBeside (u .limits) (m .limits) × Months ms
+
+  pub year-value : (ms : List Month) → Months ms → (qs : List Quarter) (s : Status) (a b c : Limit) (x : Cell) → Plain u ok most (length qs) s x
+      → worth (yearQuarters ms qs) (s, spare (isOn s) a b c) ≡ yearValue (u .generator) f ms qs x
+  unfolding yearValue
+  year-value [] h qs s a b c x r = refl
+  year-value (m ∷ ms) h qs s a b c x r =
+      let front = take (m .long) qs in
+      let back = drop (m .long) qs in
+      let above = aboveBox (u .generator) (m .limits) x in
+      let later : List YearQuarter = yearQuarters ms back in
+      let long : length back + length front ≡ length qs =
+      omega (arith, length-append front back, ap length (take-append-drop (m .long) qs)) in
+      let start = month-begins (m .limits) (h .0) (length qs) s x r in
+      let plans = month-plan u ok most above (length back) (worth later) (λ y. yearValue (u .generator) f ms back (raised above y))
+      (λ s′ y r′. at-end ms (h .1) back above s′ y r′ (λ t v v′ v″ z p. year-value ms (h .1) back t v v′ v″ z p))
+      front (s, filled (m .limits) (isOn s)) (boxIn (u .generator) (m .limits) x)
+      (subst (λ (n : ℕ). Alike u above n (s, filled (m .limits) (isOn s)) (boxIn (u .generator) (m .limits) x)) (sym long) start) in
+      cut-value (Status × Spare) YearQuarter (yearStep u) (unwatched anywhere) (outputs (u .generator)) (monthFrom (m .limits) front) later
+      (s, spare (isOn s) a b c)
+      ∙ refill (m .limits) front (worth later) s a b c
+      (λ v w none.
+      let all : length back ≡ length qs = omega (arith, long, ap length none) in
+      let same = subst (λ (n : ℕ). Plain u ok most n s x) (sym all) r in
+      year-value ms (h .1) back s a b c x same
+      ∙ sym (year-value ms (h .1) back s (scaled 1 (m .limits .starts)) (scaled 4 (m .limits .hours)) (scaled 4 (m .limits .mwh)) x same))
+      ∙ sym (value-from (Status × Spare) YearQuarter (yearStep u) (worth later) (outputs (u .generator)) (map inMonth front) (s, filled (m .limits) (isOn s)))
+      ∙ ap profitOf plans
+      ∙ plan-value f (λ y. yearValue (u .generator) f ms back (raised above y)) front (boxIn (u .generator) (m .limits) x)
+    where
+      at-end : (ms : List Month) → Months ms → (back : List Quarter) (above : Budgets) (s : Status × Spare) (y : Cell) → Alike u above (length back) s y
+          → ((t : Status) (a b c : Limit) (z : Cell) → Plain u ok most (length back) t z
+          → worth (yearQuarters ms back) (t, spare (isOn t) a b c) ≡ yearValue (u .generator) f ms back z)
+          → worth (yearQuarters ms back) s ≡ yearValue (u .generator) f ms back (raised above y)
+      at-end ms k back above (status on spent a b c, spare on′ a′ b′ c′) y r go =
+          ap (λ (t : Bool). worth (yearQuarters ms back) (status on spent a b c, spare t a′ b′ c′)) (sym (r .0))
+          ∙ go (status on spent a b c) a′ b′ c′ (raised above y)
+          (month-ends above (length back) (status on spent a b c) (spare on′ a′ b′ c′) y r)
