@@ -21,10 +21,11 @@ use Rattle.commitment.specs.Months.{Month}
 use Rattle.optimality.specs.declared.Budgets.{Budgets}
 use Rattle.optimality.specs.declared.Cell.{Cell}
 use Rattle.optimality.specs.declared.Figures.{Figures}
-use Rattle.optimality.specs.Machine.{Quarter, anywhere, bestFrom, valueFrom}
+use Rattle.optimality.specs.Machine.{Quarter, ended, anywhere, bestFrom, valueFrom}
 use Rattle.optimality.specs.Cells.{figuresWith, takenOf, planAt, valueAt}
 use Rattle.optimality.specs.Watched.{unwatched}
 use Rattle.optimality.specs.Years.{YearQuarter, inMonth, monthFrom, yearQuarters, capped, cappedBy, boxIn, raised, aboveBox, yearValue}
+use Rattle.optimality.specs.Years.{monthPlan, yearPlan}
 use Rattle.optimality.proofs.Ranges.{Ranged}
 use Rattle.optimality.proofs.Commit.{Status, status, scaled}
 use Rattle.optimality.proofs.Cut.{cut-value}
@@ -120,17 +121,68 @@ module _ (u : UnitRecord) (ok : Ranged u) (most : Budgets) where
   worth = valueFrom (Status × Spare) YearQuarter (yearStep u) (unwatched anywhere) (outputs (u .generator))
 
   -- from the first quarter of a month on its figures stand, whatever was left of others
-  refill : (limits : Limits) (front : List Quarter) (ends : Status × Spare → BestProfit) (s : Status) (a b c : Limit)
-      → ((v w : Spare) → front ≡ [] → ends (s, spare (isOn s) a b c) ≡ ends (s, filled limits (isOn s)))
-      → valueFrom (Status × Spare) YearQuarter (yearStep u) ends (outputs (u .generator)) (monthFrom limits front) (s, spare (isOn s) a b c)
-      ≡ valueFrom (Status × Spare) YearQuarter (yearStep u) ends (outputs (u .generator)) (map inMonth front) (s, filled limits (isOn s))
-  refill limits [] ends s a b c none = none (filled limits (isOn s)) (filled limits (isOn s)) refl
-  refill limits (q ∷ front) ends s a b c none = refl
+  module _ (limits : Limits) (ends : Status × Spare → BestProfit) (s : Status) (a b c : Limit) where
+    abbrev Ends : List Quarter → Type 0
+    Ends front = front ≡ [] → ends (s, spare (isOn s) a b c) ≡ ends (s, filled limits (isOn s))
+
+    refill : (front : List Quarter) → Ends front
+        → bestFrom (Status × Spare) YearQuarter (yearStep u) ends (outputs (u .generator)) (monthFrom limits front) (s, spare (isOn s) a b c)
+        ≡ bestFrom (Status × Spare) YearQuarter (yearStep u) ends (outputs (u .generator)) (map inMonth front) (s, filled limits (isOn s))
+    refill [] none = ap ended (none refl)
+    refill (q ∷ front) none = refl
 
   -- month figures stand beside year figures in every month
   abbrev pub Months : List Month → Type 0
   Months [] = Unit {0}
   Months (m ∷ ms) = AllBeside (u .limits) (m .limits) × Months ms
+
+  -- ---- one month, whose later months come to their values
+
+  module _ (m : Month) (ms : List Month) (h : AllBeside (u .limits) (m .limits)) (qs : List Quarter) (s : Status) (x : Cell)
+      (r : Plain u ok most (length qs) s x)
+      (later : (t : Status) (a b c : Limit) (z : Cell) → Plain u ok most (length (drop (m .long) qs)) t z
+      → worth (yearQuarters ms (drop (m .long) qs)) (t, spare (isOn t) a b c) ≡ yearValue (u .generator) f ms (drop (m .long) qs) z) where
+    abbrev front : List Quarter
+    front = take (m .long) qs
+
+    abbrev back : List Quarter
+    back = drop (m .long) qs
+
+    abbrev above : Budgets
+    above = aboveBox (u .generator) (m .limits) x
+
+    abbrev box : Cell
+    box = boxIn (u .generator) (m .limits) x
+
+    -- what the later months are worth, in the machine and in the cells
+    abbrev value : Cell → BestProfit
+    value y = yearValue (u .generator) f ms back (raised above y)
+
+    long : length back + length front ≡ length qs
+    long = omega (arith, length-append front back, ap length (take-append-drop (m .long) qs))
+
+    start : Alike u above (length back + length front) (s, filled (m .limits) (isOn s)) box
+    start = rw long (month-begins (m .limits) h (length qs) s x r)
+
+    at-end : (t : Status × Spare) (y : Cell) → Alike u above (length back) t y → worth (yearQuarters ms back) t ≡ value y
+    at-end (status on spent a b c, spare on′ a′ b′ c′) y k =
+        ap (λ (t : Bool). worth (yearQuarters ms back) (status on spent a b c, spare t a′ b′ c′)) (sym (k .0))
+        ∙ later (status on spent a b c) a′ b′ c′ (raised above y) (month-ends above (length back) (status on spent a b c) (spare on′ a′ b′ c′) y k)
+
+    -- the month's plan in the machine is that of its box
+    month-is : (a b c : Limit)
+        → bestFrom (Status × Spare) YearQuarter (yearStep u) (worth (yearQuarters ms back)) (outputs (u .generator)) (monthFrom (m .limits) front)
+        (s, spare (isOn s) a b c)
+        ≡ monthPlan (u .generator) f m ms qs x
+    month-is a b c =
+        refill (m .limits) (worth (yearQuarters ms back)) s a b c front
+        (λ none.
+        let all : length qs ≡ length back = omega (arith, long, ap length none) in
+        let same = subst (λ (n : ℕ). Plain u ok most n s x) all r in
+        later s a b c x same ∙ sym (later s (scaled 1 (m .limits .starts)) (scaled 4 (m .limits .hours)) (scaled 4 (m .limits .mwh)) x same))
+        ∙ month-plan u ok most above (length back) (worth (yearQuarters ms back)) value at-end front (s, filled (m .limits) (isOn s)) box start
+
+  -- ---- all months
 
   pub year-value : (ms : List Month) → Months ms → (qs : List Quarter) (s : Status) (a b c : Limit) (x : Cell) → Plain u ok most (length qs) s x
       → worth (yearQuarters ms qs) (s, spare (isOn s) a b c) ≡ yearValue (u .generator) f ms qs x
@@ -139,32 +191,9 @@ module _ (u : UnitRecord) (ok : Ranged u) (most : Budgets) where
   year-value (m ∷ ms) h qs s a b c x r =
       let front = take (m .long) qs in
       let back = drop (m .long) qs in
-      let above = aboveBox (u .generator) (m .limits) x in
-      let later : List YearQuarter = yearQuarters ms back in
-      let long : length back + length front ≡ length qs =
-      omega (arith, length-append front back, ap length (take-append-drop (m .long) qs)) in
-      let start = month-begins (m .limits) (h .0) (length qs) s x r in
-      let plans = month-plan u ok most above (length back) (worth later) (λ y. yearValue (u .generator) f ms back (raised above y))
-      (λ s′ y r′. at-end ms (h .1) back above s′ y r′ (λ t v v′ v″ z p. year-value ms (h .1) back t v v′ v″ z p))
-      front (s, filled (m .limits) (isOn s)) (boxIn (u .generator) (m .limits) x)
-      (subst (λ (n : ℕ). Alike u above n (s, filled (m .limits) (isOn s)) (boxIn (u .generator) (m .limits) x)) (sym long) start) in
+      let later = yearQuarters ms back in
       cut-value (Status × Spare) YearQuarter (yearStep u) (unwatched anywhere) (outputs (u .generator)) (monthFrom (m .limits) front) later
       (s, spare (isOn s) a b c)
-      ∙ refill (m .limits) front (worth later) s a b c
-      (λ v w none.
-      let all : length back ≡ length qs = omega (arith, long, ap length none) in
-      let same = subst (λ (n : ℕ). Plain u ok most n s x) (sym all) r in
-      year-value ms (h .1) back s a b c x same
-      ∙ sym (year-value ms (h .1) back s (scaled 1 (m .limits .starts)) (scaled 4 (m .limits .hours)) (scaled 4 (m .limits .mwh)) x same))
-      ∙ sym (value-from (Status × Spare) YearQuarter (yearStep u) (worth later) (outputs (u .generator)) (map inMonth front) (s, filled (m .limits) (isOn s)))
-      ∙ ap profitOf plans
-      ∙ plan-value f (λ y. yearValue (u .generator) f ms back (raised above y)) front (boxIn (u .generator) (m .limits) x)
-    where
-      at-end : (ms : List Month) → Months ms → (back : List Quarter) (above : Budgets) (s : Status × Spare) (y : Cell) → Alike u above (length back) s y
-          → ((t : Status) (a b c : Limit) (z : Cell) → Plain u ok most (length back) t z
-          → worth (yearQuarters ms back) (t, spare (isOn t) a b c) ≡ yearValue (u .generator) f ms back z)
-          → worth (yearQuarters ms back) s ≡ yearValue (u .generator) f ms back (raised above y)
-      at-end ms k back above (status on spent a b c, spare on′ a′ b′ c′) y r go =
-          ap (λ (t : Bool). worth (yearQuarters ms back) (status on spent a b c, spare t a′ b′ c′)) (sym (r .0))
-          ∙ go (status on spent a b c) a′ b′ c′ (raised above y)
-          (month-ends above (length back) (status on spent a b c) (spare on′ a′ b′ c′) y r)
+      ∙ sym (value-from (Status × Spare) YearQuarter (yearStep u) (worth later) (outputs (u .generator)) (monthFrom (m .limits) front) (s, spare (isOn s) a b c))
+      ∙ ap profitOf (month-is m ms (h .0) qs s x r (λ t a′ b′ c′ z k. year-value ms (h .1) back t a′ b′ c′ z k) a b c)
+      ∙ plan-value f (λ y. yearValue (u .generator) f ms back (raised (aboveBox (u .generator) (m .limits) x) y)) front (boxIn (u .generator) (m .limits) x)

@@ -1,13 +1,15 @@
 -- Two machines that match step by step have the same best plan.
-use mathlib.Core.Path.{_≡_, refl, ap, ap₂}
+use mathlib.Core.Path.{_≡_, refl, sym, ap, ap₂, _∙_, subst}
 use mathlib.Core.Bool.{Bool, true, false}
 use mathlib.Core.List.{List, [], _∷_, map, List·Memᴰ, List·Memᴰ·head, List·Memᴰ·tail}
 use Prim.Native.Nat.{ℕ, suc}
-use lib.IntN.{ℤ}
+use lib.IntN.{ℤ, _+ℤ_}
 use lib.ListN.{length}
 use Rattle.commitment.specs.declared.BestProfit.{BestProfit}
 use Rattle.commitment.specs.Best.{Plan, firstBest}
-use Rattle.optimality.specs.Machine.{Step, stop, go, ended, allow, after, along, bestFrom}
+use Rattle.optimality.specs.Machine.{Step, stop, go, ended, allow, earning, then, walk, after, along, bestFrom}
+use Rattle.optimality.proofs.Rival.{AllIn}
+use Rattle.optimality.proofs.Split.{go-parts, no-step, parts}
 
 -- both steps are not allowed, or both earn the same and lead to states that are alike
 abbrev pub Match : {A B : Type 0} → (A → B → Type 0) → Step A → Step B → Type 0
@@ -46,3 +48,28 @@ module _ (A B Input : Type 0) (one : A → Input → ℕ → Step A) (two : B �
       ap firstBest
       (map-same (λ m. along m (one x i m) f) (λ m. along m (two y i m) g) outputs
       (λ m mem. along-match (Alike (length is)) m (one x i m) (two y i m) f g (match (length is) x y i m mem h) (λ x′ y′ h′. same-best is x′ y′ h′)))
+
+  -- a walk of the one is a walk of the other, to a state that is alike
+  pub same-walk : (is : List Input) (x : A) (y : B) → Alike (length is) x y → (a : List ℕ) → AllIn outputs a → (g : ℤ) (x′ : A)
+      → walk A Input one is x a ≡ go g x′ → (y′ : B) × (walk B Input two is y a ≡ go g y′) × Alike 0 x′ y′
+  same-walk [] x y h [] t g x′ e =
+      let k = go-parts e in
+      (y, ap (λ (z : ℤ). go z y) (k .0), subst (λ (z : A). Alike 0 z y) (k .1) h)
+  same-walk [] x y h (m ∷ a) t g x′ e = absurd (no-step e)
+  same-walk (i ∷ is) x y h [] t g x′ e = absurd (no-step e)
+  same-walk (i ∷ is) x y h (m ∷ a) t g x′ e =
+      by (one x i m) (two y i m) (match (length is) x y i m (t .0) h) (λ u v k d w. same-walk is u v k a (t .1) d x′ w) e
+    where
+      by : (r : Step A) (s : Step B) → Match (Alike (length is)) r s
+          → ((u : A) (v : B) → Alike (length is) u v → (d : ℤ) → walk A Input one is u a ≡ go d x′
+          → (y′ : B) × (walk B Input two is v a ≡ go d y′) × Alike 0 x′ y′)
+          → then r (λ z. walk A Input one is z a) ≡ go g x′
+          → (y′ : B) × (then s (λ z. walk B Input two is z a) ≡ go g y′) × Alike 0 x′ y′
+      by stop stop k later e = absurd (no-step e)
+      by stop (go d v) k later e = absurd k
+      by (go d u) stop k later e = absurd k
+      by (go d u) (go d′ v) k later e =
+          let p = parts (go d u) (λ z. walk A Input one is z a) g x′ e in
+          let q = go-parts (p .steps) in
+          let r = later u v (k .1) (p .second) (ap (λ (z : A). walk A Input one is z a) (q .1) ∙ p .goes) in
+          (r .0, ap (earning d′) (r .1) ∙ ap (λ (z : ℤ). go z (r .0)) (ap (λ (z : ℤ). z +ℤ p .second) (sym (k .0) ∙ q .0) ∙ p .sum), r .2)

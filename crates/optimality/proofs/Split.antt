@@ -47,7 +47,7 @@ plan-parts e = (cc, cc)
 pub go-parts : {State : Type 0} {g h : ℤ} {x y : State} → _≡_ {A = Step State} (go g x) (go h y) → (g ≡ h) × (x ≡ y)
 go-parts e = (cc, cc)
 
-no-step : {State : Type 0} {g : ℤ} {x : State} → _≡_ {A = Step State} stop (go g x) → ⊥
+pub no-step : {State : Type 0} {g : ℤ} {x : State} → _≡_ {A = Step State} stop (go g x) → ⊥
 no-step e = let z : _≡_ {A = ℕ} 0 1 = cc in omega arith
 
 -- outputs in front of a plan, that earn g
@@ -65,15 +65,15 @@ all-joined outputs (m ∷ a) b h k = (h .0, all-joined outputs a b (h .1) k)
 
 -- ---- one step, and those after it
 
-record Parts {State : Type 0} (t : Step State) (next : State → Step State) (g : ℤ) (y : State) : Type 0 where
-  first : ℤ
-  at : State
-  second : ℤ
-  steps : t ≡ go first at
-  goes : next at ≡ go second y
-  sum : first +ℤ second ≡ g
+pub record Parts {State : Type 0} (t : Step State) (next : State → Step State) (g : ℤ) (y : State) : Type 0 where
+  pub first : ℤ
+  pub at : State
+  pub second : ℤ
+  pub steps : t ≡ go first at
+  pub goes : next at ≡ go second y
+  pub sum : first +ℤ second ≡ g
 
-parts : {State : Type 0} (t : Step State) (next : State → Step State) (g : ℤ) (y : State) → then t next ≡ go g y → Parts t next g y
+pub parts : {State : Type 0} (t : Step State) (next : State → Step State) (g : ℤ) (y : State) → then t next ≡ go g y → Parts t next g y
 parts stop next g y e = absurd (no-step e)
 parts (go d x) next g y e = by (next x) refl e
   where

@@ -1,6 +1,7 @@
 -- The machine of a case with months inside it: that of the case, beside a watch that counts within the month and begins anew with each.
 use mathlib.Core.List.{List, [], _∷_, _++_, map}
 use Prim.Native.Nat.{ℕ, _+_, min}
+use lib.IntN.{ℤ, pos, _+ℤ_}
 use lib.ListN.{take, drop}
 use Rattle.commitment.specs.declared.BestProfit.{BestProfit}
 use Rattle.commitment.specs.declared.Generator.{Generator}
@@ -9,13 +10,14 @@ use Rattle.commitment.specs.declared.Limit.the-variants.{None, At}
 use Rattle.commitment.specs.declared.Limitation.{Limitation}
 use Rattle.commitment.specs.declared.Limitation.the-variants.{Starts, Hours, Mwh}
 use Rattle.commitment.specs.declared.Limits.{Limits}
+use Rattle.commitment.specs.Best.{Plan, nothing, plan}
 use Rattle.commitment.specs.Cells.{inCounts}
 use Rattle.commitment.specs.Months.{Month}
 use Rattle.optimality.specs.declared.Budgets.{Budgets}
 use Rattle.optimality.specs.declared.Cell.{Cell}
 use Rattle.optimality.specs.declared.Figures.{Figures}
-use Rattle.optimality.specs.Machine.{Quarter, Step, anywhere}
-use Rattle.optimality.specs.Cells.{budgets, cell, less, valueAt}
+use Rattle.optimality.specs.Machine.{Quarter, Step, stop, go, inQuarter, walk, anywhere}
+use Rattle.optimality.specs.Cells.{budgets, cell, less, cellStep, planAt, valueAt}
 
 -- ---- quarters of a year: the figures stand anew in the first quarter of a month
 
@@ -72,3 +74,29 @@ module _ (g : Generator) (f : Figures) where
   yearValue [] qs c = anywhere c
   yearValue (m ∷ ms) qs c =
       valueAt f (λ x. yearValue ms (drop (m .long) qs) (raised (aboveBox g (m .limits) c) x)) (take (m .long) qs) (boxIn g (m .limits) c)
+
+-- ---- the plan: that of the first month, then that of the later ones from the cell where it leads
+
+abbrev pub inFrontOf : List ℕ → ℤ → Plan → Plan
+inFrontOf a g nothing = nothing
+inFrontOf a g (plan s p) = plan (a ++ s) (g +ℤ p)
+
+abbrev pub onward : List ℕ → Step Cell → (Cell → Plan) → Plan
+onward a stop rest = nothing
+onward a (go g x) rest = inFrontOf a g (rest x)
+
+abbrev pub follow : (List ℕ → Step Cell) → (Cell → Plan) → Plan → Plan
+follow leads rest nothing = nothing
+follow leads rest (plan a g) = onward a (leads a) rest
+
+module _ (g : Generator) (f : Figures) where
+  -- a month's plan, with what the later months are worth from where it ends
+  abbrev pub monthPlan : Month → List Month → List Quarter → Cell → Plan
+  monthPlan m ms qs c =
+      planAt f (λ x. yearValue g f ms (drop (m .long) qs) (raised (aboveBox g (m .limits) c) x)) (take (m .long) qs) (boxIn g (m .limits) c)
+
+  unfoldable pub yearPlan : List Month → List Quarter → Cell → Plan
+  yearPlan [] qs c = plan [] (pos 0)
+  yearPlan (m ∷ ms) qs c =
+      follow (walk Cell Quarter (inQuarter (cellStep f)) (take (m .long) qs) (boxIn g (m .limits) c))
+      (λ x. yearPlan ms (drop (m .long) qs) (raised (aboveBox g (m .limits) c) x)) (monthPlan m ms qs c)
