@@ -21,7 +21,7 @@ use Rattle.lists.proofs.Conjunctions.{both}
 use Rattle.optimality.specs.declared.Budgets.{Budgets}
 use Rattle.optimality.specs.declared.Figures.{Figures}
 use Rattle.optimality.specs.declared.Cell.{Cell}
-use Rattle.optimality.specs.Machine.{Step, stop, go, allow, anywhere, Quarter, inQuarter, bestFrom}
+use Rattle.optimality.specs.Machine.{Step, stop, go, allow, anywhere, Quarter, inQuarter, walk, bestFrom}
 use Rattle.optimality.specs.Watched.{beside, watched, unwatched}
 use Rattle.optimality.specs.Years.{YearQuarter, inMonth, inYear}
 use Rattle.optimality.specs.Cells.{budgets, takenOf, figuresWith, states, afterOff, afterOn, startTakes, startPays, gain, mayRun}
@@ -29,8 +29,9 @@ use Rattle.optimality.specs.Cells.{offCell, onCell, onStep, cellStep, pl
 use Rattle.optimality.proofs.Ranges.{Ranged}
 use Rattle.optimality.proofs.Commit.{affords, spend, Status, status, commit}
 use Rattle.optimality.proofs.Outputs.{blocks-of}
-use Rattle.optimality.proofs.Machine.{best-map}
-use Rattle.optimality.proofs.Simulate.{Match, match-allow, same-best}
+use Rattle.optimality.proofs.Machine.{best-map, walk-map}
+use Rattle.optimality.proofs.Rival.{AllIn}
+use Rattle.optimality.proofs.Simulate.{Match, match-allow, same-best, same-walk}
 use Rattle.optimality.proofs.Years.{Spare, spare, spares, sparing, yearStep, free}
 use Rattle.optimality.proofs.Capped.{Capped, capped-affords, capped-spend, capped-less, cap-affords, cap-spend, cap-less}
 
@@ -275,7 +276,21 @@ module _ (u : UnitRecord) (ok : Ranged u) (most : Budgets) where
         (match-allow (Alike u above n) opened opened (allow (spares v m) (beside (sparing v m) (commit u (status on spent a b c) (q .price) m)))
         (cellStep f x (q .price) m) refl (λ o. matches n on spent a a′ b b′ c c′ x (q .price) m i timed left)))
 
-    -- ---- plans of a month: `later` intervals come after it, and plans end alike
+    -- ---- walks of a month, after which `later` intervals come
+
+    pub month-walk : (later : ℕ) (qs : List Quarter) (s : Status × Spare) (x : Cell) → Alike u above (later + length qs) s x
+        → (a : List ℕ) → AllIn (outputs (u .generator)) a → (g : ℤ) (s′ : Status × Spare)
+        → walk (Status × Spare) YearQuarter (yearStep u) (map inMonth qs) s a ≡ go g s′
+        → (x′ : Cell) × (walk Cell Quarter (inQuarter (cellStep f)) qs x a ≡ go g x′) × Alike u above later s′ x′
+    month-walk later qs s x r a t g s′ e =
+        let k =
+        same-walk (Status × Spare) Cell Quarter (λ y q. yearStep u y (inMonth q)) (inQuarter (cellStep f)) (unwatched anywhere) anywhere
+        (λ n. Alike u above (later + n)) (outputs (u .generator))
+        (λ n y z q m i h. quarters-match (later + n) y z q m i (subst (λ (k : ℕ). Alike u above k y z) (omega arith) h)) (λ y z h. refl) qs s x r a t g s′
+        (sym (walk-map (Status × Spare) YearQuarter (yearStep u) inMonth qs s a) ∙ e) in
+        (k .0, k .1, subst (λ (n : ℕ). Alike u above n s′ (k .0)) (omega arith) (k .2))
+
+    -- ---- plans of a month, where plans end alike
 
     module _ (later : ℕ) (ends : Status × Spare → BestProfit) (worth : Cell → BestProfit)
         (alike-ends : (s : Status × Spare) (x : Cell) → Alike u above later s x → ends s ≡ worth x) where

@@ -5,7 +5,7 @@ use Prim.Native.Nat.{ℕ}
 use lib.ListN.{length}
 use Rattle.commitment.specs.declared.BestProfit.{BestProfit}
 use Rattle.commitment.specs.Best.{Plan, nothing, better, firstBest, prefixed, lists}
-use Rattle.optimality.specs.Machine.{Step, stop, go, ended, after, along, run, bestFrom}
+use Rattle.optimality.specs.Machine.{Step, stop, go, then, walk, ended, after, along, run, bestFrom}
 use Rattle.optimality.proofs.Better.{better-nothing, best-append, best-after}
 
 -- ---- lists
@@ -63,3 +63,11 @@ module _ (State Input : Type 0) (step : State → Input → ℕ → Step State) 
   best-map made outputs [] x = refl
   best-map made outputs (i ∷ is) x =
       ap (λ (f : State → Plan). firstBest (map (λ m. along m (step x (made i) m) f) outputs)) (fun-ext (λ y. best-map made outputs is y))
+
+module _ (State Input : Type 0) (step : State → Input → ℕ → Step State) where
+  pub walk-map : {From : Type 0} (made : From → Input) (is : List From) (x : State) (a : List ℕ)
+      → walk State Input step (map made is) x a ≡ walk State From (λ y i. step y (made i)) is x a
+  walk-map made [] x [] = refl
+  walk-map made [] x (m ∷ a) = refl
+  walk-map made (i ∷ is) x [] = refl
+  walk-map made (i ∷ is) x (m ∷ a) = ap (then (step x (made i) m)) (fun-ext (λ y. walk-map made is y a))

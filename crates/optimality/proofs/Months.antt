@@ -1,11 +1,12 @@
 -- A year is its months: the best profit of a case with months inside it is worked out month by month over the cells of the table, each month with what is
 -- left of the year capped by its own figures.
-use mathlib.Core.Path.{_≡_, refl, sym, ap, _∙_, subst}
+use mathlib.Core.Path.{_≡_, refl, sym, ap, ap₂, _∙_, subst}
 use mathlib.Core.Bool.{Bool}
 use mathlib.Core.List.{List, [], _∷_, _++_, map}
 use Prim.Native.Nat.{ℕ, _+_, _-_, _*_, _/_, _≤_, min}
 use native.Mathlib.Nat.{div-one, one-mul}
 use native.Mathlib.Omega.{arith}
+use lib.IntN.{ℤ}
 use lib.ListN.{length, take, drop, length-append, take-append-drop}
 use Rattle.commitment.specs.declared.BestProfit.{BestProfit}
 use Rattle.commitment.specs.declared.Limit.{Limit}
@@ -14,27 +15,29 @@ use Rattle.commitment.specs.declared.Limitation.{Limitation}
 use Rattle.commitment.specs.declared.Limitation.the-variants.{Starts, Hours, Mwh}
 use Rattle.commitment.specs.declared.Limits.{Limits}
 use Rattle.commitment.specs.declared.UnitRecord.{UnitRecord}
-use Rattle.commitment.specs.Best.{outputs, profitOf}
+use Rattle.commitment.specs.Best.{Plan, nothing, plan, outputs, profitOf}
 use Rattle.commitment.specs.Cells.{inCounts}
 use Rattle.commitment.specs.Limits.{limitFor}
 use Rattle.commitment.specs.Months.{Month}
 use Rattle.optimality.specs.declared.Budgets.{Budgets}
 use Rattle.optimality.specs.declared.Cell.{Cell}
 use Rattle.optimality.specs.declared.Figures.{Figures}
-use Rattle.optimality.specs.Machine.{Quarter, ended, anywhere, bestFrom, valueFrom}
-use Rattle.optimality.specs.Cells.{figuresWith, takenOf, planAt, valueAt}
+use Rattle.optimality.specs.Machine.{go, Quarter, inQuarter, walk, ended, anywhere, bestFrom, valueFrom}
+use Rattle.optimality.specs.Cells.{figuresWith, takenOf, cellStep, planAt, valueAt}
 use Rattle.optimality.specs.Watched.{unwatched}
 use Rattle.optimality.specs.Years.{YearQuarter, inMonth, monthFrom, yearQuarters, capped, cappedBy, boxIn, raised, aboveBox, yearValue}
-use Rattle.optimality.specs.Years.{monthPlan, yearPlan}
+use Rattle.optimality.specs.Years.{follow, monthPlan, yearPlan}
 use Rattle.optimality.proofs.Ranges.{Ranged}
 use Rattle.optimality.proofs.Commit.{Status, status, scaled}
-use Rattle.optimality.proofs.Cut.{cut-value}
+use Rattle.optimality.proofs.Rival.{AllIn, attained}
+use Rattle.optimality.proofs.Split.{go-parts, no-step}
+use Rattle.optimality.proofs.Cut.{cut-value, continued, none-continued}
 use Rattle.optimality.proofs.Values.{value-from}
 use Rattle.optimality.proofs.Turns.{plan-value}
 use Rattle.optimality.proofs.Years.{Spare, spare, yearStep}
 use Rattle.optimality.proofs.Left.{Left}
 use Rattle.optimality.proofs.Capped.{Capped}
-use Rattle.optimality.proofs.Cells.{isOn, Alike, Plain, month-plan}
+use Rattle.optimality.proofs.Cells.{isOn, Alike, Plain, month-walk, month-plan}
 
 -- ---- a limitation at a month's beginning and at its end
 
@@ -197,3 +200,105 @@ module _ (u : UnitRecord) (ok : Ranged u) (most : Budgets) where
       ∙ sym (value-from (Status × Spare) YearQuarter (yearStep u) (worth later) (outputs (u .generator)) (monthFrom (m .limits) front) (s, spare (isOn s) a b c))
       ∙ ap profitOf (month-is m ms (h .0) qs s x r (λ t a′ b′ c′ z k. year-value ms (h .1) back t a′ b′ c′ z k) a b c)
       ∙ plan-value f (λ y. yearValue (u .generator) f ms back (raised (aboveBox (u .generator) (m .limits) x) y)) front (boxIn (u .generator) (m .limits) x)
+
+  -- ---- the plan
+
+  -- where the month's outputs lead in the machine, and in the cells
+  record Landed (front : List Quarter) (n : ℕ) (above : Budgets) (y : Cell) (o : List ℕ) (g : ℤ) (t : Status × Spare) : Type 0 where
+    at : Cell
+    leads : walk Cell Quarter (inQuarter (cellStep f)) front y o ≡ go g at
+    plain : Plain u ok most n (t .0) (raised above at)
+    starts : Limit
+    hours : Limit
+    mwh : Limit
+    seen : t ≡ (t .0, spare (isOn (t .0)) starts hours mwh)
+
+  landed : (limits : Limits) (front : List Quarter) (n : ℕ) (above : Budgets) (s : Status) (a b c : Limit) (y : Cell)
+      → Alike u above (n + length front) (s, filled limits (isOn s)) y → (o : List ℕ) → AllIn (outputs (u .generator)) o → (g : ℤ) (t : Status × Spare)
+      → walk (Status × Spare) YearQuarter (yearStep u) (monthFrom limits front) (s, spare (isOn s) a b c) o ≡ go g t → Landed front n above y o g t
+  landed limits [] n above s a b c y r [] all g t e =
+      let k = go-parts e in
+      let none : n + 0 ≡ n = omega arith in
+      let here = subst (λ (j : ℕ). Alike u above j (s, filled limits (isOn s)) y) none r in
+      subst (λ (z : Status × Spare). Landed [] n above y [] g z) (k .1)
+      (record {
+        at = y;
+        leads = ap (λ (z : ℤ). go z y) (k .0);
+        plain = month-ends above n s (filled limits (isOn s)) y here;
+        starts = a;
+        hours = b;
+        mwh = c;
+        seen = refl;
+      })
+  landed limits [] n above s a b c y r (m ∷ o) all g t e = absurd (no-step e)
+  landed limits (q ∷ front) n above s a b c y r [] all g t e = absurd (no-step e)
+  landed limits (q ∷ front) n above s a b c y r (m ∷ o) all g (status on spent a′ b′ c′, spare on′ a″ b″ c″) e =
+      let to : Status × Spare = (status on spent a′ b′ c′, spare on′ a″ b″ c″) in
+      let k = month-walk u ok most above n (q ∷ front) (s, filled limits (isOn s)) y r (m ∷ o) all g to e in
+      record {
+        at = k .0;
+        leads = k .1;
+        plain = month-ends above n (status on spent a′ b′ c′) (spare on′ a″ b″ c″) (k .0) (k .2);
+        starts = a″;
+        hours = b″;
+        mwh = c″;
+        seen = ap (λ (z : Bool). (status on spent a′ b′ c′, spare z a″ b″ c″)) (sym (k .2 .0));
+      }
+
+  abbrev best : List YearQuarter → Status × Spare → Plan
+  best = bestFrom (Status × Spare) YearQuarter (yearStep u) (unwatched anywhere) (outputs (u .generator))
+
+  -- the best plan of a case with months is made month by month
+  pub year-plan : (ms : List Month) → Months ms → (qs : List Quarter) (s : Status) (a b c : Limit) (x : Cell) → Plain u ok most (length qs) s x
+      → best (yearQuarters ms qs) (s, spare (isOn s) a b c) ≡ yearPlan (u .generator) f ms qs x
+  unfolding yearPlan
+  year-plan [] h qs s a b c x r = refl
+  year-plan (m ∷ ms) h qs s a b c x r =
+      by (monthPlan (u .generator) f m ms qs x) refl (λ t a′ b′ c′ z k. year-plan ms (h .1) (drop (m .long) qs) t a′ b′ c′ z k)
+    where
+      front : List Quarter
+      front = take (m .long) qs
+
+      back : List Quarter
+      back = drop (m .long) qs
+
+      above : Budgets
+      above = aboveBox (u .generator) (m .limits) x
+
+      box : Cell
+      box = boxIn (u .generator) (m .limits) x
+
+      later : List YearQuarter
+      later = yearQuarters ms back
+
+      worths : (t : Status) (a b c : Limit) (z : Cell) → Plain u ok most (length back) t z
+          → worth later (t, spare (isOn t) a b c) ≡ yearValue (u .generator) f ms back z
+      worths t a b c z k = year-value ms (h .1) back t a b c z k
+
+      is : bestFrom (Status × Spare) YearQuarter (yearStep u) (worth later) (outputs (u .generator)) (monthFrom (m .limits) front) (s, spare (isOn s) a b c)
+          ≡ monthPlan (u .generator) f m ms qs x
+      is = month-is m ms (h .0) qs s x r worths a b c
+
+      by : (p : Plan) → monthPlan (u .generator) f m ms qs x ≡ p
+          → ((t : Status) (a b c : Limit) (z : Cell) → Plain u ok most (length back) t z
+          → best later (t, spare (isOn t) a b c) ≡ yearPlan (u .generator) f ms back z)
+          → best (monthFrom (m .limits) front ++ later) (s, spare (isOn s) a b c)
+          ≡ follow (walk Cell Quarter (inQuarter (cellStep f)) front box) (λ z. yearPlan (u .generator) f ms back (raised above z)) p
+      by nothing e goes =
+          none-continued (Status × Spare) YearQuarter (yearStep u) (unwatched anywhere) (outputs (u .generator)) later (monthFrom (m .limits) front)
+          (s, spare (isOn s) a b c) (is ∙ e)
+      by (plan o g) e goes =
+          let k =
+          continued (Status × Spare) YearQuarter (yearStep u) (unwatched anywhere) (outputs (u .generator)) later (monthFrom (m .limits) front)
+          (s, spare (isOn s) a b c) o g (is ∙ e) in
+          let j = k .joined in
+          let tried =
+          attained (Status × Spare) YearQuarter (yearStep u) (worth later) (outputs (u .generator)) (monthFrom (m .limits) front) (s, spare (isOn s) a b c) o g
+          (is ∙ e) .1 in
+          let l =
+          landed (m .limits) front (length back) above s a b c box (start m ms (h .0) qs s x r worths) o tried (j .earned) (j .at) (j .leads) in
+          let rest : yearPlan (u .generator) f ms back (raised above (l .at)) ≡ plan (j .rest) (j .profit) =
+          sym (goes (j .at .0) (l .starts) (l .hours) (l .mwh) (raised above (l .at)) (l .plain)) ∙ ap (best later) (sym (l .seen)) ∙ j .goes-on in
+          k .best
+          ∙ ap₂ plan (j .whole) (sym (j .sum))
+          ∙ sym (rw (l .leads, rest))
