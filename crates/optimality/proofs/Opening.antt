@@ -22,17 +22,21 @@ use Rattle.commitment.specs.Ranges.{generatorKept, openingKept, costsKept, limi
 use Rattle.commitment.specs.Keeping.{wasOn, opensIn}
 use Rattle.commitment.specs.Best.{best}
 use Rattle.commitment.specs.Cells.{inCounts, mostCounts, counted}
+use Rattle.commitment.specs.Months.{Month, intervalsOf, bestIn}
 use Rattle.commitment.specs.Limits.{limitKept, limitFor, withLimit, limited}
 use Rattle.optimality.specs.declared.Budgets.{Budgets}
 use Rattle.optimality.specs.declared.Figures.{Figures}
 use Rattle.optimality.specs.Machine.{anywhere}
 use Rattle.optimality.specs.Cells.{takenOf, figuresWith, countsOf, figuresOf, Sound, InTable, quartersOf, planAt, openingState, openingCell}
 use Rattle.optimality.specs.Runs.{AtMost, Under}
+use Rattle.optimality.specs.Years.{yearPlan}
 use Rattle.optimality.proofs.Ranges.{Ranged}
 use Rattle.optimality.proofs.Commit.{scaled, before, best-steps}
 use Rattle.optimality.proofs.Quarters.{quarters-length}
 use Rattle.optimality.proofs.Left.{Left}
+use Rattle.optimality.proofs.Years.{best-year}
 use Rattle.optimality.proofs.Cells.{Timed, Plain, same-plan}
+use Rattle.optimality.proofs.Months.{Months, year-plan}
 
 -- ---- the opening cell is alike to the status before interval 1
 
@@ -195,23 +199,39 @@ module _ (u : UnitRecord) (ok : Ranged u) (n : ℕ) where
       state true = omega (arith, ok .mot, ok .mdt)
       state false = omega (arith, ok .mot, ok .mdt)
 
--- the best plan under smaller limitations is that of another cell of the same table
-pub best-under : (u : UnitRecord) → Ranged u → (prices : List ℤ) (limits : Limits) → Under limits (u .limits)
-    → best (limited u limits) prices ≡ planAt (figuresOf u (length prices)) anywhere (quartersOf u prices) (openingCell (limited u limits) (length prices))
+-- ---- the best plan under smaller limitations is that of another cell of the same table
+
+same-figures : (u : UnitRecord) (n : ℕ) (limits : Limits) → Under limits (u .limits) → figuresWith (limited u limits) (countsOf u n) ≡ figuresOf u n
 unfolding figuresOf
-best-under u ok prices limits h =
-    let n = length prices in
-    let v : UnitRecord = limited u limits in
-    let same : figuresWith v (countsOf u n) ≡ figuresOf u n =
+same-figures u n limits h =
     rw (
       taken-same (limits .starts) (u .limits .starts) (h Starts),
       taken-same (limits .hours) (u .limits .hours) (h Hours),
       taken-same (limits .mwh) (u .limits .mwh) (h Mwh),
-    ) in
+    )
+
+pub best-under : (u : UnitRecord) → Ranged u → (prices : List ℤ) (limits : Limits) → Under limits (u .limits)
+    → best (limited u limits) prices ≡ planAt (figuresOf u (length prices)) anywhere (quartersOf u prices) (openingCell (limited u limits) (length prices))
+best-under u ok prices limits h =
+    let n = length prices in
+    let v : UnitRecord = limited u limits in
     best-steps v prices
     ∙ same-plan v ok (countsOf u n) (quartersOf u prices) (before v) (openingCell v n)
     (rw (quarters-length (opensIn (u .permit)) 0 prices) (opening-alike v ok (countsOf u n) n))
-    ∙ ap (λ (f : Figures). planAt f anywhere (quartersOf u prices) (openingCell v n)) same
+    ∙ ap (λ (f : Figures). planAt f anywhere (quartersOf u prices) (openingCell v n)) (same-figures u n limits h)
+
+-- with months inside, whose figures stand beside those of the year
+pub best-in-months : (u : UnitRecord) (ok : Ranged u) (prices : List ℤ) (limits : Limits) → Under limits (u .limits) → (months : List Month)
+    → Months (limited u limits) ok (countsOf u (length prices)) months → length prices ≤ intervalsOf months
+    → bestIn (limited u limits) months prices
+    ≡ yearPlan (u .generator) (figuresOf u (length prices)) months (quartersOf u prices) (openingCell (limited u limits) (length prices))
+best-in-months u ok prices limits h months beside whole =
+    let n = length prices in
+    let v : UnitRecord = limited u limits in
+    best-year v months prices whole
+    ∙ year-plan v ok (countsOf u n) months beside (quartersOf u prices) (before v) None None None (openingCell v n)
+    (rw (quarters-length (opensIn (u .permit)) 0 prices) (opening-alike v ok (countsOf u n) n))
+    ∙ ap (λ (f : Figures). yearPlan (u .generator) f months (quartersOf u prices) (openingCell v n)) (same-figures u n limits h)
 
 -- the best plan is that of the opening cell
 pub best-cell : (u : UnitRecord) → Ranged u → (prices : List ℤ)
