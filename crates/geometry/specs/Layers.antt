@@ -50,9 +50,13 @@ storedAt f cells at c = getD cells (at + index f c) (pos 0)
 abbrev pub inFront : Figures → List ℤ → Cell → ℤ
 inFront f cells c = getD cells (index f c) (pos 0)
 
--- a layer holds the best profit of every cell over the quarters to come, after which plans end as `ends` says
-pub record Layer (f : Figures) (ends : Cell → BestProfit) (quarters : List Quarter) (stored : Cell → ℤ) : Type 0 where
-  pub holds : (c : Cell) → InTable f c → Holds (length quarters) (valueAt f ends quarters c) (stored c)
+-- a layer holds a value of every cell, n intervals before the end
+pub record LayerAt (f : Figures) (n : ℕ) (value : Cell → BestProfit) (stored : Cell → ℤ) : Type 0 where
+  pub holds : (c : Cell) → InTable f c → Holds n (value c) (stored c)
+
+-- the best profit over the quarters to come, after which plans end as `ends` says
+abbrev pub Layer : Figures → (Cell → BestProfit) → List Quarter → (Cell → ℤ) → Type 0
+Layer f ends quarters stored = LayerAt f (length quarters) (valueAt f ends quarters) stored
 
 -- layer t, from the scratch's first on, holds the best profits over the quarters after the t-th
 pub record Filled (f : Figures) (ends : Cell → BestProfit) (quarters : List Quarter) (cells : List ℤ) : Type 0 where

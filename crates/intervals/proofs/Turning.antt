@@ -22,7 +22,7 @@ use Rattle.optimality.specs.Cells.{Sound, InTable, states, afterOff, afterOn, s
 use Rattle.optimality.specs.Cells.{offCell, onCell, rungs, valueAt, offValue, onValue, onBest}
 use Rattle.optimality.proofs.Values.{more-assoc}
 use Rattle.optimality.proofs.Turns.{more-none, value-turn, value-shut, may-not-run, off-in-table, on-in-table}
-use Rattle.geometry.specs.Layers.{infeasible, swing, Holds, Layer, mostPays}
+use Rattle.geometry.specs.Layers.{infeasible, swing, Holds, LayerAt, mostPays}
 use Rattle.intervals.specs.Turns.{net, slope, raised, offStored, roomFor, onStored, cellStored, quarterStored}
 use Rattle.intervals.proofs.Raising.{raised-none, raised-next}
 use Rattle.geometry.proofs.Holding.{Offers, holds-more, offers-plus, holds-stay, holds-none}
@@ -96,20 +96,20 @@ module _ (f : Figures) (ok : Sound f) (price : ℤ) (small : natAbs price ≤ mo
 
   -- ---- one interval from a cell
 
-  module _ (ends : Cell → BestProfit) (quarters : List Quarter) (short : length quarters < mostIntervals) (stored : Cell → ℤ)
-      (layer : Layer f ends quarters stored)
+  module _ (ends : Cell → BestProfit) (quarters : List Quarter) (n : ℕ) (short : n < mostIntervals) (stored : Cell → ℤ)
+      (layer : LayerAt f n (valueAt f ends quarters) stored)
       (c : Cell) (here : InTable f c) where
-    pub off-holds : Holds (suc (length quarters)) (offValue f (valueAt f ends quarters) c) (offStored f stored c)
+    pub off-holds : Holds (suc n) (offValue f (valueAt f ends quarters) c) (offStored f stored c)
     unfolding offStored
     off-holds = by (ltb (afterOff f (c .state)) (states f)) refl
       where
         by : (t : Bool) → ltb (afterOff f (c .state)) (states f) ≡ t
-            → Holds (suc (length quarters)) (valueAlong (allow t (go (pos 0) (offCell f c))) (valueAt f ends quarters))
+            → Holds (suc n) (valueAlong (allow t (go (pos 0) (offCell f c))) (valueAt f ends quarters))
             (cond t (stored (offCell f c)) infeasible)
         by true e =
-            holds-stay (length quarters) (valueAt f ends quarters (offCell f c)) (stored (offCell f c)) short
+            holds-stay n (valueAt f ends quarters (offCell f c)) (stored (offCell f c)) short
             (layer .holds (offCell f c) (off-in-table f c here (ltb-true (afterOff f (c .state)) (states f) e)))
-        by false e = holds-none (suc (length quarters)) short
+        by false e = holds-none (suc n) short
 
     module _ (may : mayRun f c ≡ true) where
       pub on-is : (k : ℕ) (t : Bool) → roomFor f stored c k ≡ t
@@ -118,15 +118,15 @@ module _ (f : Figures) (ok : Sound f) (price : ℤ) (small : natAbs price ≤ mo
       on-is k t e = rw (may, e)
 
       pub on-offers : (k : ℕ) → k ≤ f .pmax → roomFor f stored c k ≡ true
-          → Offers (suc (length quarters)) (onValue f (valueAt f ends quarters) c price k) (onStored f stored c price k)
+          → Offers (suc n) (onValue f (valueAt f ends quarters) c price k) (onStored f stored c price k)
       on-offers k h e =
           rw (on-is k true e)
-          (offers-plus (length quarters) (valueAt f ends quarters (onCell f c k)) (stored (onCell f c k)) (net f price (startPays f (c .state)) k) short
+          (offers-plus n (valueAt f ends quarters (onCell f c k)) (stored (onCell f c k)) (net f price (startPays f (c .state)) k) short
           (net-small (startPays f (c .state)) k (pays-most f ok (c .state)) h)
           (layer .holds (onCell f c k) (on-in-table f c k here (runs f c may .leads))))
 
-      raised-holds : (k count : ℕ) → k + count ≤ suc (f .pmax) → (v : BestProfit) (base : ℤ) → Holds (suc (length quarters)) v base
-          → Holds (suc (length quarters)) (more v (onBest f (valueAt f ends quarters) c price k count))
+      raised-holds : (k count : ℕ) → k + count ≤ suc (f .pmax) → (v : BestProfit) (base : ℤ) → Holds (suc n) v base
+          → Holds (suc n) (more v (onBest f (valueAt f ends quarters) c price k count))
           (raised (roomFor f stored c) (onStored f stored c price) base k count)
       raised-holds k zero hi v base h = rw (more-none v, raised-none (roomFor f stored c) (onStored f stored c price) base k) h
       raised-holds k (suc count) hi v base h =
@@ -136,33 +136,33 @@ module _ (f : Figures) (ok : Sound f) (price : ℤ) (small : natAbs price ≤ mo
           rest : BestProfit
           rest = onBest f (valueAt f ends quarters) c price (suc k) count
 
-          by : ((w : BestProfit) (next : ℤ) → Holds (suc (length quarters)) w next
-              → Holds (suc (length quarters)) (more w rest) (raised (roomFor f stored c) (onStored f stored c price) next (suc k) count))
+          by : ((w : BestProfit) (next : ℤ) → Holds (suc n) w next
+              → Holds (suc n) (more w rest) (raised (roomFor f stored c) (onStored f stored c price) next (suc k) count))
               → (t : Bool) → roomFor f stored c k ≡ t
-              → Holds (suc (length quarters)) (more v (more (onValue f (valueAt f ends quarters) c price k) rest))
+              → Holds (suc n) (more v (more (onValue f (valueAt f ends quarters) c price k) rest))
               (raised (roomFor f stored c) (onStored f stored c price) (cond t (maxℤ base (onStored f stored c price k)) base) (suc k) count)
           by later true e =
               let o = onValue f (valueAt f ends quarters) c price k in
-              subst (λ (w : BestProfit). Holds (suc (length quarters)) w
+              subst (λ (w : BestProfit). Holds (suc n) w
               (raised (roomFor f stored c) (onStored f stored c price) (maxℤ base (onStored f stored c price k)) (suc k) count))
               (more-assoc v o rest)
               (later (more v o) (maxℤ base (onStored f stored c price k))
-              (holds-more (suc (length quarters)) v o base (onStored f stored c price k) short h (on-offers k (omega arith) e)))
+              (holds-more (suc n) v o base (onStored f stored c price k) short h (on-offers k (omega arith) e)))
           by later false e = rw (on-is k false e) (later v base h)
 
     open-holds : (q : Quarter) → q .opens ≡ true → q .price ≡ price
-        → Holds (suc (length quarters)) (valueAt f ends (q ∷ quarters) c) (cellStored f stored c price)
+        → Holds (suc n) (valueAt f ends (q ∷ quarters) c) (cellStored f stored c price)
     unfolding cellStored
     open-holds q opened priced = rw (value-turn f ok ends q quarters c opened, priced) (by (mayRun f c) refl)
       where
         by : (t : Bool) → mayRun f c ≡ t
-            → Holds (suc (length quarters)) (more (offValue f (valueAt f ends quarters) c) (onBest f (valueAt f ends quarters) c price (f .pmin) (rungs f)))
+            → Holds (suc n) (more (offValue f (valueAt f ends quarters) c) (onBest f (valueAt f ends quarters) c price (f .pmin) (rungs f)))
             (cond t (raised (roomFor f stored c) (onStored f stored c price) (offStored f stored c) (f .pmin) (rungs f)) (offStored f stored c))
         by true e = raised-holds e (f .pmin) (rungs f) (omega (arith, ok .pmax)) (offValue f (valueAt f ends quarters) c) (offStored f stored c) off-holds
         by false e =
             rw (may-not-run f ok ends (valueAt f ends quarters) c price (f .pmin) (rungs f) e, more-none (offValue f (valueAt f ends quarters) c)) off-holds
 
     pub cell-holds : (opened : Bool)
-        → Holds (suc (length quarters)) (valueAt f ends (quarter price opened ∷ quarters) c) (quarterStored f stored c (quarter price opened))
+        → Holds (suc n) (valueAt f ends (quarter price opened ∷ quarters) c) (quarterStored f stored c (quarter price opened))
     cell-holds true = open-holds (quarter price true) refl refl
     cell-holds false = rw (value-shut f ok ends (quarter price false) quarters c refl) off-holds

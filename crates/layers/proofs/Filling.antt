@@ -20,7 +20,7 @@ use Rattle.optimality.specs.Cells.{Sound, InTable, valueAt}
 use Rattle.optimality.proofs.Turns.{value-end}
 use Rattle.optimality.proofs.Quarters.{noQuarter}
 use Rattle.geometry.specs.Geometry.{width, index}
-use Rattle.geometry.specs.Layers.{Holds, Layer, storedAt, Filled}
+use Rattle.geometry.specs.Layers.{Holds, LayerAt, Layer, storedAt, Filled}
 use Rattle.intervals.specs.Stretches.{Small, LayerMade}
 use Rattle.intervals.specs.Turns.{quarterStored}
 use Rattle.geometry.proofs.Places.{index-lt, numbered}
@@ -33,22 +33,22 @@ abbrev pub PricedOver : List Quarter → Type 0
 PricedOver quarters = (i : ℕ) → i < length quarters → natAbs (getD quarters i noQuarter .price) ≤ mostPrice
 
 -- the numbers of a layer are small
-pub layer-small : (f : Figures) (ends : Cell → BestProfit) (quarters : List Quarter) (cells : List ℤ) (at : ℕ) → length quarters ≤ mostIntervals
-    → Layer f ends quarters (storedAt f cells at) → Small cells at (width f)
-layer-small f ends quarters cells at short layer i h =
-    let n = numbered f i h in
-    subst (λ (j : ℕ). natAbs (getD cells (at + j) (pos 0)) ≤ 2 ^ 62) (n .is)
-    (holds-small (length quarters) (valueAt f ends quarters (n .of)) (storedAt f cells at (n .of)) short (layer .holds (n .of) (n .inside)))
+pub layer-small : (f : Figures) {n : ℕ} {value : Cell → BestProfit} (cells : List ℤ) (at : ℕ) → n ≤ mostIntervals
+    → LayerAt f n value (storedAt f cells at) → Small cells at (width f)
+layer-small f {n} {value} cells at short layer i h =
+    let c = numbered f i h in
+    subst (λ (j : ℕ). natAbs (getD cells (at + j) (pos 0)) ≤ 2 ^ 62) (c .is)
+    (holds-small n (value (c .of)) (storedAt f cells at (c .of)) short (layer .holds (c .of) (c .inside)))
 
 -- a layer whose every number is made from a layer holds the values one interval earlier
 pub layer-earlier : (f : Figures) → Sound f → (ends : Cell → BestProfit) (q : Quarter) → natAbs (q .price) ≤ mostPrice → (rest : List Quarter)
-    → length rest < mostIntervals
-    → (stored now : Cell → ℤ) → Layer f ends rest stored → ((c : Cell) → InTable f c → now c ≡ quarterStored f stored c q) → Layer f ends (q ∷ rest) now
-layer-earlier f ok ends q priced rest few stored now next made =
+    → (n : ℕ) → n < mostIntervals → (stored now : Cell → ℤ) → LayerAt f n (valueAt f ends rest) stored
+    → ((c : Cell) → InTable f c → now c ≡ quarterStored f stored c q) → LayerAt f (suc n) (valueAt f ends (q ∷ rest)) now
+layer-earlier f ok ends q priced rest n few stored now next made =
     record {
       holds = λ c h.
-          subst (λ (v : ℤ). Holds (suc (length rest)) (valueAt f ends (q ∷ rest) c) v) (sym (made c h))
-          (cell-holds f ok (q .price) priced ends rest few stored next c h (q .opens));
+          subst (λ (v : ℤ). Holds (suc n) (valueAt f ends (q ∷ rest) c) v) (sym (made c h))
+          (cell-holds f ok (q .price) priced ends rest n few stored next c h (q .opens));
     }
 
 -- the layers from t on are filled
@@ -108,7 +108,7 @@ module _ (f : Figures) (ends : Cell → BestProfit) (quarters : List Quarter) (w
           let e : suc t * width f ≡ t * width f + width f = omega arith in
           let next : Layer f ends rest (storedAt f s (t * width f + width f)) = rw e at (old .layers (suc t) (omega arith) inside) in
           rw (drop-cons quarters t noQuarter inside)
-          (layer-earlier f ok ends q (priced t inside) rest few (storedAt f s (t * width f + width f)) (storedAt f cells (t * width f)) next (made .inside))
+          (layer-earlier f ok ends q (priced t inside) rest (length rest) few (storedAt f s (t * width f + width f)) (storedAt f cells (t * width f)) next (made .inside))
 
       by : (j : ℕ) → t ≤ j → j ≤ length quarters → (b : Bool) → ltb t j ≡ b → Layer f ends (drop j quarters) (storedAt f cells (j * width f))
       by j lo hi true e = later j (ltb-true t j e) hi

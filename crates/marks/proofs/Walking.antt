@@ -97,7 +97,7 @@ module _ (f : Figures) (ends : Cell → BestProfit) (later : List Quarter) where
 
     earlier : Layer f ends (q ∷ (front ++ later)) (valueOf f w now)
     earlier =
-        layer-earlier f ok ends q priced (front ++ later) few (valueOf f w was) (valueOf f w now) (m .layer)
+        layer-earlier f ok ends q priced (front ++ later) (length (front ++ later)) few (valueOf f w was) (valueOf f w now) (m .layer)
         (λ c i. turn-value f ok q (valueOf f w was) (markOf f w was) c (turn c i) (floor c i))
 
     pub marked-next : MarkedLayer f ends (q ∷ front) later given (valueOf f w now) (markOf f w now)
@@ -105,7 +105,7 @@ module _ (f : Figures) (ends : Cell → BestProfit) (later : List Quarter) where
         record {
           layer = earlier;
           marks = λ c i some.
-              let r = read-layers f ends q (front ++ later) (valueOf f w now) (valueOf f w was) c ok priced few earlier (m .layer) i some in
+              let r = read-layers f ends q (front ++ later) (valueOf f w now) (valueOf f w was) c ok priced (length (front ++ later)) few earlier (m .layer) i some in
               let choice = r .choice in
               let k = chosen f (valueOf f w was) c (q .price) (valueOf f w now c) in
               let mark = turn-mark f ok q (valueOf f w was) (markOf f w was) c (turn c i) (floor c i) (choice .inside) in

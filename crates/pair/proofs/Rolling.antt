@@ -61,7 +61,7 @@ module _ (f : Figures) (w : ℕ) (prices cells : List ℤ) (hours : Hours) (from
       (record {
         before = omega arith;
         fits = omega (arith, l .wide, l .fits, long);
-        small = layer-small f ends (between quarters (suc t) to) s (width f) (omega (arith, few t h)) layer;
+        small = layer-small f s (width f) (omega (arith, few t h)) layer;
       })
 
   -- one interval earlier, wherever it is stored
@@ -74,7 +74,7 @@ module _ (f : Figures) (w : ℕ) (prices cells : List ℤ) (hours : Hours) (from
       let is : q ≡ quarter (getD prices t (pos 0)) (opens hours t) = rw (zero-add t) at (quarter-at (opens hours) 0 prices t inside) in
       let small : natAbs (q .price) ≤ mostPrice = rw is (l .priced t inside) in
       rw (between-next quarters t to h (omega (arith, as-many, inside)))
-      (layer-earlier f (l .sound) ends q small (between quarters (suc t) to) (few t h) stored now next (rw is made))
+      (layer-earlier f (l .sound) ends q small (between quarters (suc t) to) (length (between quarters (suc t) to)) (few t h) stored now next (rw is made))
 
 -- beyond the two layers nothing is touched when the front is made
 pub front-beyond : (f : Figures) (q : Quarter) (was cells : List ℤ) → length cells ≡ length was → FrontMade f q was cells → Beyond (width f + width f) was cells

@@ -20,7 +20,7 @@ use Rattle.optimality.specs.Machine.{Quarter, go, inQuarter, after}
 use Rattle.optimality.specs.Cells.{Sound, InTable, startPays, gain, mayRun, onCell, rungs, cellStep, planAt, valueAt, offValue, onValue}
 use Rattle.optimality.proofs.Values.{no-earning}
 use Rattle.optimality.proofs.Turns.{off-turn, on-turn, some-turn, off-in-table, on-in-table}
-use Rattle.geometry.specs.Layers.{swing, Layer}
+use Rattle.geometry.specs.Layers.{swing, LayerAt}
 use Rattle.intervals.specs.Turns.{raised, offStored, roomFor, onStored, cellStored, quarterStored}
 use Rattle.table.specs.Reading.{reachesOn, firstOn, OnReaches, chosen, nextCell, Allowed}
 use Rattle.intervals.proofs.Stretches.{last-or-before}
@@ -96,19 +96,19 @@ pub record Chosen (f : Figures) (ends : Cell → BestProfit) (q : Quarter) (quar
   pub is : planAt f ends (q ∷ quarters) c ≡ after (k * f .block) earns (planAt f ends quarters (nextCell f c k))
 
 module _ (f : Figures) (ok : Sound f) (q : Quarter) (small : natAbs (q .price) ≤ mostPrice) (ends : Cell → BestProfit) (quarters : List Quarter)
-    (short : length quarters < mostIntervals) (stored : Cell → ℤ)
-    (layer : Layer f ends quarters stored) (c : Cell) (here : InTable f c) (best : ℤ)
+    (n : ℕ) (short : n < mostIntervals) (stored : Cell → ℤ)
+    (layer : LayerAt f n (valueAt f ends quarters) stored) (c : Cell) (here : InTable f c) (best : ℤ)
     (worth : valueAt f ends (q ∷ quarters) c ≡ Profit best)
-    (bound : natAbs best ≤ suc (length quarters) * swing) where
-  off-offers : Offers (suc (length quarters)) (offValue f (valueAt f ends quarters) c) (offStored f stored c)
+    (bound : natAbs best ≤ suc n * swing) where
+  off-offers : Offers (suc n) (offValue f (valueAt f ends quarters) c) (offStored f stored c)
   off-offers =
-      offered (suc (length quarters)) (offValue f (valueAt f ends quarters) c) (offStored f stored c)
-      (off-holds f ok (q .price) small ends quarters short stored layer c here)
+      offered (suc n) (offValue f (valueAt f ends quarters) c) (offStored f stored c)
+      (off-holds f ok (q .price) small ends quarters n short stored layer c here)
 
   -- off, open or shut
   off-chosen : offStored f stored c ≡ best → Chosen f ends q quarters c 0
   off-chosen i =
-      let v = offers-best (suc (length quarters)) (offValue f (valueAt f ends quarters) c) best short bound (rw i at off-offers) in
+      let v = offers-best (suc n) (offValue f (valueAt f ends quarters) c) best short bound (rw i at off-offers) in
       let t = off-turn f ok ends q quarters c best worth v in
       record {
         inside = off-in-table f c here (t .leads);
@@ -125,7 +125,7 @@ module _ (f : Figures) (ok : Sound f) (q : Quarter) (small : natAbs (q .price) �
 
     off-short : offValue f (valueAt f ends quarters) c ≡ Profit best → ⊥
     off-short v =
-        let i = offers-earning (suc (length quarters)) (offValue f (valueAt f ends quarters) c) (offStored f stored c) best off-offers v in
+        let i = offers-earning (suc n) (offValue f (valueAt f ends quarters) c) (offStored f stored c) best off-offers v in
         false≢true (sym (le-ltZ best best (≤ℤ-refl best)) ∙ (rw i at falls))
 
     -- an output meets the test exactly where it reaches the value
@@ -134,8 +134,8 @@ module _ (f : Figures) (ok : Sound f) (q : Quarter) (small : natAbs (q .price) �
         let b = both (roomFor f stored c k) (not (ltZ (onStored f stored c (q .price) k) best)) e in
         let l = ltZ-false (onStored f stored c (q .price) k) best (not-true′ (ltZ (onStored f stored c (q .price) k) best) (b .1)) in
         let i : onStored f stored c (q .price) k ≡ best = ≤ℤ-antisym (on-below f stored c (q .price) best is may k lo hi (b .0)) l in
-        let h = on-offers f ok (q .price) small ends quarters short stored layer c here may k hi (b .0) in
-        offers-best (suc (length quarters)) (onValue f (valueAt f ends quarters) c (q .price) k) best short bound (rw i at h)
+        let h = on-offers f ok (q .price) small ends quarters n short stored layer c here may k hi (b .0) in
+        offers-best (suc n) (onValue f (valueAt f ends quarters) c (q .price) k) best short bound (rw i at h)
       where
         not-true′ : (t : Bool) → not t ≡ true → t ≡ false
         not-true′ true e = absurd (false≢true e)
@@ -145,10 +145,10 @@ module _ (f : Figures) (ok : Sound f) (q : Quarter) (small : natAbs (q .price) �
     unmet k hi e v = by (roomFor f stored c k) refl
       where
         by : (t : Bool) → roomFor f stored c k ≡ t → ⊥
-        by false r = no-earning (sym (on-is f ok (q .price) small ends quarters short stored layer c here may k false r) ∙ v)
+        by false r = no-earning (sym (on-is f ok (q .price) small ends quarters n short stored layer c here may k false r) ∙ v)
         by true r =
-            let i = offers-earning (suc (length quarters)) (onValue f (valueAt f ends quarters) c (q .price) k) (onStored f stored c (q .price) k) best
-            (on-offers f ok (q .price) small ends quarters short stored layer c here may k hi r) v in
+            let i = offers-earning (suc n) (onValue f (valueAt f ends quarters) c (q .price) k) (onStored f stored c (q .price) k) best
+            (on-offers f ok (q .price) small ends quarters n short stored layer c here may k hi r) v in
             let m : reachesOn f stored c (q .price) best k ≡ true = rw (r, i, le-ltZ best best (≤ℤ-refl best)) in
             true≢false (sym m ∙ e)
 

@@ -23,7 +23,7 @@ use Rattle.optimality.specs.Cells.{Sound, InTable, planAt, valueAt}
 use Rattle.optimality.proofs.Values.{no-earning}
 use Rattle.optimality.proofs.Turns.{plan-value}
 use Rattle.geometry.specs.Geometry.{width}
-use Rattle.geometry.specs.Layers.{swing, Holds, storedAt, Layer, Filled}
+use Rattle.geometry.specs.Layers.{swing, Holds, storedAt, LayerAt, Filled}
 use Rattle.intervals.specs.Turns.{offStored, quarterStored}
 use Rattle.layers.proofs.Filling.{PricedOver}
 use Rattle.optimality.proofs.Quarters.{noQuarter}
@@ -53,24 +53,24 @@ pub record ReadTurn (f : Figures) (ends : Cell → BestProfit) (q : Quarter) (qu
 
 -- by a layer and the one behind it
 pub read-layers : (f : Figures) (ends : Cell → BestProfit) (q : Quarter) (rest : List Quarter) (here stored : Cell → ℤ) (c : Cell)
-    → Sound f → natAbs (q .price) ≤ mostPrice → length rest < mostIntervals
-    → Layer f ends (q ∷ rest) here → Layer f ends rest stored
+    → Sound f → natAbs (q .price) ≤ mostPrice → (n : ℕ) → n < mostIntervals
+    → LayerAt f (suc n) (valueAt f ends (q ∷ rest)) here → LayerAt f n (valueAt f ends rest) stored
     → InTable f c → (valueAt f ends (q ∷ rest) c ≡ Nothing → ⊥)
     → ReadTurn f ends q rest stored c (here c)
-read-layers f ends q rest here stored c ok priced few layer next inside some = by (valueAt f ends (q ∷ rest) c) refl (layer .holds c inside) some
+read-layers f ends q rest here stored c ok priced n few layer next inside some = by (valueAt f ends (q ∷ rest) c) refl (layer .holds c inside) some
   where
-    by : (v : BestProfit) → valueAt f ends (q ∷ rest) c ≡ v → Holds (suc (length rest)) v (here c) → (v ≡ Nothing → ⊥)
+    by : (v : BestProfit) → valueAt f ends (q ∷ rest) c ≡ v → Holds (suc n) v (here c) → (v ≡ Nothing → ⊥)
         → ReadTurn f ends q rest stored c (here c)
     by Nothing e h some = absurd (some refl)
     by (Profit p) e h some =
-        let made : Holds (suc (length rest)) (Profit p) (quarterStored f stored c q) = rw e at
-        (cell-holds f ok (q .price) priced ends rest few stored next c inside (q .opens)) in
+        let made : Holds (suc n) (Profit p) (quarterStored f stored c q) = rw e at
+        (cell-holds f ok (q .price) priced ends rest n few stored next c inside (q .opens)) in
         let is : quarterStored f stored c q ≡ here c = made .0 ∙ sym (h .0) in
-        let bound : natAbs (here c) ≤ suc (length rest) * swing = rw (h .0) (h .1) in
+        let bound : natAbs (here c) ≤ suc n * swing = rw (h .0) (h .1) in
         let worth = e ∙ ap Profit (sym (h .0)) in
         record {
-          on = must-reach f ok q priced ends rest few stored next c inside (here c) worth bound is;
-          choice = chosen-is f ok q priced ends rest few stored next c inside (here c) worth bound is;
+          on = must-reach f ok q priced ends rest n few stored next c inside (here c) worth bound is;
+          choice = chosen-is f ok q priced ends rest n few stored next c inside (here c) worth bound is;
         }
 
 pub read-turn : (f : Figures) (ends : Cell → BestProfit) (quarters : List Quarter) (cells : List ℤ) (t : ℕ) (c : Cell)
@@ -81,7 +81,7 @@ pub read-turn : (f : Figures) (ends : Cell → BestProfit) (quarters : List Quar
 read-turn f ends quarters cells t c ok priced short filled inside here some =
     let d = drop-cons quarters t noQuarter inside in
     read-layers f ends (getD quarters t noQuarter) (drop (suc t) quarters) (storedAt f cells (t * width f)) (storedAt f cells (suc t * width f)) c ok
-    (priced t inside) (omega (arith, length-drop (suc t) quarters)) (rw d at (filled .layers t (omega arith))) (filled .layers (suc t) inside) here
+    (priced t inside) (length (drop (suc t) quarters)) (omega (arith, length-drop (suc t) quarters)) (rw d at (filled .layers t (omega arith))) (filled .layers (suc t) inside) here
     (rw d at some)
 
 -- ---- the plan so far

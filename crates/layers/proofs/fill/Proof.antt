@@ -114,7 +114,7 @@ fill-layer-requires c κs =
         fits = omega (arith, t .low, t .fits);
         small =
             rw (t .next, o .pre .0 .1)
-            (layer-small (a .f) (o .pre .1 .0 .ends) (drop (l .t) (quartersAt o)) (l .scratch) (l .t * width (a .f))
+            (layer-small (a .f) (l .scratch) (l .t * width (a .f))
             (omega (arith, length-drop (l .t) (quartersAt o), as-many o, o .pre .0 .0 .short))
             (filled at-loop .layers (l .t) (omega arith) (omega (arith, l .inv .0, as-many o))));
       },

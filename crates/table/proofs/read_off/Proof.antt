@@ -78,7 +78,7 @@ here c =
       number = omega (arith, e, index-lt (a .f) (l .c) (written (c .before) .inside));
       two = omega (arith, e, l .inv .1, d, room .fits);
       next = next;
-      small = rw next (layer-small (a .f) (given .0) (drop (suc (l .t)) (given .1)) (a .scratch .now) (suc (l .t) * width (a .f)) few
+      small = rw next (layer-small (a .f) (a .scratch .now) (suc (l .t) * width (a .f)) few
           (given .2 .filled .layers (suc (l .t)) (omega (arith, lt, many))));
       price = o .pre .0 .2 (l .t) lt;
       read = λ ends quarters p.
