@@ -58,6 +58,10 @@ pub record LayerAt (f : Figures) (n : ℕ) (value : Cell → BestProfit) (stored
 abbrev pub Layer : Figures → (Cell → BestProfit) → List Quarter → (Cell → ℤ) → Type 0
 Layer f ends quarters stored = LayerAt f (length quarters) (valueAt f ends quarters) stored
 
+-- the same with n intervals more after those quarters, whose worth is in the ends
+abbrev pub LayerBefore : ℕ → Figures → (Cell → BestProfit) → List Quarter → (Cell → ℤ) → Type 0
+LayerBefore n f ends quarters stored = LayerAt f (n + length quarters) (valueAt f ends quarters) stored
+
 -- layer t, from the scratch's first on, holds the best profits over the quarters after the t-th
 pub record Filled (f : Figures) (ends : Cell → BestProfit) (quarters : List Quarter) (cells : List ℤ) : Type 0 where
   pub layers : (t : ℕ) → t ≤ length quarters → Layer f ends (drop t quarters) (storedAt f cells (t * width f))

@@ -1,8 +1,8 @@
 -- Two layers, from the last interval back: what stands behind is made into the layer of the interval before it.
-use mathlib.Core.Path.{_≡_, sym, subst, _∙_}
-use mathlib.Core.List.{List, []}
+use mathlib.Core.Path.{_≡_, sym, ap, subst, _∙_}
+use mathlib.Core.List.{List, [], _∷_}
 use mathlib.Core.Logic.{inr}
-use Prim.Native.Nat.{ℕ, suc, _+_, _≤_, _<_}
+use Prim.Native.Nat.{ℕ, suc, _+_, _-_, _≤_, _<_}
 use native.Mathlib.Nat.{zero-add}
 use native.Mathlib.Omega.{arith}
 use lib.IntN.{ℤ, pos, natAbs}
@@ -14,10 +14,10 @@ use Rattle.commitment.specs.Windows.{opens}
 use Rattle.optimality.specs.declared.Cell.{Cell}
 use Rattle.optimality.specs.declared.Figures.{Figures}
 use Rattle.optimality.specs.Machine.{Quarter, quarter, anywhere}
-use Rattle.optimality.specs.Cells.{InTable}
+use Rattle.optimality.specs.Cells.{InTable, valueAt}
 use Rattle.optimality.proofs.Quarters.{noQuarter, quarters-length, quarter-at}
 use Rattle.geometry.specs.Geometry.{width, index}
-use Rattle.geometry.specs.Layers.{Layer, storedAt, inFront}
+use Rattle.geometry.specs.Layers.{LayerAt, Layer, LayerBefore, storedAt, inFront}
 use Rattle.geometry.proofs.Places.{index-lt}
 use Rattle.intervals.specs.Turns.{quarterStored}
 use Rattle.layers.specs.Filling.{quartersIn, between, Beyond}
@@ -45,36 +45,42 @@ module _ (f : Figures) (w : ℕ) (prices cells : List ℤ) (hours : Hours) (from
   as-many : length quarters ≡ length prices
   as-many = quarters-length (opens hours) 0 prices
 
-  few : (t : ℕ) → t < to → length (between quarters (suc t) to) < mostIntervals
-  few t h = omega (arith, between-length quarters (suc t) to h (omega (arith, as-many, l .inside)), l .inside, l .short)
+  left : (t : ℕ) → t < to → length (between quarters (suc t) to) ≡ to - suc t
+  left t h = between-length quarters (suc t) to h (omega (arith, as-many, l .inside))
 
-  -- after the last interval
-  pub at-end : (ends : Cell → BestProfit) (t : ℕ) → suc t ≡ to → (stored : Cell → ℤ) → Layer f ends [] stored
-      → Layer f ends (between quarters (suc t) to) stored
-  at-end ends t e stored last = rw (e, between-none quarters to) last
+  module _ (ends : Cell → BestProfit) (n : ℕ) (few : n + (to - from) ≤ mostIntervals) where
+    -- after the last interval
+    pub at-end : (t : ℕ) → suc t ≡ to → (stored : Cell → ℤ) → LayerBefore n f ends [] stored → LayerBefore n f ends (between quarters (suc t) to) stored
+    at-end t e stored last = rw (e, between-none quarters to) last
 
-  -- what stands behind can be added to
-  pub readable : (ends : Cell → BestProfit) (s : List ℤ) (t : ℕ) → t < to → length s ≡ length cells
-      → Layer f ends (between quarters (suc t) to) (storedAt f s (width f)) → Behind s 0 w w
-  readable ends s t h long layer =
-      rw (l .wide)
-      (record {
-        before = omega arith;
-        fits = omega (arith, l .wide, l .fits, long);
-        small = layer-small f s (width f) (omega (arith, few t h)) layer;
-      })
+    short : (t : ℕ) → from ≤ t → t < to → n + length (between quarters (suc t) to) < mostIntervals
+    short t lo h = omega (arith, left t h, few)
 
-  -- one interval earlier, wherever it is stored
-  pub one-earlier : (ends : Cell → BestProfit) (t : ℕ) → t < to → (stored now : Cell → ℤ) → Layer f ends (between quarters (suc t) to) stored
-      → ((c : Cell) → InTable f c → now c ≡ quarterStored f stored c (quarter (getD prices t (pos 0)) (opens hours t)))
-      → Layer f ends (between quarters t to) now
-  one-earlier ends t h stored now next made =
-      let q = getD quarters t noQuarter in
-      let inside : t < length prices = omega (arith, h, l .inside) in
-      let is : q ≡ quarter (getD prices t (pos 0)) (opens hours t) = rw (zero-add t) at (quarter-at (opens hours) 0 prices t inside) in
-      let small : natAbs (q .price) ≤ mostPrice = rw is (l .priced t inside) in
-      rw (between-next quarters t to h (omega (arith, as-many, inside)))
-      (layer-earlier f (l .sound) ends q small (between quarters (suc t) to) (length (between quarters (suc t) to)) (few t h) stored now next (rw is made))
+    -- what stands behind can be added to
+    pub readable : (s : List ℤ) (t : ℕ) → from ≤ t → t < to → length s ≡ length cells
+        → LayerBefore n f ends (between quarters (suc t) to) (storedAt f s (width f)) → Behind s 0 w w
+    readable s t lo h long layer =
+        rw (l .wide)
+        (record {
+          before = omega arith;
+          fits = omega (arith, l .wide, l .fits, long);
+          small = layer-small f s (width f) (omega (arith, short t lo h)) layer;
+        })
+
+    -- one interval earlier, wherever it is stored
+    pub one-earlier : (t : ℕ) → from ≤ t → t < to → (stored now : Cell → ℤ) → LayerBefore n f ends (between quarters (suc t) to) stored
+        → ((c : Cell) → InTable f c → now c ≡ quarterStored f stored c (quarter (getD prices t (pos 0)) (opens hours t)))
+        → LayerBefore n f ends (between quarters t to) now
+    one-earlier t lo h stored now next made =
+        let q = getD quarters t noQuarter in
+        let rest = between quarters (suc t) to in
+        let inside : t < length prices = omega (arith, h, l .inside) in
+        let is : q ≡ quarter (getD prices t (pos 0)) (opens hours t) = rw (zero-add t) at (quarter-at (opens hours) 0 prices t inside) in
+        let small : natAbs (q .price) ≤ mostPrice = rw is (l .priced t inside) in
+        let one : suc (n + length rest) ≡ n + suc (length rest) = omega arith in
+        rw (between-next quarters t to h (omega (arith, as-many, inside)))
+        (subst (λ (k : ℕ). LayerAt f k (valueAt f ends (q ∷ rest)) now) one
+        (layer-earlier f (l .sound) ends q small rest (n + length rest) (short t lo h) stored now next (rw is made)))
 
 -- beyond the two layers nothing is touched when the front is made
 pub front-beyond : (f : Figures) (q : Quarter) (was cells : List ℤ) → length cells ≡ length was → FrontMade f q was cells → Beyond (width f + width f) was cells
@@ -104,7 +110,10 @@ module _ (f : Figures) (w : ℕ) (prices cells : List ℤ) (hours : Hours) (l : 
         short = l .short;
         some = some;
         inside = omega arith;
-        ended = record { ends = anywhere; last = ended-anywhere };
+        ends = anywhere;
+        ahead = 0;
+        few = omega (arith, l .short);
+        last = ended-anywhere;
       }
 
   pub put-beyond : length ended ≡ length cells → Beyond (width f + width f) cells ended
@@ -115,4 +124,10 @@ module _ (f : Figures) (w : ℕ) (prices cells : List ℤ) (hours : Hours) (l : 
       → Layer f anywhere (quartersIn hours prices) (inFront f front)
   all-rolled front r =
       subst (λ (qs : List Quarter). Layer f anywhere qs (inFront f front))
-      (between-all (quartersIn hours prices) (length prices) (sym (quarters-length (opens hours) 0 prices))) (r anywhere ended-anywhere)
+      all (rw (zero-add (length (between (quartersIn hours prices) 0 (length prices)))) at (r anywhere 0 short ended-anywhere))
+    where
+      all : between (quartersIn hours prices) 0 (length prices) ≡ quartersIn hours prices
+      all = between-all (quartersIn hours prices) (length prices) (sym (quarters-length (opens hours) 0 prices))
+
+      short : 0 + length (between (quartersIn hours prices) 0 (length prices)) ≤ mostIntervals
+      short = omega (arith, ap length all, quarters-length (opens hours) 0 prices, l .short)

@@ -1,18 +1,22 @@
 -- The invariant: whatever the layer after the last interval said, the layer after interval t stands behind, and beyond the two layers all is as it was.
 -- The intervals left fall.
 use mathlib.Core.Path.{_≡_, refl, sym, subst, _∙_}
-use mathlib.Core.List.{[]}
+use mathlib.Core.List.{List, []}
 use Prim.Native.Nat.{ℕ, suc, _+_, _-_, _≤_, _<_}
 use native.Mathlib.Omega.{arith}
-use lib.IntN.{pos}
+use lib.IntN.{ℤ, pos}
 use lib.ListN.{length, getD}
 use Rattle.commitment.specs.declared.BestProfit.{BestProfit}
 use Rattle.commitment.specs.Bounds.{mostIntervals}
-use Rattle.commitment.specs.Windows.{Clocked}
+use Rattle.commitment.specs.declared.windows.Hours.{Hours}
+use Rattle.commitment.specs.Windows.{opens, Clocked}
 use Rattle.optimality.specs.declared.Cell.{Cell}
+use Rattle.optimality.specs.declared.Figures.{Figures}
+use Rattle.optimality.proofs.Quarters.{quarters-length}
 use Rattle.geometry.specs.Geometry.{width}
-use Rattle.geometry.specs.Layers.{Layer, storedAt, inFront}
+use Rattle.geometry.specs.Layers.{LayerBefore, storedAt, inFront}
 use Rattle.layers.specs.Filling.{quartersIn, between, Beyond}
+use Rattle.layers.proofs.Between.{between-length}
 use Rattle.intervals.specs.Turns.{Interval}
 use Rattle.integers.proofs.Ranges.{plain-fits}
 use Rattle.pair.specs.Rolling.{RollAsked}
@@ -24,8 +28,8 @@ use Rattle.pair.proofs.roll.Tie as tie
 abbrev Inv-loop : tie.InvT-loop
 Inv-loop scratch₀ w f prices hours from to t₀ scratch t =
     (from ≤ t) × (t < to) × (length scratch ≡ length scratch₀)
-    × ((ends : Cell → BestProfit) → Layer f ends [] (storedAt f scratch₀ (width f))
-    → Layer f ends (between (quartersIn hours prices) (suc t) to) (storedAt f scratch (width f)))
+    × ((ends : Cell → BestProfit) (n : ℕ) → n + (to - from) ≤ mostIntervals → LayerBefore n f ends [] (storedAt f scratch₀ (width f))
+    → LayerBefore n f ends (between (quartersIn hours prices) (suc t) to) (storedAt f scratch (width f)))
     × Beyond (width f + width f) scratch₀ scratch
 
 abbrev μ-loop : tie.MeasureT-loop
@@ -44,7 +48,7 @@ loop-holds c =
       omega (arith, k .some),
       omega (arith, k .some),
       refl,
-      (λ ends last. at-end (a .f) (a .w) (a .prices .now) (a .scratch .now) (a .hours) (a .from) (a .to) k ends (a .to - 1) one _ last),
+      (λ ends n few last. at-end (a .f) (a .w) (a .prices .now) (a .scratch .now) (a .hours) (a .from) (a .to) k ends n few (a .to - 1) one _ last),
       refl,
     )
 
@@ -55,9 +59,10 @@ interval c t h = let k = asked c in record { sound = k .sound; priced = k .price
 -- by the ends that the layer behind is known to have
 behind : (c : tie.At-loop Inv-loop μ-loop) →
     let a = c .before .args in
-    Layer (a .f) (asked (c .before) .ended .ends) (between (quartersIn (a .hours) (a .prices .now)) (suc (c .loop .t)) (a .to))
+    let k = asked (c .before) in
+    LayerBefore (k .ahead) (a .f) (k .ends) (between (quartersIn (a .hours) (a .prices .now)) (suc (c .loop .t)) (a .to))
     (storedAt (a .f) (c .loop .scratch) (width (a .f)))
-behind c = let e = asked (c .before) .ended in c .loop .inv .3 (e .ends) (e .last)
+behind c = let k = asked (c .before) in c .loop .inv .3 (k .ends) (k .ahead) (k .few) (k .last)
 
 earlier-requires : tie.Need-earlier-requires Inv-loop μ-loop
 earlier-requires c κs =
@@ -69,8 +74,8 @@ earlier-requires c κs =
     let l = at-loop .loop in (
       rw (plain-fits (record { sfits = priced .earlier-arg2 .given })) (interval o (l .t) (l .inv .1)),
       k .wide,
-      readable (a .f) (a .w) (a .prices .now) (a .scratch .now) (a .hours) (a .from) (a .to) k (k .ended .ends) (l .scratch) (l .t) (l .inv .1) (l .inv .2)
-          (behind at-loop),
+      readable (a .f) (a .w) (a .prices .now) (a .scratch .now) (a .hours) (a .from) (a .to) k (k .ends) (k .ahead) (k .few) (l .scratch) (l .t) (l .inv .0)
+          (l .inv .1) (l .inv .2) (behind at-loop),
     )
 
 loop-again : tie.Need-loop-again Inv-loop μ-loop
@@ -87,13 +92,13 @@ loop-again c =
       omega (arith, turn .loop-test .taken),
       omega (arith, l .inv .1),
       c .before .earlier .kept .0 ∙ l .inv .2,
-      (λ ends last.
+      (λ ends n few last.
           subst
-          (λ (j : ℕ). Layer (a .f) ends (between (quartersIn (a .hours) (a .prices .now)) j (a .to))
+          (λ (j : ℕ). LayerBefore n (a .f) ends (between (quartersIn (a .hours) (a .prices .now)) j (a .to))
           (storedAt (a .f) (c .before .earlier .last .0) (width (a .f))))
           (sym one)
-          (one-earlier (a .f) (a .w) (a .prices .now) (a .scratch .now) (a .hours) (a .from) (a .to) (asked o) ends (l .t) (l .inv .1) _ _
-          (l .inv .3 ends last) (made .inside))),
+          (one-earlier (a .f) (a .w) (a .prices .now) (a .scratch .now) (a .hours) (a .from) (a .to) (asked o) ends n few (l .t) (l .inv .0)
+          (l .inv .1) _ _ (l .inv .3 ends n few last) (made .inside))),
       made .beyond ∙ l .inv .4,
     )
 
@@ -107,8 +112,17 @@ fill-layer-requires c κs =
     let l = at-loop .loop in (
       rw (plain-fits (record { sfits = priced .fill-layer-arg2 .given })) (interval o (l .t) (l .inv .1)),
       k .wide,
-      readable (a .f) (a .w) (a .prices .now) (a .scratch .now) (a .hours) (a .from) (a .to) k (k .ended .ends) (l .scratch) (l .t) (l .inv .1) (l .inv .2)
-          (behind at-loop),
+      readable (a .f) (a .w) (a .prices .now) (a .scratch .now) (a .hours) (a .from) (a .to) k (k .ends) (k .ahead) (k .few) (l .scratch) (l .t) (l .inv .0)
+          (l .inv .1) (l .inv .2) (behind at-loop),
+    )
+
+-- the quarters are as many as the intervals
+within : {f : Figures} {w : ℕ} {prices cells : List ℤ} {hours : Hours} {from to : ℕ} → RollAsked f w prices cells hours from to → (n : ℕ)
+    → n + length (between (quartersIn hours prices) from to) ≤ mostIntervals → n + (to - from) ≤ mostIntervals
+within {f} {w} {prices} {cells} {hours} {from} {to} k n short =
+    omega (
+      arith,
+      between-length (quartersIn hours prices) from to (omega (arith, k .some)) (omega (arith, quarters-length (opens hours) 0 prices, k .inside)),
     )
 
 returns : tie.Need-returns Inv-loop μ-loop
@@ -123,11 +137,12 @@ returns c =
     let l = at-loop .loop in
     let made = rw (plain-fits (record { sfits = priced .fill-layer-arg2 .given }), opened .opens-in2 .ensures) at (filled .fill-layer .ensures) in
     let first : l .t ≡ a .from = omega (arith, done .loop-test .left, l .inv .0) in (
-      (λ ends last.
-          subst (λ (j : ℕ). Layer (a .f) ends (between (quartersIn (a .hours) (a .prices .now)) j (a .to)) (inFront (a .f) (filled .fill-layer .last .0)))
+      (λ ends n short last.
+          let few = within (asked o) n short in
+          subst (λ (j : ℕ). LayerBefore n (a .f) ends (between (quartersIn (a .hours) (a .prices .now)) j (a .to)) (inFront (a .f) (filled .fill-layer .last .0)))
           first
-          (one-earlier (a .f) (a .w) (a .prices .now) (a .scratch .now) (a .hours) (a .from) (a .to) (asked o) ends (l .t) (l .inv .1) _ _
-          (l .inv .3 ends last) (made .inside))),
+          (one-earlier (a .f) (a .w) (a .prices .now) (a .scratch .now) (a .hours) (a .from) (a .to) (asked o) ends n few (l .t) (l .inv .0)
+          (l .inv .1) _ _ (l .inv .3 ends n few last) (made .inside))),
       rw (asked o .wide) (front-beyond (a .f) _ (l .scratch) (filled .fill-layer .last .0) (filled .fill-layer .kept .0) made ∙ l .inv .4),
     )
 
