@@ -1,0 +1,2 @@
+-- Raising: cells of the year and of a month's box.
+pub mod Raising

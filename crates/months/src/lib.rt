@@ -1,0 +1,4 @@
+// A year month by month: best profits at the beginning of each month, from those at the beginning of the next. mod boxes: what a month may spend of the
+// year's budgets, and cells of the year beside cells of a month.
+
+pub mod boxes;
