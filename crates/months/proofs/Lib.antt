@@ -1,2 +1,3 @@
--- Raising: cells of the year and of a month's box.
+-- Raising: cells of the year and of a month's box. Storing: a box stored in the year's layer.
 pub mod Raising
+pub mod Storing

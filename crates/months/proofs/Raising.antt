@@ -9,8 +9,8 @@ use Rattle.optimality.specs.Cells.{Sound, Within, InTable, withMost}
 use Rattle.optimality.specs.Years.{raised}
 use Rattle.optimality.proofs.Within.{with-sound}
 use Rattle.geometry.specs.Geometry.{width, index, cellOf}
-use Rattle.geometry.proofs.Places.{numbered, cell-there, index-lt}
-use Rattle.months.specs.Capping.{plus, Above, placeAbove}
+use Rattle.geometry.proofs.Places.{numbered, cell-there}
+use Rattle.months.specs.Capping.{plus, Above, highCell}
 
 -- a number of a layer is that of its cell
 module _ (f : Figures) (i : ℕ) (h : i < width f) where
@@ -41,5 +41,5 @@ module _ (f : Figures) (cap above : Budgets) (a : Above f cap above) where
       let w = raised-within x i in
       record { state = i .state; left = record { starts = w .starts; ons = w .ons; blocks = w .blocks } }
 
-  pub place-lt : (i : ℕ) → i < width (withMost f cap) → placeAbove f cap above i < width f
-  place-lt i h = index-lt f (raised above (cellOf (withMost f cap) i)) (raised-inside (cellOf (withMost f cap) i) (numbered-there (withMost f cap) i h .0))
+  pub high-inside : (i : ℕ) → i < width (withMost f cap) → InTable f (highCell f cap above i)
+  high-inside i h = raised-inside (cellOf (withMost f cap) i) (numbered-there (withMost f cap) i h .0)
