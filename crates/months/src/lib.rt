@@ -1,4 +1,5 @@
 // A year month by month: best profits at the beginning of each month, from those at the beginning of the next. mod boxes: what a month may spend of the
-// year's budgets, and cells of the year beside cells of a month.
+// year's budgets, and cells of the year beside cells of a month; mod chains: from the end of a month to its beginning.
 
 pub mod boxes;
+pub mod chains;
