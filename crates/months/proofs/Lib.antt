@@ -1,6 +1,8 @@
 -- Raising: cells of the year and of a month's box. Storing: a box stored in the year's layer. Rolling: a month in a part of the scratch.
--- Classes: the three together.
+-- Classes: the three together. Parts: all cells, by what lies above the box. Years: the layer of the year.
 pub mod Raising
 pub mod Storing
 pub mod Rolling
 pub mod Classes
+pub mod Parts
+pub mod Years

@@ -55,3 +55,28 @@ fn one_class(
     roll_box(&mut *cells, g, prices, hours, m, work);
     boxes::store(cells, f, cap, above, work, at.here);
 }
+
+// All cells of the year, by what may lie above the box.
+pub fn before_month(
+    cells: &mut [i64],
+    f: Figures,
+    prices: &[i64],
+    hours: Hours,
+    m: Month,
+    at: Places,
+)
+    requires { ⌜ MonthAsked f (now cells) (now prices) hours m at ⌝ }
+    ensures { λ _. ⌜ MonthMade f (between (quartersIn hours (now (prices .entry))) (m .from) (m .to)) m at (now (cells .entry)) (now (cells .exit)) ⌝ }
+{
+    let most = f.most;
+    let cap = m.cap;
+    let h = boxes::with_most(f, boxes::less(most, cap));
+    let count = geometry::section_cells(h);
+    let mut j = 0;
+    while j < count {
+        let c = geometry::cell_of(h, j);
+        let above = c.left;
+        one_class(cells, f, prices, hours, m, at, above);
+        j += 1;
+    }
+}
