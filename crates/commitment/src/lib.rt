@@ -116,26 +116,6 @@ pub struct Outcomes {
     pub mwh: Outcome,
 }
 
-// The inputs of the cost figures but for the segments, which are two lists. Laid out as in C, so that a host hands it over as it is.
-#[repr(C)]
-pub struct CostInputs {
-    pub block: u64,
-    pub pmin: u64,
-    pub pmax: u64,
-    pub gas: u64,
-    pub transport: u64,
-    pub allowance: u64,
-    pub om: u64,
-    pub gmc: u64,
-    pub rate: u64,
-    pub min_heat: u64,
-    pub fuel: u64,
-    pub aux: u64,
-    pub minutes: u64,
-    pub start_adder: u64,
-    pub load_adder: u64,
-}
-
 // ---- one of the three limitations
 
 pub fn limit_for(limits: Limits, which: Limitation) -> Limit

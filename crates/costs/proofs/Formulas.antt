@@ -6,11 +6,11 @@ use native.Mathlib.Nat.{mul-pos, mul-one}
 use native.Mathlib.Omega.{arith}
 use lib.Dec.{lit<}
 use lib.ListN.{length}
-use Rattle.commitment.specs.declared.CostInputs.{CostInputs}
+use Rattle.costs.specs.declared.CostInputs.{CostInputs}
 use Rattle.rounding.specs.Fractions.{_over_}
 use Rattle.rounding.specs.Rounding.{rounded}
-use Rattle.commitment.specs.Figures.{pminMw, fuelPrice, allowanceCost, allowanceAtMinimum, segmentCost, totalMw, weightedCost}
-use Rattle.commitment.specs.Figures.{vecFraction, sucFraction, mlcFraction, vecOf, sucOf, mlcOf}
+use Rattle.costs.specs.Figures.{pminMw, fuelPrice, allowanceCost, allowanceAtMinimum, segmentCost, totalMw, weightedCost}
+use Rattle.costs.specs.Figures.{vecFraction, sucFraction, mlcFraction, vecOf, sucOf, mlcOf}
 use Rattle.costs.specs.Numerators.{units, startUnits, heatPrice, segmentUnits, weightedUnits, sucUnits, mlcUnits}
 use Rattle.rounding.proofs.Fractions.{Worth, worth-over, worth-whole, worth-plus, worth-times, worth-as, worth-scaled}
 use Rattle.rounding.proofs.Rounding.{rounded-same}

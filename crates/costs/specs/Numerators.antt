@@ -1,8 +1,8 @@
 -- What the code adds up before it rounds: each figure as a whole number of small parts of a cent.
 use mathlib.Core.List.{List, [], _∷_}
 use Prim.Native.Nat.{ℕ, _+_, _*_}
-use Rattle.commitment.specs.declared.CostInputs.{CostInputs}
-use Rattle.commitment.specs.Figures.{pminMw, fuelPrice}
+use Rattle.costs.specs.declared.CostInputs.{CostInputs}
+use Rattle.costs.specs.Figures.{pminMw, fuelPrice}
 
 -- the parts of a cent: of (1) and (3), whose heat rates are in thousandths and allowances in ten-millionths; and of (2)
 abbrev pub units : ℕ

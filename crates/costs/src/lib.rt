@@ -3,7 +3,6 @@
 
 use commitment::Cause;
 use commitment::Checked;
-use commitment::CostInputs;
 ghost use mathlib.Core.Path.{_≡_};
 ghost use mathlib.Core.Bool.{true};
 ghost use Prim.Native.Nat.{_^_, _<_, _≤_};
@@ -11,7 +10,7 @@ ghost use lib.ListN.{length};
 ghost use Rattle.commitment.specs.declared.Checked.the-variants.{Passed};
 ghost use Rattle.lists.specs.Every.{every};
 ghost use Rattle.commitment.specs.Bounds.{mostMw};
-ghost use Rattle.commitment.specs.Figures.{vecOf, sucOf, mlcOf, totalMw};
+ghost use Rattle.costs.specs.Figures.{vecOf, sucOf, mlcOf, totalMw};
 ghost use Rattle.commitment.specs.Causes.{firstOf};
 ghost use Rattle.costs.specs.Ranges.{Ranged, lengthChecks, totalChecks, outputChecks};
 ghost use Rattle.costs.specs.Ranges.{oneTo, sizesKept, tariffsKept, ratesKept, startKept, inputsKept, segmentsKept, outputsKept, inputsChecked};
@@ -39,6 +38,26 @@ const MOST_AUX: u64 = 1000;
 const MOST_MINUTES: u64 = 1440;
 
 const MOST_ADDER: u64 = 10000000;
+
+// The inputs of the cost figures but for the segments, which are two lists. Laid out as in C, so that a host hands it over as it is.
+#[repr(C)]
+pub struct CostInputs {
+    pub block: u64,
+    pub pmin: u64,
+    pub pmax: u64,
+    pub gas: u64,
+    pub transport: u64,
+    pub allowance: u64,
+    pub om: u64,
+    pub gmc: u64,
+    pub rate: u64,
+    pub min_heat: u64,
+    pub fuel: u64,
+    pub aux: u64,
+    pub minutes: u64,
+    pub start_adder: u64,
+    pub load_adder: u64,
+}
 
 // In whole cents: per MWh, for a start, per hour.
 pub struct CostFigures {

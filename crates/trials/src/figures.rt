@@ -3,7 +3,7 @@
 use crate::printing::line;
 use crate::printing::row;
 use crate::printing::text;
-use commitment::CostInputs;
+use costs::CostInputs;
 use costs::Costed;
 
 pub fn try_figures() {
