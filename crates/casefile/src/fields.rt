@@ -126,7 +126,7 @@ fn limit_under(name: &[u8], names: &[u8], values: &[u8]) -> Limit
 }
 
 // Above every range: what a field cannot hold.
-const BEYOND: u64 = 10000000000;
+pub const BEYOND: u64 = 10000000000;
 
 // A figure that has to be a number: `none` is put beyond every range, where 3 refuses it.
 fn whole(value: Value) -> u64

@@ -13,6 +13,11 @@ pub mod windows;
 
 use calendar::Date;
 
+// The ends of two ranges that every call with a unit has, in MW and in blocks. specs/Bounds.antt has the same.
+pub const MOST_MW: u64 = 500;
+
+pub const MOST_BLOCKS: u64 = 500;
+
 // A limitation of the permit: not limited, or at most a number.
 pub enum Limit {
     None,

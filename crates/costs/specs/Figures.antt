@@ -13,14 +13,21 @@ pminMw k = k .pmin * k .block
 abbrev pub fuelPrice : CostInputs → ℕ
 fuelPrice k = k .gas + k .transport
 
+-- heat rates are in thousandths, rates of allowances in ten-millionths
+abbrev pub heatUnits : ℕ
+heatUnits = 1000
+
+abbrev pub rateUnits : ℕ
+rateUnits = 10000000
+
 -- allowance × rate / 10,000,000: the allowances' cost, cents per MMBtu
 abbrev pub allowanceCost : CostInputs → Fraction
-allowanceCost k = (k .allowance * k .rate) over 10000000
+allowanceCost k = (k .allowance * k .rate) over rateUnits
 
 -- ---- (1) vec: the MW-weighted mean over segments of heat rate / 1000 × (gas + transport + allowance × rate / 10,000,000) + om
 
 abbrev pub segmentCost : CostInputs → ℕ → Fraction
-segmentCost k heat = heat over 1000 times (whole (fuelPrice k) plus allowanceCost k) plus whole (k .om)
+segmentCost k heat = heat over heatUnits times (whole (fuelPrice k) plus allowanceCost k) plus whole (k .om)
 
 abbrev pub totalMw : List ℕ → ℕ
 totalMw [] = 0
@@ -48,11 +55,11 @@ sucFraction k =
 
 -- the appendix prints this term without Pmin MW, the guide to bid generation multiplies by it: the guide is followed
 abbrev pub allowanceAtMinimum : CostInputs → Fraction
-allowanceAtMinimum k = allowanceCost k times k .«min_heat» over 1000 times whole (pminMw k)
+allowanceAtMinimum k = allowanceCost k times k .«min_heat» over heatUnits times whole (pminMw k)
 
 abbrev pub mlcFraction : CostInputs → Fraction
 mlcFraction k =
-    (k .«min_heat» * pminMw k * fuelPrice k) over 1000 plus allowanceAtMinimum k plus whole (k .om * pminMw k) plus whole (k .«load_adder»)
+    (k .«min_heat» * pminMw k * fuelPrice k) over heatUnits plus allowanceAtMinimum k plus whole (k .om * pminMw k) plus whole (k .«load_adder»)
     plus whole (k .gmc * pminMw k)
 
 -- ---- the figures, in whole cents

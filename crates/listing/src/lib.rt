@@ -33,9 +33,6 @@ pub enum Fit {
     TooLong,
 }
 
-// Words of 24 bits are below this.
-const PAST_WORDS: u64 = 16777216;
-
 // The listing of a plan: interval and MW, then profit, the three outcomes and the hours that its word allows.
 pub fn write_listing(
     schedule: &[u64],
@@ -59,7 +56,7 @@ fn word_kept(word: HourWord) -> bool
 {
     match word {
         HourWord::None => true,
-        HourWord::Word(hours) => hours < PAST_WORDS,
+        HourWord::Word(hours) => hours < calendar::PAST_WORDS,
     }
 }
 
