@@ -1,13 +1,13 @@
 // The texts of the data folder, in the sequence of the program's arguments: each is read, planned and valued with the slices that the
 // planning program lends, and its plan is handed in.
 
-use crate::printing::line;
-use crate::printing::text;
 use assessment::Assessed;
 use commitment::Outcomes;
 use commitment::Permit;
 use commitment::UnitRecord;
 use enumeration::numbers::one_if;
+use enumeration::printing::line;
+use enumeration::printing::text;
 use libc::STDOUT_FILENO;
 use listing::HourWord;
 use planner::Valued;

@@ -3,12 +3,12 @@
 use crate::files::contents;
 use crate::files::hand_in;
 use crate::files::try_case;
-use crate::printing::line;
-use crate::printing::text;
 use casefile::CaseRead;
 use commitment::UnitRecord;
 use enumeration::lending;
 use enumeration::numbers::one_if;
+use enumeration::printing::line;
+use enumeration::printing::text;
 
 // 0 where there is no refusal.
 pub fn try_others() {
