@@ -27,6 +27,7 @@ pub fn unit_in(text: &[u8]) -> UnitRecord
     unit_under(head, row)
 }
 
+// Group by group: each is read by a function of its own.
 fn unit_under(names: &[u8], values: &[u8]) -> UnitRecord
     ensures { λ r. ⌜ r ≡ unitOf (fieldsOf (now (names .entry))) (fieldsOf (now (values .entry))) ⌝ }
 {

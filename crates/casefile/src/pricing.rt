@@ -74,6 +74,7 @@ fn store_rows(head: &[u8], rows: &[u8], prices: &mut [i64])
     }
 }
 
+// A price is judged before any is stored.
 fn row_kept(head: &[u8], row: &[u8]) -> bool
     ensures { λ r. ⌜ r ≡ priceKept (priceOf (now (head .entry)) (now (row .entry))) ⌝ }
 {

@@ -203,6 +203,7 @@ fn date_kept(permit: Permit) -> bool
     }
 }
 
+// A function of its own, since its window comes out of a match.
 fn date_exists(window: Window) -> bool
     ensures { λ r. ⌜ r ≡ exists (window .date) ⌝ }
 {
@@ -233,6 +234,7 @@ pub fn prices_kept(prices: &[i64]) -> bool
     true
 }
 
+// Also for the prices of a text, which are judged line by line.
 pub fn price_kept(price: i64) -> bool
     ensures { λ r. ⌜ r ≡ priceKept price ⌝ }
 {

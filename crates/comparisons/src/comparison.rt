@@ -109,6 +109,7 @@ fn used_for(expected: Expected, lent: Lent) -> usize {
     0
 }
 
+// The cells are filled before each call, so that what it leaves shows.
 fn agreed_on_cells(
     unit: UnitRecord,
     prices: &[i64],
@@ -274,6 +275,7 @@ fn same_profit(case: Case, unit: UnitRecord, prices: &[i64], number: u64) -> boo
     }
 }
 
+// Every entry lent: those past the plan are as they were.
 fn same_entries(schedule: &[u64; ROOM], expected: Expected) -> bool {
     let wanted = expected.schedule;
     let mut i = 0;
@@ -296,6 +298,7 @@ fn same_outcomes(outcomes: Outcomes, expected: Expected) -> bool {
     same_worth(starts, starts_worth) & same_worth(hours, hours_worth) & same_worth(mwh, mwh_worth)
 }
 
+// Both as a kind and a gap: the two enums share nothing.
 fn same_worth(outcome: Outcome, worth: Worth) -> bool {
     (kind_of(outcome) == kind_in(worth)) & (gap_of(outcome) == gap_in(worth))
 }

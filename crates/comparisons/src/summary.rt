@@ -6,6 +6,7 @@ use enumeration::printing::text;
 use enumeration::tally::Agreed;
 use enumeration::tally::Tally;
 
+// The number of a case is enough to find it again.
 pub fn tell(number: u64, agreed: Agreed) {
     tell_unless(agreed.plan, b"plan differs on case ", number);
     tell_unless(agreed.value, b"value differs on case ", number);

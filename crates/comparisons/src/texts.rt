@@ -76,10 +76,12 @@ fn read_agrees(
     }
 }
 
+// As a local, of which a slice can be taken.
 fn bytes_of(page: Page) -> [u8; PAGE] {
     page.bytes
 }
 
+// Its contract says that the slice is within the page.
 fn used_of(page: Page) -> usize
     ensures { λ r. ⌜ r ≤ 512 ⌝ }
 {
@@ -105,6 +107,7 @@ fn sheet_of(case: Case, number: u64) -> Sheet {
     }
 }
 
+// None or all of the four names, or one to three of them, which is refused with 2.
 fn four_of(case: Case, number: u64) -> u64 {
     let allowed = case.allowed;
     if is_part(number) {

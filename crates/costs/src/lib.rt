@@ -82,6 +82,7 @@ pub fn figures(inputs: CostInputs, mws: &[u64], heats: &[u64]) -> Costed
     }
 }
 
+// Of inputs that passed the check, so that every product fits.
 fn three_figures(inputs: CostInputs, mws: &[u64], heats: &[u64]) -> CostFigures
     requires { ⌜ inputsChecked inputs (now mws) (now heats) ≡ Passed ⌝ }
     ensures { λ r. ⌜ r ≡ threeFigures inputs (now (mws .entry)) (now (heats .entry)) ⌝ }

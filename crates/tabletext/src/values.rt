@@ -55,6 +55,7 @@ fn from_digits(s: &[u8]) -> u64
     n
 }
 
+// A function of its own, so that no caller has a signed difference to bound.
 fn minus(n: u64) -> i64
     requires { ⌜ n < 10 ^ mostDigits ⌝ }
     ensures { λ r. ⌜ r ≡ negℤ (pos n) ⌝ }
@@ -89,6 +90,7 @@ fn negative_of(s: &[u8]) -> Value
     Value::Malformed
 }
 
+// The word that may stand for a limitation.
 fn is_none(s: &[u8]) -> bool
     ensures { λ r. ⌜ r ≡ same (now (s .entry)) noneWord ⌝ }
 {
@@ -108,6 +110,7 @@ pub fn value_of(s: &[u8]) -> Value
     negative_of(s)
 }
 
+// Whether a field has a value at all; its range is judged with the record.
 fn well_formed(value: Value) -> bool
     ensures { λ r. ⌜ r ≡ wellFormed value ⌝ }
 {

@@ -71,6 +71,7 @@ fn print_segments(name: &[u8], count: usize, froms: &[u64], tos: &[u64], prices:
     }
 }
 
+// Each place is tested, so that nothing need be known of the count.
 fn print_segment(name: &[u8], i: usize, froms: &[u64], tos: &[u64], prices: &[i64]) {
     if i < froms.len() {
         if i < tos.len() {

@@ -100,6 +100,7 @@ fn try_two_layers() {
     try_case(unit, &prices, &mut scratch);
 }
 
+// With room for six intervals, the most that these cases have.
 fn planned(unit: UnitRecord, prices: &[i64], scratch: &mut [i64]) -> u64 {
     let mut schedule = [0u64; 6];
     planner::contents::planned_number(planner::plan_into(unit, prices, scratch, &mut schedule))
