@@ -4,7 +4,7 @@ use mathlib.Core.List.{[], _∷_}
 use lib.IntN.{pos}
 use Rattle.commitment.specs.declared.Cause.the-variants.{NotKept}
 use Rattle.commitment.specs.Ranges.{rangesKept, pricesKept}
-use Rattle.commitment.specs.Twelve.{c1, c1-prices}
+use Rattle.commitment.specs.PlanCases.{c1, c1-prices}
 use Rattle.assessment.specs.declared.Assessed.the-variants.{Profit, Refused}
 use Rattle.assessment.specs.Assessed.{handInChecked, assessed}
 

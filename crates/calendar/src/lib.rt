@@ -28,13 +28,17 @@ const BEFORE_COMMON: [u64; 13] = [0, 31, 59, 90, 120, 151, 181, 212, 243, 273, 3
 
 const BEFORE_LEAP: [u64; 13] = [0, 31, 60, 91, 121, 152, 182, 213, 244, 274, 305, 335, 366];
 
-const FIRST_YEAR: u64 = 2007;
+// specs/Dates.antt has the same.
+pub const FIRST_YEAR: u64 = 2007;
 
 // The leap days before it, by the rule of leap years.
 const FIRST_LEAPS: u64 = 486;
 
 // A year's horizon has no more months.
 const MOST_MONTHS: u64 = 13;
+
+// Words of 24 bits are below this. specs/Words.antt has the same.
+pub const PAST_WORDS: u64 = 16777216;
 
 // ---- dates
 

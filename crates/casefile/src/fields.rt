@@ -27,6 +27,7 @@ pub fn unit_in(text: &[u8]) -> UnitRecord
     unit_under(head, row)
 }
 
+// Group by group: each is read by a function of its own.
 fn unit_under(names: &[u8], values: &[u8]) -> UnitRecord
     ensures { λ r. ⌜ r ≡ unitOf (fieldsOf (now (names .entry))) (fieldsOf (now (values .entry))) ⌝ }
 {
@@ -126,7 +127,7 @@ fn limit_under(name: &[u8], names: &[u8], values: &[u8]) -> Limit
 }
 
 // Above every range: what a field cannot hold.
-const BEYOND: u64 = 10000000000;
+pub const BEYOND: u64 = 10000000000;
 
 // A figure that has to be a number: `none` is put beyond every range, where 3 refuses it.
 fn whole(value: Value) -> u64

@@ -1,5 +1,6 @@
 // The prices of a text, line by line: first whether each is in its range, later into the caller's slice.
 
+use crate::fields;
 use casetext::parts;
 use tabletext::Pieces;
 use tabletext::Value;
@@ -73,6 +74,7 @@ fn store_rows(head: &[u8], rows: &[u8], prices: &mut [i64])
     }
 }
 
+// A price is judged before any is stored.
 fn row_kept(head: &[u8], row: &[u8]) -> bool
     ensures { λ r. ⌜ r ≡ priceKept (priceOf (now (head .entry)) (now (row .entry))) ⌝ }
 {
@@ -86,13 +88,16 @@ fn price_of(head: &[u8], row: &[u8]) -> i64
     cents(tables::value_under(b"price", head, row))
 }
 
+// Above every range, as of a field.
+const BEYOND: i64 = fields::BEYOND as i64;
+
 // What is no number is put beyond the range of a price.
 fn cents(value: Value) -> i64
     ensures { λ r. ⌜ r ≡ centsOf value ⌝ }
 {
     match value {
-        Value::Malformed => 10000000000,
-        Value::WordNone => 10000000000,
+        Value::Malformed => BEYOND,
+        Value::WordNone => BEYOND,
         Value::Number(n) => n,
     }
 }

@@ -9,7 +9,7 @@ ghost use mathlib.Core.List.{[], _∷_};
 ghost use Rattle.tabletext.specs.Pieces.{lastClosed};
 ghost use Rattle.casetext.specs.Form.{isEmpty, unitHead, unitRow, emptyLine, priceHead, priceRows, tableFormed, formKept};
 
-const MOST_BYTES: usize = 12288;
+pub const MOST_BYTES: usize = 12288;
 
 // A text that is too long is not walked.
 pub fn form_kept(text: &[u8]) -> bool

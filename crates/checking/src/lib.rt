@@ -3,12 +3,16 @@
 pub mod clock;
 
 use calendar::Date;
+use calendar::FIRST_YEAR;
+use calendar::PAST_WORDS;
 use commitment::Cause;
 use commitment::Checked;
 use commitment::Costs;
 use commitment::Generator;
 use commitment::Limit;
 use commitment::Limits;
+use commitment::MOST_BLOCKS;
+use commitment::MOST_MW;
 use commitment::Opening;
 use commitment::Permit;
 use commitment::UnitRecord;
@@ -21,20 +25,14 @@ ghost use Rattle.commitment.specs.Limits.{limitKept};
 ghost use Rattle.commitment.specs.Ranges.{shapeChecks, dateChecks, horizonChecks, caseChecked, generatorKept, openingKept, costsKept, limitsKept};
 ghost use Rattle.commitment.specs.Ranges.{rangesKept, dateRanged, windowKept, permitKept, shapeKept, dateKept, priceKept, pricesKept, horizonKept};
 
-// The ends of the ranges. specs/Bounds.antt of `commitment` has the same.
-const FIRST_YEAR: u64 = 2007;
-
+// The ends of the ranges that a case alone has. specs/Bounds.antt of `commitment` has the same.
 const LAST_YEAR: u64 = 2099;
 
 const MOST_MONTH: u64 = 12;
 
 const MOST_DAY: u64 = 31;
 
-const MOST_WORD: u64 = 16777215;
-
-const MOST_MW: u64 = 500;
-
-const MOST_BLOCKS: u64 = 500;
+const MOST_WORD: u64 = PAST_WORDS - 1;
 
 const MOST_TIME: u64 = 96;
 
@@ -205,6 +203,7 @@ fn date_kept(permit: Permit) -> bool
     }
 }
 
+// A function of its own, since its window comes out of a match.
 fn date_exists(window: Window) -> bool
     ensures { λ r. ⌜ r ≡ exists (window .date) ⌝ }
 {
@@ -235,6 +234,7 @@ pub fn prices_kept(prices: &[i64]) -> bool
     true
 }
 
+// Also for the prices of a text, which are judged line by line.
 pub fn price_kept(price: i64) -> bool
     ensures { λ r. ⌜ r ≡ priceKept price ⌝ }
 {

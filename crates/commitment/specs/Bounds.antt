@@ -1,5 +1,6 @@
 -- The ends of the ranges (specification 2, 3), each by its name.
-use Prim.Native.Nat.{ℕ}
+use Prim.Native.Nat.{ℕ, _-_}
+use Rattle.calendar.specs.Words.{pastWords}
 
 -- ---- the unit: MW in a block and at the highest output, outputs in blocks, mot and mdt
 
@@ -48,7 +49,7 @@ abbrev pub mostDay : ℕ
 mostDay = 31
 
 abbrev pub mostWord : ℕ
-mostWord = 16777215
+mostWord = pastWords - 1
 
 -- ---- the prices: above 0 and below it, and how many
 

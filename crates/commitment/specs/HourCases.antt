@@ -18,7 +18,7 @@ use Rattle.commitment.specs.Keeping.{opensIn, keepsCase}
 use Rattle.commitment.specs.Ranges.{dateKept}
 use Rattle.commitment.specs.Best.{best}
 use Rattle.commitment.specs.Valuing.{outcomeOf}
-use Rattle.commitment.specs.Twelve.{c1-under, c1-prices, schedule, profit, number, outcome, planBefore, Row, row}
+use Rattle.commitment.specs.PlanCases.{c1-under, c1-prices, schedule, profit, number, outcome, planBefore, Row, row}
 
 abbrev pub hoursFrom : ℕ → ℕ → ℕ → ℕ → Permit
 hoursFrom year month day word = Within (record { date = date year month day; word = word })

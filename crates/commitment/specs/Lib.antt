@@ -13,8 +13,7 @@ pub mod Months
 pub mod Rivals
 pub mod Valuing
 pub mod Cells
-pub mod Figures
 pub mod Tries
-pub mod Twelve
+pub mod PlanCases
 pub mod HourCases
 pub mod TryCases

@@ -5,7 +5,7 @@ use Prim.Native.Nat.{ℕ}
 use Rattle.commitment.specs.declared.UnitRecord.{UnitRecord}
 use Rattle.commitment.specs.Best.{scheduleOf, best}
 use Rattle.commitment.specs.Tries.{triesFor, readFrom}
-use Rattle.commitment.specs.Twelve.{c1-prices, c1, c7, c9}
+use Rattle.commitment.specs.PlanCases.{c1-prices, c1, c7, c9}
 
 abbrev byTrying : UnitRecord → List ℕ
 byTrying u = map (λ (found : ℕ × ℕ). found .1) (readFrom u c1-prices [] 6)

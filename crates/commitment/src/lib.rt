@@ -13,6 +13,11 @@ pub mod windows;
 
 use calendar::Date;
 
+// The ends of two ranges that every call with a unit has, in MW and in blocks. specs/Bounds.antt has the same.
+pub const MOST_MW: u64 = 500;
+
+pub const MOST_BLOCKS: u64 = 500;
+
 // A limitation of the permit: not limited, or at most a number.
 pub enum Limit {
     None,
@@ -114,26 +119,6 @@ pub struct Outcomes {
     pub starts: Outcome,
     pub hours: Outcome,
     pub mwh: Outcome,
-}
-
-// The inputs of the cost figures but for the segments, which are two lists. Laid out as in C, so that a host hands it over as it is.
-#[repr(C)]
-pub struct CostInputs {
-    pub block: u64,
-    pub pmin: u64,
-    pub pmax: u64,
-    pub gas: u64,
-    pub transport: u64,
-    pub allowance: u64,
-    pub om: u64,
-    pub gmc: u64,
-    pub rate: u64,
-    pub min_heat: u64,
-    pub fuel: u64,
-    pub aux: u64,
-    pub minutes: u64,
-    pub start_adder: u64,
-    pub load_adder: u64,
 }
 
 // ---- one of the three limitations

@@ -1,30 +1,20 @@
--- C10, C11 and C12 of the specification, halves and the tops of all ranges, by the whole answer of `figures`, check and all.
+-- C11's vec, halves and the tops of all ranges, by the whole answer of `figures`, check and all.
 use mathlib.Core.Path.{_≡_, refl}
 use mathlib.Core.List.{[], _∷_}
 use Prim.Native.Nat.{ℕ}
 use Rattle.rounding.specs.Rounding.{rounded}
-use Rattle.commitment.specs.declared.CostInputs.{CostInputs}
+use Rattle.costs.specs.declared.CostInputs.{CostInputs}
 use Rattle.commitment.specs.Bounds.{mostBlocks}
-use Rattle.commitment.specs.Twelve.{c10-but}
-use Rattle.costs.specs.declared.Costed.{Costed}
 use Rattle.costs.specs.declared.Costed.the-variants.{Figures}
 use Rattle.costs.specs.Bounds.{mostTariff, mostRate, mostHeat, mostFuel, mostAux, mostMinutes, mostAdder}
 use Rattle.costs.specs.Ranges.{inputsKept, segmentsKept, inputsChecked}
-use Rattle.costs.specs.Answers.{costed, costedVec, costedSuc, costedMlc}
+use Rattle.costs.specs.Answers.{costed, costedVec}
+use Rattle.costs.specs.Cases.{c11, c10-mws, c10-heats}
 
--- C10's unit with its one segment
-abbrev answer : CostInputs → Costed
-answer k = costed k (80 ∷ []) (9790 ∷ [])
-
-abbrev c11 : CostInputs
-c11 = c10-but 280 50 1300 531148 0 0 0
-
--- C11's vec too: the allowances above minimum load
-pub cases :
-    costedVec (answer (c10-but 280 0 0 0 0 0 0)) ∷ costedMlc (answer c11) ∷ costedVec (answer c11) ∷ costedSuc (answer (c10-but 0 50 0 0 100 2 30)) ∷ []
-    ≡ 5664 ∷ 648835 ∷ 6340 ∷ 66875 ∷ []
+-- the allowances above minimum load
+pub c11-vec : costedVec (costed c11 c10-mws c10-heats) ≡ 6340
 unfolding costed inputsChecked inputsKept segmentsKept rounded
-cases = refl
+c11-vec = refl
 
 -- 1 MW at this gas price and grid charge, without segments: a start is half the charge, an hour half the gas price and the charge
 abbrev halves : ℕ → ℕ → CostInputs

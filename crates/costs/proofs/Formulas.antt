@@ -6,17 +6,17 @@ use native.Mathlib.Nat.{mul-pos, mul-one}
 use native.Mathlib.Omega.{arith}
 use lib.Dec.{lit<}
 use lib.ListN.{length}
-use Rattle.commitment.specs.declared.CostInputs.{CostInputs}
+use Rattle.costs.specs.declared.CostInputs.{CostInputs}
 use Rattle.rounding.specs.Fractions.{_over_}
 use Rattle.rounding.specs.Rounding.{rounded}
-use Rattle.commitment.specs.Figures.{pminMw, fuelPrice, allowanceCost, allowanceAtMinimum, segmentCost, totalMw, weightedCost}
-use Rattle.commitment.specs.Figures.{vecFraction, sucFraction, mlcFraction, vecOf, sucOf, mlcOf}
+use Rattle.costs.specs.Figures.{pminMw, fuelPrice, heatUnits, rateUnits, allowanceCost, allowanceAtMinimum, segmentCost, totalMw, weightedCost}
+use Rattle.costs.specs.Figures.{vecFraction, sucFraction, mlcFraction, vecOf, sucOf, mlcOf}
 use Rattle.costs.specs.Numerators.{units, startUnits, heatPrice, segmentUnits, weightedUnits, sucUnits, mlcUnits}
 use Rattle.rounding.proofs.Fractions.{Worth, worth-over, worth-whole, worth-plus, worth-times, worth-as, worth-scaled}
 use Rattle.rounding.proofs.Rounding.{rounded-same}
 
 module _ (k : CostInputs) where
-  allowance-worth : Worth 10000000 (k .allowance * k .rate) (allowanceCost k)
+  allowance-worth : Worth rateUnits (k .allowance * k .rate) (allowanceCost k)
   allowance-worth = worth-over (lit< tt)
 
   -- ---- (1)
@@ -24,7 +24,7 @@ module _ (k : CostInputs) where
   segment-worth : (heat : ℕ) → Worth units (segmentUnits (heatPrice k) (k .om) heat) (segmentCost k heat)
   segment-worth heat =
       worth-plus
-      (worth-times {d = 1000} {e = 10000000} (worth-over (lit< tt)) (worth-plus (worth-whole 10000000 (fuelPrice k)) allowance-worth))
+      (worth-times {d = heatUnits} {e = rateUnits} (worth-over (lit< tt)) (worth-plus (worth-whole rateUnits (fuelPrice k)) allowance-worth))
       (worth-whole units (k .om))
 
   weighted-worth : (mws heats : List ℕ) → Worth units (weightedUnits (heatPrice k) (k .om) mws heats) (weightedCost k mws heats)
@@ -62,9 +62,9 @@ module _ (k : CostInputs) where
       (worth-plus
       (worth-plus
       (worth-plus (worth-whole startUnits (k .fuel * fuelPrice k)) (worth-whole startUnits (k .aux * 10 * k .gas)))
-      (worth-scaled 120 {d = 10000000} (worth-times {d = 1} {e = 10000000} (worth-over (lit< tt)) allowance-worth)))
+      (worth-scaled 120 {d = rateUnits} (worth-times {d = 1} {e = rateUnits} (worth-over (lit< tt)) allowance-worth)))
       (worth-whole startUnits (k .«start_adder»)))
-      (worth-scaled 10000000 {d = 120} (worth-times {d = 60} {e = 2} (worth-over (lit< tt)) (worth-over (lit< tt)))))
+      (worth-scaled rateUnits {d = 120} (worth-times {d = 60} {e = 2} (worth-over (lit< tt)) (worth-over (lit< tt)))))
       (omega arith)
 
   pub suc-rounds : sucOf k ≡ rounded (sucUnits k over startUnits)
@@ -74,7 +74,7 @@ module _ (k : CostInputs) where
 
   allowances-worth : Worth units (k .allowance * k .rate * k .«min_heat» * pminMw k) (allowanceAtMinimum k)
   allowances-worth =
-      worth-times {d = units} {e = 1} (worth-times {d = 10000000} {e = 1000} allowance-worth (worth-over (lit< tt))) (worth-over (lit< tt))
+      worth-times {d = units} {e = 1} (worth-times {d = rateUnits} {e = heatUnits} allowance-worth (worth-over (lit< tt))) (worth-over (lit< tt))
 
   pub mlc-worth : Worth units (mlcUnits k) (mlcFraction k)
   mlc-worth =
@@ -82,7 +82,7 @@ module _ (k : CostInputs) where
       (worth-plus
       (worth-plus
       (worth-plus
-      (worth-plus (worth-scaled 10000000 {d = 1000} (worth-over (lit< tt))) allowances-worth)
+      (worth-plus (worth-scaled rateUnits {d = heatUnits} (worth-over (lit< tt))) allowances-worth)
       (worth-whole units (k .om * pminMw k)))
       (worth-whole units (k .«load_adder»)))
       (worth-whole units (k .gmc * pminMw k)))

@@ -1,4 +1,4 @@
--- Ranges: what the checks say. Segments and Formulas: the three numerators. Rounding: each figure once. Cases: C10 to C12, and the tops of all ranges.
+-- Ranges: what the checks say. Segments and Formulas: the three numerators. Rounding: each figure once. Cases: worked cases of the call.
 pub mod Ranges
 pub mod Segments
 pub mod Formulas

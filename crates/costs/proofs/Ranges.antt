@@ -10,11 +10,11 @@ use lib.Dec.{leb, eqb}
 use lib.ListN.{length}
 use Rattle.costs.specs.Bounds.{mostTariff, mostRate, mostHeat, mostSegments, mostFuel, mostAux, mostMinutes, mostAdder}
 use Rattle.commitment.specs.Bounds.{mostMw, mostBlocks}
-use Rattle.commitment.specs.declared.CostInputs.{CostInputs}
+use Rattle.costs.specs.declared.CostInputs.{CostInputs}
 use Rattle.commitment.specs.declared.Cause.the-variants.{Range, Shape, Segments, Length}
 use Rattle.commitment.specs.declared.Checked.the-variants.{Passed}
 use Rattle.lists.specs.Every.{every}
-use Rattle.commitment.specs.Figures.{totalMw}
+use Rattle.costs.specs.Figures.{totalMw}
 use Rattle.costs.specs.Ranges.{oneTo, countKept, sizesKept, tariffsKept, ratesKept, startKept}
 use Rattle.costs.specs.Ranges.{inputsKept, segmentsKept, outputsKept, rangeMw, inputsChecked}
 use Rattle.costs.specs.Sizes.{HeatSizes, StartSizes, LoadSizes}

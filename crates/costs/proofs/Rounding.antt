@@ -7,11 +7,11 @@ use native.Mathlib.Omega.{arith}
 use lib.Dec.{lit<}
 use Rattle.rounding.proofs.Rounding.{rounded-half-even}
 use Rattle.commitment.specs.Bounds.{mostMw}
-use Rattle.commitment.specs.declared.CostInputs.{CostInputs}
+use Rattle.costs.specs.declared.CostInputs.{CostInputs}
 use Rattle.commitment.specs.declared.Checked.{Checked}
 use Rattle.commitment.specs.declared.Checked.the-variants as checked
 use Rattle.lists.specs.Every.{every}
-use Rattle.commitment.specs.Figures.{vecFraction, sucFraction, mlcFraction}
+use Rattle.costs.specs.Figures.{vecFraction, sucFraction, mlcFraction}
 use Rattle.costs.specs.declared.CostFigures.{CostFigures}
 use Rattle.costs.specs.declared.Costed.the-variants.{Figures}
 use Rattle.costs.specs.Ranges.{oneTo, inputsChecked}

@@ -9,9 +9,9 @@ use lib.ListN.{length, drop, getD}
 use Rattle.costs.specs.Bounds.{mostHeat}
 use Rattle.commitment.specs.Bounds.{mostMw}
 use Rattle.lists.proofs.Fills.{drop-next}
-use Rattle.commitment.specs.declared.CostInputs.{CostInputs}
+use Rattle.costs.specs.declared.CostInputs.{CostInputs}
 use Rattle.lists.specs.Every.{every}
-use Rattle.commitment.specs.Figures.{totalMw}
+use Rattle.costs.specs.Figures.{totalMw}
 use Rattle.costs.specs.Ranges.{oneTo}
 use Rattle.costs.specs.Numerators.{heatPrice, segmentUnits, weightedUnits}
 use Rattle.lists.proofs.Conjunctions.{both}

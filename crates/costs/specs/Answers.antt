@@ -1,11 +1,11 @@
 -- The answer of `figures` (specification 15): the three figures, or the first cause; with its number and its figures in every case.
 use mathlib.Core.List.{List}
 use Prim.Native.Nat.{ℕ}
-use Rattle.commitment.specs.declared.CostInputs.{CostInputs}
+use Rattle.costs.specs.declared.CostInputs.{CostInputs}
 use Rattle.commitment.specs.declared.Checked.{Checked}
 use Rattle.commitment.specs.declared.Checked.the-variants as checked
 use Rattle.commitment.specs.Causes.{numberOf}
-use Rattle.commitment.specs.Figures.{vecOf, sucOf, mlcOf}
+use Rattle.costs.specs.Figures.{vecOf, sucOf, mlcOf}
 use Rattle.costs.specs.declared.CostFigures.{CostFigures}
 use Rattle.costs.specs.declared.Costed.{Costed}
 use Rattle.costs.specs.declared.Costed.the-variants.{Figures, Refused}

@@ -1,21 +1,21 @@
 -- What the code adds up before it rounds: each figure as a whole number of small parts of a cent.
 use mathlib.Core.List.{List, [], _∷_}
 use Prim.Native.Nat.{ℕ, _+_, _*_}
-use Rattle.commitment.specs.declared.CostInputs.{CostInputs}
-use Rattle.commitment.specs.Figures.{pminMw, fuelPrice}
+use Rattle.costs.specs.declared.CostInputs.{CostInputs}
+use Rattle.costs.specs.Figures.{pminMw, fuelPrice, heatUnits, rateUnits}
 
 -- the parts of a cent: of (1) and (3), whose heat rates are in thousandths and allowances in ten-millionths; and of (2)
 abbrev pub units : ℕ
-units = 10000000000
+units = heatUnits * rateUnits
 
 abbrev pub startUnits : ℕ
-startUnits = 1200000000
+startUnits = 120 * rateUnits
 
 -- ---- (1)
 
 -- gas, transport and allowances, in ten-millionths of a cent per MMBtu
 abbrev pub heatPrice : CostInputs → ℕ
-heatPrice k = fuelPrice k * 10000000 + k .allowance * k .rate
+heatPrice k = fuelPrice k * rateUnits + k .allowance * k .rate
 
 abbrev pub segmentUnits : ℕ → ℕ → ℕ → ℕ
 segmentUnits price om heat = heat * price + om * units
@@ -31,11 +31,11 @@ weightedUnits price om (mw ∷ mws) (heat ∷ heats) = mw * segmentUnits price o
 abbrev pub sucUnits : CostInputs → ℕ
 sucUnits k =
     (k .fuel * fuelPrice k + k .aux * 10 * k .gas + k .«start_adder») * startUnits + k .fuel * (k .allowance * k .rate) * 120
-    + pminMw k * k .minutes * k .gmc * 10000000
+    + pminMw k * k .minutes * k .gmc * rateUnits
 
 -- ---- (3)
 
 abbrev pub mlcUnits : CostInputs → ℕ
 mlcUnits k =
-    k .«min_heat» * pminMw k * fuelPrice k * 10000000 + k .allowance * k .rate * k .«min_heat» * pminMw k
+    k .«min_heat» * pminMw k * fuelPrice k * rateUnits + k .allowance * k .rate * k .«min_heat» * pminMw k
     + (k .om * pminMw k + k .«load_adder» + k .gmc * pminMw k) * units

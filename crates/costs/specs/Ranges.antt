@@ -5,13 +5,13 @@ use mathlib.Core.List.{List, [], _∷_}
 use Prim.Native.Nat.{ℕ, _-_, _*_}
 use lib.Dec.{leb, eqb}
 use lib.ListN.{length}
-use Rattle.commitment.specs.declared.CostInputs.{CostInputs}
+use Rattle.costs.specs.declared.CostInputs.{CostInputs}
 use Rattle.commitment.specs.declared.Cause.the-variants.{Range, Shape, Segments, Length}
 use Rattle.commitment.specs.declared.Checked.{Checked}
 use Rattle.commitment.specs.Causes.{Check, _else_, firstOf}
 use Rattle.lists.specs.Every.{every}
 use Rattle.commitment.specs.Bounds.{mostMw, mostBlocks}
-use Rattle.commitment.specs.Figures.{totalMw}
+use Rattle.costs.specs.Figures.{totalMw}
 use Rattle.costs.specs.Bounds.{mostTariff, mostRate, mostHeat, mostSegments, mostFuel, mostAux, mostMinutes, mostAdder}
 
 -- a number from 1 to the most

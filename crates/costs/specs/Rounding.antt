@@ -4,8 +4,8 @@ use Prim.Native.Nat.{ℕ}
 use lib.IntN.{pos}
 use Rattle.rounding.specs.Fractions.{signed}
 use Rattle.rounding.specs.Rounding.{HalfEven}
-use Rattle.commitment.specs.declared.CostInputs.{CostInputs}
-use Rattle.commitment.specs.Figures.{vecFraction, sucFraction, mlcFraction}
+use Rattle.costs.specs.declared.CostInputs.{CostInputs}
+use Rattle.costs.specs.Figures.{vecFraction, sucFraction, mlcFraction}
 use Rattle.costs.specs.declared.CostFigures.{CostFigures}
 
 pub record RoundedOnce (k : CostInputs) (mws heats : List ℕ) (figures : CostFigures) : Type 0 where

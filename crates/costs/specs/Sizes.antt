@@ -1,6 +1,6 @@
 -- How large the products of the code get where every input is in its range: each fits an unsigned 64-bit number, and so do their sums.
 use Prim.Native.Nat.{_+_, _*_, _≤_}
-use Rattle.commitment.specs.declared.CostInputs.{CostInputs}
+use Rattle.costs.specs.declared.CostInputs.{CostInputs}
 use Rattle.commitment.specs.Bounds.{mostMw}
 use Rattle.costs.specs.Bounds.{mostTariff, mostRate, mostHeat, mostFuel, mostAux, mostMinutes, mostAdder}
 

@@ -3,32 +3,30 @@
 
 use commitment::Cause;
 use commitment::Checked;
-use commitment::CostInputs;
+use commitment::MOST_BLOCKS;
+use commitment::MOST_MW;
 ghost use mathlib.Core.Path.{_≡_};
 ghost use mathlib.Core.Bool.{true};
-ghost use Prim.Native.Nat.{_^_, _<_, _≤_};
+ghost use Prim.Native.Nat.{_*_, _^_, _<_, _≤_};
 ghost use lib.ListN.{length};
 ghost use Rattle.commitment.specs.declared.Checked.the-variants.{Passed};
 ghost use Rattle.lists.specs.Every.{every};
 ghost use Rattle.commitment.specs.Bounds.{mostMw};
-ghost use Rattle.commitment.specs.Figures.{vecOf, sucOf, mlcOf, totalMw};
+ghost use Rattle.costs.specs.Figures.{vecOf, sucOf, mlcOf, totalMw};
 ghost use Rattle.commitment.specs.Causes.{firstOf};
+ghost use Rattle.costs.specs.Bounds.{mostSegments};
 ghost use Rattle.costs.specs.Ranges.{Ranged, lengthChecks, totalChecks, outputChecks};
 ghost use Rattle.costs.specs.Ranges.{oneTo, sizesKept, tariffsKept, ratesKept, startKept, inputsKept, segmentsKept, outputsKept, inputsChecked};
 ghost use Rattle.costs.specs.Answers.{costed, threeFigures};
 ghost use Rattle.costs.specs.Sizes.{HeatSizes, StartSizes, LoadSizes};
 ghost use Rattle.costs.specs.Numerators.{heatPrice, weightedUnits, sucUnits, mlcUnits};
 
-// The ends of the ranges. specs/Bounds.antt has the same.
-const MOST_MW: u64 = 500;
-
-const MOST_BLOCKS: u64 = 500;
-
-const MOST_TARIFF: u64 = 10000;
+// The ends of the ranges that the unit record does not have. specs/Bounds.antt has the same.
+pub const MOST_TARIFF: u64 = 10000;
 
 const MOST_RATE: u64 = 1000000;
 
-const MOST_HEAT: u64 = 50000;
+pub const MOST_HEAT: u64 = 50000;
 
 const MOST_SEGMENTS: usize = 10;
 
@@ -39,6 +37,26 @@ const MOST_AUX: u64 = 1000;
 const MOST_MINUTES: u64 = 1440;
 
 const MOST_ADDER: u64 = 10000000;
+
+// The inputs of the cost figures but for the segments, which are two lists. Laid out as in C, so that a host hands it over as it is.
+#[repr(C)]
+pub struct CostInputs {
+    pub block: u64,
+    pub pmin: u64,
+    pub pmax: u64,
+    pub gas: u64,
+    pub transport: u64,
+    pub allowance: u64,
+    pub om: u64,
+    pub gmc: u64,
+    pub rate: u64,
+    pub min_heat: u64,
+    pub fuel: u64,
+    pub aux: u64,
+    pub minutes: u64,
+    pub start_adder: u64,
+    pub load_adder: u64,
+}
 
 // In whole cents: per MWh, for a start, per hour.
 pub struct CostFigures {
@@ -64,6 +82,7 @@ pub fn figures(inputs: CostInputs, mws: &[u64], heats: &[u64]) -> Costed
     }
 }
 
+// Of inputs that passed the check, so that every product fits.
 fn three_figures(inputs: CostInputs, mws: &[u64], heats: &[u64]) -> CostFigures
     requires { ⌜ inputsChecked inputs (now mws) (now heats) ≡ Passed ⌝ }
     ensures { λ r. ⌜ r ≡ threeFigures inputs (now (mws .entry)) (now (heats .entry)) ⌝ }
@@ -200,7 +219,7 @@ fn outputs_kept(inputs: CostInputs) -> bool
 
 // Segments in their ranges are few and small, so that their sum fits.
 fn total_mw(mws: &[u64]) -> u64
-    requires { ⌜ totalMw (now mws) ≤ 5000 ⌝ }
+    requires { ⌜ totalMw (now mws) ≤ mostMw * mostSegments ⌝ }
     ensures { λ r. ⌜ r ≡ totalMw (now (mws .entry)) ⌝ }
 {
     let mut total = 0;
@@ -214,11 +233,16 @@ fn total_mw(mws: &[u64]) -> u64
 
 // ---- the figures
 
-// Heat rates are in thousandths and allowances in ten-millionths: vec and mlc are worked out in ten-billionths of a cent.
-const UNITS: u64 = 10000000000;
+// Heat rates are in thousandths, rates of allowances in ten-millionths.
+pub const HEAT_UNITS: u64 = 1000;
+
+const RATE_UNITS: u64 = 10000000;
+
+// So vec and mlc are worked out in ten-billionths of a cent.
+const UNITS: u64 = HEAT_UNITS * RATE_UNITS;
 
 // minutes / 60 × gmc / 2, and allowances in ten-millionths: suc is worked out in so many parts of a cent.
-const START_UNITS: u64 = 1200000000;
+const START_UNITS: u64 = 120 * RATE_UNITS;
 
 // (1)
 fn vec_of(inputs: CostInputs, mws: &[u64], heats: &[u64]) -> u64
@@ -239,7 +263,7 @@ fn heat_price(inputs: CostInputs) -> u64
     requires { ⌜ HeatSizes inputs ⌝ }
     ensures { λ r. ⌜ r ≡ heatPrice inputs ⌝ }
 {
-    (inputs.gas + inputs.transport) * 10000000 + inputs.allowance * inputs.rate
+    (inputs.gas + inputs.transport) * RATE_UNITS + inputs.allowance * inputs.rate
 }
 
 // What the segments cost, each by its MW, in ten-billionths of a cent.
@@ -278,7 +302,7 @@ fn suc_units(inputs: CostInputs) -> u64
         + inputs.start_adder;
     let allowances = inputs.fuel * (inputs.allowance * inputs.rate);
     let grid = inputs.pmin * inputs.block * inputs.minutes * inputs.gmc;
-    cents * START_UNITS + allowances * 120 + grid * 10000000
+    cents * START_UNITS + allowances * 120 + grid * RATE_UNITS
 }
 
 // (3)
@@ -299,5 +323,5 @@ fn mlc_units(inputs: CostInputs) -> u64
     let fuel = inputs.min_heat * mw * (inputs.gas + inputs.transport);
     let allowances = inputs.allowance * inputs.rate * inputs.min_heat * mw;
     let cents = inputs.om * mw + inputs.load_adder + inputs.gmc * mw;
-    fuel * 10000000 + allowances + cents * UNITS
+    fuel * RATE_UNITS + allowances + cents * UNITS
 }

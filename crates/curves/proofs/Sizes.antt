@@ -9,6 +9,7 @@ use Rattle.integers.proofs.Ranges.{Within, within-at, within-weaken, within-dif
 use Rattle.rounding.specs.Sizes.{Sizes}
 use Rattle.commitment.specs.Bounds.{mostMw}
 use Rattle.costs.specs.Bounds.{mostHeat}
+use Rattle.costs.specs.Figures.{heatUnits}
 use Rattle.curves.specs.declared.CurveInputs.{CurveInputs}
 use Rattle.curves.specs.Curve.{incrementalRate, priceFraction}
 use Rattle.curves.specs.Sizes.{InputSizes, PointSizes}
@@ -37,15 +38,15 @@ module _ {from rate to rate′ : ℕ} (s : PointSizes from rate to rate′) wher
     pub fuel-within : Within mostFuelUnits (incrementalRate from rate to rate′ .num *ℤ pos (k .gas))
     fuel-within = within-mul change-within (within-weaken (i .gas) (within-at (k .gas)))
 
-    pub fixed-most : (k .om + k .gmc + k .adder) * ((to - from) * 1000) ≤ mostFixedUnits
+    pub fixed-most : (k .om + k .gmc + k .adder) * ((to - from) * heatUnits) ≤ mostFixedUnits
     fixed-most = mul-le-mul {n₂ = 1020000} {m₂ = 500000} (omega (arith, i .om, i .gmc, i .adder)) (omega (arith, s .level-most))
 
     -- the code's sum is the numerator of the fraction
     pub sum-is :
-        incrementalRate from rate to rate′ .num *ℤ pos (k .gas) +ℤ pos ((k .om + k .gmc + k .adder) * ((to - from) * 1000))
+        incrementalRate from rate to rate′ .num *ℤ pos (k .gas) +ℤ pos ((k .om + k .gmc + k .adder) * ((to - from) * heatUnits))
         ≡ priceFraction k from rate to rate′ .num
     sum-is =
-        ap (λ (x : ℤ). x +ℤ pos ((k .om + k .gmc + k .adder) * ((to - from) * 1000)))
+        ap (λ (x : ℤ). x +ℤ pos ((k .om + k .gmc + k .adder) * ((to - from) * heatUnits)))
         (sym (once (incrementalRate from rate to rate′ .num *ℤ pos (k .gas))))
       where
         once : (x : ℤ) → x *ℤ pos 1 ≡ x
@@ -54,9 +55,9 @@ module _ {from rate to rate′ : ℕ} (s : PointSizes from rate to rate′) wher
     pub sum-within : Within (mostFuelUnits + mostFixedUnits) (priceFraction k from rate to rate′ .num)
     sum-within =
         subst (Within (mostFuelUnits + mostFixedUnits)) sum-is
-        (within-sum fuel-within (within-weaken fixed-most (within-at ((k .om + k .gmc + k .adder) * ((to - from) * 1000)))))
+        (within-sum fuel-within (within-weaken fixed-most (within-at ((k .om + k .gmc + k .adder) * ((to - from) * heatUnits)))))
 
-    pub division-sizes : Sizes (priceFraction k from rate to rate′ .num) ((to - from) * 1000)
+    pub division-sizes : Sizes (priceFraction k from rate to rate′ .num) ((to - from) * heatUnits)
     division-sizes =
         record {
           num-most = omega (arith, abs-within sum-within);

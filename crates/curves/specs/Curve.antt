@@ -8,6 +8,7 @@ use lib.Signed.{leZ}
 use Rattle.integers.specs.Maximum.{maxℤ}
 use Rattle.rounding.specs.Fractions.{whole, _over_, SignedFraction, signed, _overℤ_, _plusℤ_, _timesℤ_}
 use Rattle.rounding.specs.Rounding.{roundedℤ}
+use Rattle.costs.specs.Figures.{heatUnits}
 use Rattle.curves.specs.declared.CurveInputs.{CurveInputs}
 use Rattle.curves.specs.declared.Segment.{Segment}
 
@@ -20,7 +21,7 @@ incrementalRate level rate level′ rate′ = (pos (level′ * rate′) -ℤ pos
 -- incremental rate × gas / 1000 + om + gmc + adder
 abbrev pub priceFraction : CurveInputs → ℕ → ℕ → ℕ → ℕ → SignedFraction
 priceFraction k level rate level′ rate′ =
-    incrementalRate level rate level′ rate′ timesℤ signed (k .gas over 1000) plusℤ signed (whole (k .om + k .gmc + k .adder))
+    incrementalRate level rate level′ rate′ timesℤ signed (k .gas over heatUnits) plusℤ signed (whole (k .om + k .gmc + k .adder))
 
 -- rounded once
 unfoldable pub ownPrice : CurveInputs → ℕ → ℕ → ℕ → ℕ → ℤ

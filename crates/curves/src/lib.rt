@@ -3,6 +3,10 @@
 
 use commitment::Cause;
 use commitment::Checked;
+use commitment::MOST_MW;
+use costs::HEAT_UNITS;
+use costs::MOST_HEAT;
+use costs::MOST_TARIFF;
 ghost use mathlib.Core.Path.{_≡_};
 ghost use mathlib.Core.Bool.{true, cond};
 ghost use Prim.Native.Nat.{_+_, _<_};
@@ -18,16 +22,10 @@ ghost use Rattle.curves.specs.Sizes.{InputSizes, PointSizes};
 ghost use Rattle.curves.specs.Passes as passes;
 ghost use Rattle.curves.specs.Passes.{ownAt, openAfter, stored};
 
-// The ends of the ranges. specs/Bounds.antt and those of the cost figures have the same.
+// The ends of the ranges that bid curves alone have. specs/Bounds.antt has the same.
 const FEWEST_POINTS: usize = 2;
 
 const MOST_POINTS: usize = 11;
-
-const MOST_MW: u64 = 500;
-
-const MOST_HEAT: u64 = 50000;
-
-const MOST_TARIFF: u64 = 10000;
 
 const MOST_BID_ADDER: u64 = 1000000;
 
@@ -262,7 +260,7 @@ fn own_price(inputs: CurveInputs, from: u64, from_rate: u64, to: u64, to_rate: u
     ensures { λ r. ⌜ r ≡ ownPrice inputs from «from_rate» to «to_rate» ⌝ }
 {
     let sum = price_units(inputs, from, from_rate, to, to_rate);
-    rounding::rounded_signed(sum, (to - from) * 1000)
+    rounding::rounded_signed(sum, (to - from) * HEAT_UNITS)
 }
 
 // The numerator of a segment's own price. The part for fuel may be negative.
@@ -272,7 +270,7 @@ fn price_units(inputs: CurveInputs, from: u64, from_rate: u64, to: u64, to_rate:
     ensures { λ r. ⌜ r ≡ priceFraction inputs from «from_rate» to «to_rate» .num ⌝ }
 {
     let fuel = heat_change(from, from_rate, to, to_rate) * integers::signed(inputs.gas);
-    let fixed = (inputs.om + inputs.gmc + inputs.adder) * ((to - from) * 1000);
+    let fixed = (inputs.om + inputs.gmc + inputs.adder) * ((to - from) * HEAT_UNITS);
     fuel + integers::signed(fixed)
 }
 

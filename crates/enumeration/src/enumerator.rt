@@ -197,6 +197,7 @@ fn held_in(case: Case, on: bool) -> u64
     0
 }
 
+// Starts are counted by ones; hours and MWh in quarters, four to the unit.
 fn within(cap: Cap, unit: u64, count: u64) -> bool
     requires { ⌜ unit ≤ 4 ⌝ }
 {
@@ -241,6 +242,7 @@ fn hours_kept(case: Case, list: [u32; ROOM]) -> bool {
     true
 }
 
+// By the clock hour that begins after so many hours.
 fn may_run(allowed: Allowed, passed: u64) -> bool
     requires { ⌜ passed < 20 ⌝ }
 {
@@ -371,6 +373,7 @@ fn spent_on(case: Case, output: u64) -> u64
         + wide32(case.mlc)
 }
 
+// No output on is below the least; the test spares a proof of it.
 fn over(output: u64, least: u64) -> u64
     ensures { λ r. ⌜ r ≤ output ⌝ }
 {
@@ -382,6 +385,7 @@ fn over(output: u64, least: u64) -> u64
 
 // ---- the first best
 
+// Only a list that keeps the times and the hours is added up.
 pub fn judged(case: Case, number: u64) -> Found
     ensures { λ r. ⌜ (r .earned < 2 ^ 60) × (r .spent < 2 ^ 60) ⌝ }
 {
@@ -439,6 +443,7 @@ fn better(first: Found, next: Found) -> Found
     }
 }
 
+// By counting up, so that of lists that tie the first stays.
 pub fn best_of(case: Case) -> Found
     ensures { λ r. ⌜ (r .earned < 2 ^ 60) × (r .spent < 2 ^ 60) ⌝ }
 {

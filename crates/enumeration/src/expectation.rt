@@ -45,6 +45,7 @@ pub fn expected_of(case: Case) -> Expected
     }
 }
 
+// A refused call leaves the schedule as it was.
 pub fn refused(number: u64) -> Expected
     ensures { λ r. ⌜ Refused number r ⌝ }
 {

@@ -18,6 +18,7 @@ ghost use mathlib.Core.Bool.{not};
 // The draws of a case.
 const DRAWS: usize = 32;
 
+// All draws of a case at once: the next case goes on from the last that it takes.
 pub fn draws_from(seed: u32) -> [u32; DRAWS]
     ensures { λ r. ⌜ r ≡ drawsFrom seed ⌝ }
 {
@@ -84,6 +85,7 @@ fn intervals_of(kind: u64, draw: u32) -> u8
     }
 }
 
+// Longer cases have one output on, so that their lists stay few.
 fn highest(intervals: u8, pmin: u8, pmax: u8) -> u8 {
     if 4 < intervals {
         return pmin;
@@ -153,6 +155,7 @@ fn pick(draw: u32, low: u8, choices: u32) -> u8
     low + (draw % choices) as u8
 }
 
+// Low figures, so that the limitation often binds.
 fn cap(limited: bool, draw: u32, choices: u32) -> Cap
     requires { ⌜ 0 < choices ⌝ }
     ensures { λ r. ⌜ r .limited ≡ limited ⌝ }
@@ -173,6 +176,7 @@ fn price_of(spread: u64, draw: u32) -> u16 {
     }
 }
 
+// What is taken off every price, so that some are below 0.
 fn down_of(spread: u64) -> u16 {
     match spread {
         0 => 0,

@@ -68,6 +68,7 @@ fn lend(long: u64, two: u64, cells: u64) -> Lent
     }
 }
 
+// The long table where it fits, else two layers.
 fn used_of(long: u64, two: u64, cells: u64) -> u64
     ensures { λ r. ⌜ r ≡ usedOf long two cells ⌝ }
 {
@@ -145,6 +146,7 @@ fn filling(place: usize) -> i64
     difference(0, 7777 + (place % 1000) as u64)
 }
 
+// A cell that is left as it was still holds this, and no 0.
 pub fn fill(scratch: &mut [i64])
     ensures { λ _. ⌜ now (scratch .exit) ≡ cellsFrom fillings.filling 0 (length (now (scratch .entry))) ⌝ }
 {

@@ -6,4 +6,5 @@ pub mod expectation;
 pub mod generator;
 pub mod lending;
 pub mod numbers;
+pub mod printing;
 pub mod tally;

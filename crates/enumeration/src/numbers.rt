@@ -6,6 +6,7 @@ ghost use Prim.Native.Nat.{_*_, _<_, _≤_, _^_};
 ghost use lib.IntN.{pos, _-ℤ_};
 ghost use Rattle.enumeration.specs.Counting as counting;
 
+// Each of these three says in its contract how large the number is at most.
 pub fn wide8(x: u8) -> u64
     ensures { λ r. ⌜ (r ≡ x) × (r < 2 ^ 8) ⌝ }
 {

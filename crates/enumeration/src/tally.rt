@@ -147,6 +147,7 @@ pub fn with_expected(tally: Tally, expected: Expected) -> Tally
     t
 }
 
+// A gap below 0 has a column, so that it would show.
 fn column_of(worth: Worth) -> usize
     ensures { λ r. ⌜ r < 6 ⌝ }
 {

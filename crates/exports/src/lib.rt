@@ -5,7 +5,7 @@ mod numbers;
 
 use calendar::Date;
 use commitment::Checked;
-use commitment::CostInputs;
+use costs::CostInputs;
 use curves::CurveInputs;
 use numbers::AssessNumbers;
 use numbers::CaseNumbers;

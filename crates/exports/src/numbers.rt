@@ -152,6 +152,7 @@ fn limit_from(number: u64) -> Limit
     }
 }
 
+// The way back, for a text that was read.
 fn limit_number(limit: Limit) -> u64
     ensures { λ r. ⌜ r ≡ records.limitNumber limit ⌝ }
 {
@@ -200,6 +201,7 @@ pub fn word_from(word: u64) -> HourWord
     }
 }
 
+// The host has one flat record; the library has its groups.
 pub fn record_of(unit: UnitNumbers) -> UnitRecord
     ensures { λ r. ⌜ r ≡ records.recordOf unit ⌝ }
 {
@@ -236,6 +238,7 @@ pub fn record_of(unit: UnitNumbers) -> UnitRecord
     }
 }
 
+// The way back, for a text that was read.
 fn unit_numbers(unit: UnitRecord) -> UnitNumbers
     ensures { λ r. ⌜ r ≡ records.unitNumbers unit ⌝ }
 {
@@ -320,6 +323,7 @@ fn outcome_numbers(outcome: Outcome) -> OutcomeNumbers
     }
 }
 
+// Outcomes come back from the host to be listed.
 pub fn outcomes_from(outcomes: OutcomesNumbers) -> Outcomes
     ensures { λ r. ⌜ r ≡ records.outcomesFrom outcomes ⌝ }
 {
@@ -346,7 +350,7 @@ fn outcomes_numbers(outcomes: Outcomes) -> OutcomesNumbers
     }
 }
 
-// ---- answers
+// ---- answers: 0 or the number of the cause, and on a refusal 0 in all else
 
 // A refused reading has no record to turn into numbers.
 pub fn of_case(answer: CaseRead) -> CaseNumbers

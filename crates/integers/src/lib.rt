@@ -12,6 +12,7 @@ pub fn larger(a: i64, b: i64) -> i64
     if a < b { b } else { a }
 }
 
+// Of lengths: what fits two slices.
 pub fn smaller(a: usize, b: usize) -> usize
     ensures { λ r. ⌜ r ≡ min a b ⌝ }
 {

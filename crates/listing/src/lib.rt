@@ -33,9 +33,6 @@ pub enum Fit {
     TooLong,
 }
 
-// Words of 24 bits are below this.
-const PAST_WORDS: u64 = 16777216;
-
 // The listing of a plan: interval and MW, then profit, the three outcomes and the hours that its word allows.
 pub fn write_listing(
     schedule: &[u64],
@@ -59,7 +56,7 @@ fn word_kept(word: HourWord) -> bool
 {
     match word {
         HourWord::None => true,
-        HourWord::Word(hours) => hours < PAST_WORDS,
+        HourWord::Word(hours) => hours < calendar::PAST_WORDS,
     }
 }
 
@@ -234,6 +231,7 @@ fn put_outcomes(out: &mut [u8], at: usize, outcomes: Outcomes) -> usize
     put_outcome_line(out, third, b"mwh,", mwh)
 }
 
+// The count is taken of words of 24 bits alone.
 fn put_hours(out: &mut [u8], at: usize, word: u64) -> usize
     requires { ⌜ (word < pastWords) × (at + length (hoursLine word) ≤ length (now out)) ⌝ }
     ensures { λ r. ⌜ Put (now (out .entry)) at (hoursLine word) r (now (out .exit)) ⌝ }
@@ -255,6 +253,7 @@ fn put_window(out: &mut [u8], at: usize, word: HourWord) -> usize
     }
 }
 
+// The caller has found that it fits.
 fn put_listing(out: &mut [u8], schedule: &[u64], profit: i64, outcomes: Outcomes, word: HourWord)
     requires { ⌜ (wordKept word ≡ true) × (length (listing (now schedule) profit outcomes word) ≤ length (now out)) ⌝ }
     ensures { λ _. ⌜ now (out .exit) ≡ written (now (out .entry)) 0 (listing (now (schedule .entry)) profit outcomes word) ⌝ }
@@ -282,6 +281,7 @@ fn number_length(n: u64) -> usize
     digits
 }
 
+// A minus takes a byte.
 fn signed_length(value: i64) -> usize
     ensures { λ r. ⌜ r ≡ length (signedNumber value) ⌝ }
 {
@@ -321,6 +321,7 @@ fn totals_length(profit: i64, outcomes: Outcomes) -> usize
         + outcome_length(mwh)
 }
 
+// As in `put_window`: no date, no line.
 fn window_length(word: HourWord) -> usize
     requires { ⌜ wordKept word ≡ true ⌝ }
     ensures { λ r. ⌜ r ≡ length (windowLine word) ⌝ }

@@ -6,8 +6,8 @@ use native.Mathlib.Nat.{mul-one}
 use lib.IntN.{pos}
 use Rattle.rounding.specs.Fractions.{Fraction, _over_, _plus_, _times_, whole, signed}
 use Rattle.rounding.specs.Rounding.{HalfEven}
-use Rattle.commitment.specs.declared.CostInputs.{CostInputs}
-use Rattle.commitment.specs.Figures.{pminMw, fuelPrice, allowanceCost, allowanceAtMinimum, mlcFraction}
+use Rattle.costs.specs.declared.CostInputs.{CostInputs}
+use Rattle.costs.specs.Figures.{pminMw, fuelPrice, allowanceCost, allowanceAtMinimum, mlcFraction}
 use Rattle.costs.specs.declared.CostFigures.{CostFigures}
 use Rattle.costs.specs.declared.Costed.the-variants.{Figures}
 use Rattle.costs.specs.Answers.{costed}

@@ -18,13 +18,13 @@ use Rattle.checking.specs.Clock.{clockChecks, clockChecked, clockBy, clockHour}
 use Rattle.commitment.specs.declared.Cause.the-variants.{Range, Length, Scratch, NoSchedule}
 use Rattle.commitment.specs.declared.Checked.{Checked}
 use Rattle.commitment.specs.declared.Checked.the-variants.{Passed, Refused}
-use Rattle.commitment.specs.declared.CostInputs.{CostInputs}
+use Rattle.costs.specs.declared.CostInputs.{CostInputs}
 use Rattle.commitment.specs.declared.Outcomes.{Outcomes}
 use Rattle.commitment.specs.declared.UnitRecord.{UnitRecord}
 use Rattle.commitment.specs.Best.{Plan, nothing, plan, best}
 use Rattle.commitment.specs.Causes.{Check, _else_, unless, firstOf}
 use Rattle.commitment.specs.Cells.{cellsNeeded}
-use Rattle.commitment.specs.Figures.{totalMw}
+use Rattle.costs.specs.Figures.{totalMw}
 use Rattle.commitment.specs.Keeping.{keepsCase}
 use Rattle.commitment.specs.Profit.{profit}
 use Rattle.commitment.specs.Ranges.{rangesKept, shapeKept, dateRanged, pricesKept, horizonKept, caseChecks}

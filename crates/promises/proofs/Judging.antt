@@ -6,12 +6,12 @@ use Prim.Native.Nat.{ℕ}
 use lib.IntN.{ℤ, pos}
 use lib.ListN.{length}
 use Rattle.commitment.specs.declared.Checked.the-variants.{Passed}
-use Rattle.commitment.specs.declared.CostInputs.{CostInputs}
+use Rattle.costs.specs.declared.CostInputs.{CostInputs}
 use Rattle.commitment.specs.declared.UnitRecord.{UnitRecord}
 use Rattle.rounding.specs.Fractions.{SignedFraction, signed}
 use Rattle.rounding.specs.Rounding.{HalfEven, HalfWay, evenOf}
 use Rattle.rounding.proofs.Neighbours as neighbours
-use Rattle.commitment.specs.Figures.{pminMw}
+use Rattle.costs.specs.Figures.{pminMw}
 use Rattle.commitment.specs.Profit.{profit}
 use Rattle.commitment.specs.Ranges.{pricesKept, caseChecked}
 use Rattle.commitment.specs.Rivals.{Rival}

@@ -16,7 +16,7 @@ use Rattle.integers.proofs.Linear.{up, dn, zarith}
 use Rattle.integers.proofs.Order.{le-leZ}
 use Rattle.calendar.specs.declared.Date.{Date}
 use Rattle.calendar.specs.Dates.{daysIn, exists}
-use Rattle.commitment.specs.declared.CostInputs.{CostInputs}
+use Rattle.costs.specs.declared.CostInputs.{CostInputs}
 use Rattle.commitment.specs.declared.Limit.{Limit}
 use Rattle.commitment.specs.declared.Limit.the-variants.{None, At}
 use Rattle.commitment.specs.declared.Permit.{Permit}

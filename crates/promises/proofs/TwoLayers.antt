@@ -15,7 +15,7 @@ use Rattle.commitment.specs.declared.UnitRecord.{UnitRecord}
 use Rattle.commitment.specs.Best.{best}
 use Rattle.commitment.specs.Cells.{cellsNeeded, cellsLong, cellsUsed}
 use Rattle.commitment.specs.Ranges.{rangesKept, pricesKept}
-use Rattle.commitment.specs.Twelve.{c1, c7, c1-prices}
+use Rattle.commitment.specs.PlanCases.{c1, c7, c1-prices}
 use Rattle.commitment.specs.Valuing.{outcomesOf}
 use Rattle.planner.specs.declared.Planned.the-variants as planning
 use Rattle.planner.specs.declared.Valued.the-variants as valuing

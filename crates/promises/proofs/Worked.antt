@@ -1,7 +1,7 @@
 -- Cases computed from the definitions: C1 whole, from the bytes of its text to the bytes of its listing with the program's slices, without and with an
 -- hour word; and the answers of the calls to C1 to C12 and to the cases of permitted hours.
 use mathlib.Core.Path.{_≡_, refl}
-use mathlib.Core.List.{List, [], _∷_, map}
+use mathlib.Core.List.{List, [], _∷_, _++_, map}
 use Prim.Native.Nat.{ℕ}
 use Rattle.lists.specs.Text.{bytes}
 use Rattle.casefile.specs.Reading.{unitIn, pricesIn}
@@ -17,16 +17,18 @@ use Rattle.calendar.specs.Dates.{dayNumber, isSunday}
 use Rattle.calendar.specs.Clock.{hoursOf, clockAfter}
 use Rattle.calendar.specs.Words.{hoursAllowed}
 use Rattle.commitment.specs.declared.Cause.the-variants.{NotKept}
-use Rattle.commitment.specs.Twelve.{Row, c1-prices, saidOfTwelve}
+use Rattle.commitment.specs.PlanCases as planCases
+use Rattle.commitment.specs.PlanCases.{Value, Row, c1-prices}
 use Rattle.commitment.specs.HourCases.{c1-word, table}
 use Rattle.assessment.specs.declared.Assessed.the-variants.{Refused}
 use Rattle.assessment.specs.Assessed.{handInChecked, assessed}
 use Rattle.costs.specs.Answers.{costed}
+use Rattle.costs.specs.Cases as costCases
 use Rattle.costs.specs.Ranges.{inputsKept, segmentsKept, inputsChecked}
 use Rattle.planner.specs.Planning.{planChecked}
 use Rattle.planner.specs.Valuing.{valueChecked}
 use Rattle.answers.specs.Answering.{allFound, printed}
-use Rattle.promises.specs.Twelve.{answersOfTwelve, answersOfHours}
+use Rattle.promises.specs.Twelve.{saidOfTwelve, definedOfTwelve, answersOfTwelve, answersOfHours}
 
 abbrev textOf : List ℕ → List ℕ → List ℕ
 textOf names values =
@@ -107,7 +109,13 @@ unfolding
     clockAfter hoursOf isSunday dayNumber hoursAllowed
 hour-whole = refl
 
--- ---- the calls answer what the specification says of all twelve
+-- ---- what the specification says of all twelve: the definitions give it, and the calls answer it
+
+pub twelve-defined : definedOfTwelve ≡ saidOfTwelve
+twelve-defined = both planCases.worked costCases.worked
+  where
+    both : {a b c d : List (List Value)} → a ≡ b → c ≡ d → a ++ c ≡ b ++ d
+    both p q = cc
 
 pub twelve : answersOfTwelve ≡ saidOfTwelve
 unfolding rounded planChecked valueChecked costed inputsChecked inputsKept segmentsKept rangesKept pricesKept

@@ -1,7 +1,7 @@
 -- Formula (3) as the market operator's appendix prints it, whose allowances Pmin MW does not multiply (specification 10).
 use Prim.Native.Nat.{_*_}
-use Rattle.commitment.specs.declared.CostInputs.{CostInputs}
-use Rattle.commitment.specs.Figures.{pminMw, fuelPrice, allowanceCost}
+use Rattle.costs.specs.declared.CostInputs.{CostInputs}
+use Rattle.costs.specs.Figures.{pminMw, fuelPrice, allowanceCost}
 use Rattle.rounding.specs.Fractions.{Fraction, _over_, _plus_, _times_, whole}
 
 abbrev pub mlcPrinted : CostInputs → Fraction

@@ -5,7 +5,7 @@ use Prim.Native.Nat.{ℕ, zero, suc, _+_}
 use lib.IntN.{pos, negℤ}
 use lib.ListN.{getD, set, replicate}
 use Rattle.calendar.specs.Dates.{date}
-use Rattle.commitment.specs.declared.CostInputs.{CostInputs}
+use Rattle.costs.specs.declared.CostInputs.{CostInputs}
 use Rattle.commitment.specs.declared.Limit.the-variants.{At}
 use Rattle.commitment.specs.declared.Permit.the-variants.{Within}
 use Rattle.commitment.specs.declared.UnitRecord.{UnitRecord}

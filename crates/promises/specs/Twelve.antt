@@ -1,20 +1,23 @@
--- What the calls answer of C1 to C12 (specification 18) and of the cases of permitted hours (specification 22), in the order and the kinds of the
--- values given for them.
-use mathlib.Core.List.{List, [], _∷_, _++_}
+-- C1 to C12 (specification 18) in one table, out of those of plans and of cost figures; and what the calls answer of them and of the cases of
+-- permitted hours (specification 22), in the order and the kinds of the values given for them.
+use mathlib.Core.List.{List, [], _∷_, _++_, map}
 use Prim.Native.Nat.{ℕ}
 use lib.IntN.{ℤ, pos}
 use lib.ListN.{length}
-use Rattle.commitment.specs.declared.CostInputs.{CostInputs}
+use Rattle.costs.specs.declared.CostInputs.{CostInputs}
 use Rattle.commitment.specs.declared.Limitation.{Limitation}
 use Rattle.commitment.specs.declared.Limitation.the-variants.{Starts, Hours, Mwh}
 use Rattle.commitment.specs.declared.UnitRecord.{UnitRecord}
 use Rattle.commitment.specs.Causes.{numberOf}
-use Rattle.commitment.specs.Twelve.{Value, schedule, profit, number, outcome, ties, cents, tiesOf, c1-prices, c1, c2, c4, c5, c6, c7, c8, c9, c10-but}
+use Rattle.commitment.specs.PlanCases as planCases
+use Rattle.commitment.specs.PlanCases.{Value, schedule, profit, number, outcome, ties, cents, tiesOf, Row, c1-prices, c1, c2, c4, c5, c6, c7, c8, c9}
 use Rattle.commitment.specs.HourCases.{c1-word, c1-on-word}
 use Rattle.costs.specs.declared.CostFigures.{CostFigures}
 use Rattle.costs.specs.declared.Costed.{Costed}
 use Rattle.costs.specs.declared.Costed.the-variants as costing
 use Rattle.costs.specs.Answers.{costed}
+use Rattle.costs.specs.Cases as costCases
+use Rattle.costs.specs.Cases.{c10, c11, c12, c10-mws, c10-heats}
 use Rattle.planner.specs.declared.Planned.{Planned}
 use Rattle.planner.specs.declared.Planned.the-variants as planning
 use Rattle.planner.specs.declared.Valued.{Valued}
@@ -53,10 +56,23 @@ plansOf u prices = planValues (call u prices) (partGiven u prices cellRoom (leng
 abbrev outcomeAt : UnitRecord → Limitation → Value
 outcomeAt u which = outcomeValue (valued u c1-prices cellRoom) which
 
--- the unit of C10 has one segment, 80 MW at 9,790
 abbrev figureAt : CostInputs → (CostFigures → ℕ) → Value
-figureAt k which = centsValue (costed k (80 ∷ []) (9790 ∷ [])) which
+figureAt k which = centsValue (costed k c10-mws c10-heats) which
 
+-- ---- all twelve
+
+abbrev table : List Row
+table = planCases.table ++ costCases.table
+
+-- what the specification says of them
+abbrev pub saidOfTwelve : List (List Value)
+saidOfTwelve = map (λ (r : Row). r .given) table
+
+-- what the definitions give
+abbrev pub definedOfTwelve : List (List Value)
+definedOfTwelve = map (λ (r : Row). r .computed) table
+
+-- what the calls answer
 abbrev pub answersOfTwelve : List (List Value)
 answersOfTwelve =
     (plansOf c1 c1-prices ++ (outcomeAt c1 Starts ∷ outcomeAt c1 Hours ∷ outcomeAt c1 Mwh ∷ []))
@@ -68,12 +84,13 @@ answersOfTwelve =
     ∷ (number (plannedNumber (call c7 c1-prices)) ∷ outcomeAt c7 Hours ∷ [])
     ∷ (profitValue (call c8 c1-prices) ∷ outcomeAt c8 Hours ∷ [])
     ∷ (plansOf c9 c1-prices ++ (outcomeAt c9 Starts ∷ []))
-    ∷ (figureAt (c10-but 280 0 0 0 0 0 0) (λ figures. figures .vec) ∷ [])
-    ∷ (figureAt (c10-but 280 50 1300 531148 0 0 0) (λ figures. figures .mlc) ∷ [])
-    ∷ (figureAt (c10-but 0 50 0 0 100 2 30) (λ figures. figures .suc) ∷ [])
+    ∷ (figureAt c10 (λ figures. figures .vec) ∷ [])
+    ∷ (figureAt c11 (λ figures. figures .mlc) ∷ [])
+    ∷ (figureAt c12 (λ figures. figures .suc) ∷ [])
     ∷ []
 
--- C1's unit and prices with a date and an hour word
+-- ---- permitted hours: C1's unit and prices with a date and an hour word
+
 abbrev pub answersOfHours : List (List Value)
 answersOfHours =
     (plansOf (c1-word 1) c1-prices ++ (outcomeAt (c1-word 1) Starts ∷ outcomeAt (c1-word 1) Hours ∷ []))

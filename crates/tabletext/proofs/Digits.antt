@@ -15,7 +15,7 @@ use Rattle.lists.proofs.Conjunctions.{both}
 use Rattle.lists.proofs.Every.{every-at}
 use Rattle.tabletext.specs.declared.Class.the-variants.{Digit, Letter, Comma, Minus, LineEnd, Refused}
 use Rattle.tabletext.specs.Bytes.{between, rank, isOf}
-use Rattle.tabletext.specs.Values.{fromDigits, leadKept, numeral}
+use Rattle.tabletext.specs.Values.{fromDigits, leadKept, mostDigits, numeral}
 
 no-other : (t u v w : Bool) → eqb (rank (cond t Letter (cond u Comma (cond v Minus (cond w LineEnd Refused))))) 0 ≡ true → ⊥
 no-other true u v w q = false≢true q
@@ -67,5 +67,5 @@ next-digit s n i p h b =
     record { least = d .0; most = d .1; small = omega arith; next = omega arith; on = rw (drop-next s i 0 h) }
 
 -- ten digits stand for less than 10^10
-pub all-digits : (n i : ℕ) → i ≤ 10 → n < 10 ^ i → n < 10000000000
-all-digits n i h b = omega (arith, tens i 10 h)
+pub all-digits : (n i : ℕ) → i ≤ mostDigits → n < 10 ^ i → n < 10 ^ mostDigits
+all-digits n i h b = omega (arith, tens i mostDigits h)

@@ -27,9 +27,12 @@ leadKept [] = false
 leadKept (b ∷ []) = true
 leadKept (b ∷ c ∷ bs) = not (eqb b 48)
 
+abbrev pub mostDigits : ℕ
+mostDigits = 10
+
 -- 1 to 10 digits without needless leading zeros
 unfoldable pub numeral : List ℕ → Bool
-numeral s = leadKept s && every (isOf Digit) s && leb (length s) 10
+numeral s = leadKept s && every (isOf Digit) s && leb (length s) mostDigits
 
 -- a minus is allowed except on 0
 abbrev pub negated : List ℕ → Value

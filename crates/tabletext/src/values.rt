@@ -5,10 +5,11 @@ use crate::Value;
 use crate::bytes;
 ghost use mathlib.Core.Path.{_≡_};
 ghost use mathlib.Core.Bool.{true};
-ghost use Prim.Native.Nat.{_<_};
+ghost use Prim.Native.Nat.{_<_, _^_};
 ghost use lib.IntN.{pos, negℤ};
 ghost use Rattle.tabletext.specs.Bytes.{same};
-ghost use Rattle.tabletext.specs.Values.{isName, leadKept, numeral, fromDigits, negated, negative, noneWord, valueOf, wellFormed, isValue};
+ghost use Rattle.tabletext.specs.Values.{isName, leadKept, mostDigits, numeral, fromDigits, negated, negative};
+ghost use Rattle.tabletext.specs.Values.{noneWord, valueOf, wellFormed, isValue};
 
 // Small letters, at least one.
 pub fn is_name(s: &[u8]) -> bool
@@ -30,17 +31,20 @@ fn lead_kept(s: &[u8]) -> bool
     s[0] != 48
 }
 
+// specs/Values.antt has the same.
+const MOST_DIGITS: usize = 10;
+
 // Ten digits or fewer.
 fn is_numeral(s: &[u8]) -> bool
     ensures { λ r. ⌜ r ≡ numeral (now (s .entry)) ⌝ }
 {
-    lead_kept(s) & bytes::all_of(Class::Digit, s) & (s.len() <= 10)
+    lead_kept(s) & bytes::all_of(Class::Digit, s) & (s.len() <= MOST_DIGITS)
 }
 
 // Ten digits fit with room to spare.
 fn from_digits(s: &[u8]) -> u64
     requires { ⌜ numeral (now s) ≡ true ⌝ }
-    ensures { λ r. ⌜ (r ≡ fromDigits 0 (now (s .entry))) × (r < 10000000000) ⌝ }
+    ensures { λ r. ⌜ (r ≡ fromDigits 0 (now (s .entry))) × (r < 10 ^ mostDigits) ⌝ }
 {
     let mut n: u64 = 0;
     let mut i = 0;
@@ -51,8 +55,9 @@ fn from_digits(s: &[u8]) -> u64
     n
 }
 
+// A function of its own, so that no caller has a signed difference to bound.
 fn minus(n: u64) -> i64
-    requires { ⌜ n < 10000000000 ⌝ }
+    requires { ⌜ n < 10 ^ mostDigits ⌝ }
     ensures { λ r. ⌜ r ≡ negℤ (pos n) ⌝ }
 {
     0 - integers::signed(n)
@@ -85,6 +90,7 @@ fn negative_of(s: &[u8]) -> Value
     Value::Malformed
 }
 
+// The word that may stand for a limitation.
 fn is_none(s: &[u8]) -> bool
     ensures { λ r. ⌜ r ≡ same (now (s .entry)) noneWord ⌝ }
 {
@@ -104,6 +110,7 @@ pub fn value_of(s: &[u8]) -> Value
     negative_of(s)
 }
 
+// Whether a field has a value at all; its range is judged with the record.
 fn well_formed(value: Value) -> bool
     ensures { λ r. ⌜ r ≡ wellFormed value ⌝ }
 {

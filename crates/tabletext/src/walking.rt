@@ -64,6 +64,7 @@ pub fn count(pieces: Pieces, counted: Counted, s: &[u8], name: &[u8]) -> usize
     total
 }
 
+// All that is counted, so that one walk serves every count.
 fn counts_piece(counted: Counted, s: &[u8], name: &[u8]) -> bool
     ensures { λ r. ⌜ r ≡ counts counted (now (name .entry)) (now (s .entry)) ⌝ }
 {

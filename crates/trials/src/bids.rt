@@ -1,11 +1,11 @@
 // Bid curves: the first two segments of the sources' heat rate example, whose prices are found by counting cents up, too; a price that is rounded,
 // segments that merge, halves above and below zero, and each cause for which there is no curve.
 
-use crate::printing::cells;
-use crate::printing::line;
-use crate::printing::text;
 use curves::CurveInputs;
 use curves::Curved;
+use enumeration::printing::cells;
+use enumeration::printing::line;
+use enumeration::printing::text;
 ghost use Prim.Native.Nat.{_≤_};
 
 pub fn try_bids() {
@@ -71,6 +71,7 @@ fn print_segments(name: &[u8], count: usize, froms: &[u64], tos: &[u64], prices:
     }
 }
 
+// Each place is tested, so that nothing need be known of the count.
 fn print_segment(name: &[u8], i: usize, froms: &[u64], tos: &[u64], prices: &[i64]) {
     if i < froms.len() {
         if i < tos.len() {

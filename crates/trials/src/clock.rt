@@ -1,10 +1,10 @@
 // The clock hour of an interval: hour by hour from the midnight of a few dates, and each refusal.
 
-use crate::printing::line;
-use crate::printing::row;
-use crate::printing::text;
 use calendar::Date;
 use checking::clock;
+use enumeration::printing::line;
+use enumeration::printing::row;
+use enumeration::printing::text;
 
 // From a midnight past that of the day after.
 const HOURS: usize = 26;

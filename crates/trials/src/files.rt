@@ -1,13 +1,13 @@
 // The texts of the data folder, in the sequence of the program's arguments: each is read, planned and valued with the slices that the
 // planning program lends, and its plan is handed in.
 
-use crate::printing::line;
-use crate::printing::text;
 use assessment::Assessed;
 use commitment::Outcomes;
 use commitment::Permit;
 use commitment::UnitRecord;
 use enumeration::numbers::one_if;
+use enumeration::printing::line;
+use enumeration::printing::text;
 use libc::STDOUT_FILENO;
 use listing::HourWord;
 use planner::Valued;
@@ -48,6 +48,7 @@ pub fn contents(path: &[u8], bytes: &mut [u8]) -> usize
     size
 }
 
+// Read by both calls that read: one gives the record, the other the prices.
 fn try_text(bytes: &[u8], prices: &mut [i64]) {
     let unit = casefile::unit_of(casefile::read_into(bytes, &mut *prices));
     let mut number = 0;
@@ -60,6 +61,7 @@ fn try_text(bytes: &[u8], prices: &mut [i64]) {
     try_case(unit, &part[..], &mut scratch);
 }
 
+// Valued first: where that is refused, nothing is planned.
 pub fn try_case(unit: UnitRecord, prices: &[i64], scratch: &mut [i64]) {
     match planner::value(unit, prices, &mut *scratch) {
         Valued::Refused(cause) => refused(commitment::number_of(cause)),
@@ -97,6 +99,7 @@ fn planned(schedule: &[u64], profit: i64, outcomes: Outcomes, word: HourWord) {
     io::write_all(STDOUT_FILENO, &out[..bytes]);
 }
 
+// Its contract says that the count stays within the buffer.
 fn put_listing(
     schedule: &[u64],
     profit: i64,

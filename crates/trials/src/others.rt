@@ -3,12 +3,12 @@
 use crate::files::contents;
 use crate::files::hand_in;
 use crate::files::try_case;
-use crate::printing::line;
-use crate::printing::text;
 use casefile::CaseRead;
 use commitment::UnitRecord;
 use enumeration::lending;
 use enumeration::numbers::one_if;
+use enumeration::printing::line;
+use enumeration::printing::text;
 
 // 0 where there is no refusal.
 pub fn try_others() {
@@ -100,6 +100,7 @@ fn try_two_layers() {
     try_case(unit, &prices, &mut scratch);
 }
 
+// With room for six intervals, the most that these cases have.
 fn planned(unit: UnitRecord, prices: &[i64], scratch: &mut [i64]) -> u64 {
     let mut schedule = [0u64; 6];
     planner::contents::planned_number(planner::plan_into(unit, prices, scratch, &mut schedule))

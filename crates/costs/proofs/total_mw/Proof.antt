@@ -4,7 +4,7 @@ use Prim.Native.Nat.{_+_, _-_, _≤_}
 use native.Mathlib.Omega.{arith}
 use borrow.Author.Needs.{needs}
 use lib.ListN.{length, drop, getD, drop-of-length-le}
-use Rattle.commitment.specs.Figures.{totalMw}
+use Rattle.costs.specs.Figures.{totalMw}
 use Rattle.costs.proofs.Segments.{total-next}
 use Rattle.costs.proofs.total_mw.Statement.{statement}
 use Rattle.costs.proofs.total_mw.Tie as tie

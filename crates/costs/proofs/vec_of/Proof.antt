@@ -4,7 +4,7 @@ use Prim.Native.Nat.{_<_, _≤_}
 use native.Mathlib.Omega.{arith}
 use lib.ListN.{length}
 use Rattle.commitment.specs.Bounds.{mostMw}
-use Rattle.commitment.specs.Figures.{totalMw}
+use Rattle.costs.specs.Figures.{totalMw}
 use Rattle.costs.proofs.Ranges.{accepted, heat-sizes, range-mw}
 use Rattle.costs.proofs.Segments.{total-some, weighted-fits}
 use Rattle.costs.proofs.Formulas.{vec-none, vec-rounds}

@@ -8,6 +8,7 @@ use mir.Val.{toZ, ofZ}
 use Rattle.integers.proofs.Ranges.{plain-fits}
 use Rattle.rounding.specs.Fractions.{_overℤ_}
 use Rattle.rounding.specs.Rounding.{roundedℤ}
+use Rattle.costs.specs.Figures.{heatUnits}
 use Rattle.curves.specs.Curve.{priceFraction, ownPrice}
 use Rattle.curves.proofs.Sizes.{division-sizes}
 use Rattle.curves.proofs.own_price.Statement.{statement}
@@ -28,7 +29,7 @@ returns c =
     let a = c .before .before .args in
     let fraction = priceFraction (a .inputs) (a .from) (a .from-rate) (a .to) (a .to-rate) in
     plain-fits (record { sfits = c .rounded-signed .ok }) ∙ (rw (sum (c .before)) at (c .rounded-signed .ensures))
-    ∙ ap (λ (den : ℕ). roundedℤ (fraction .num overℤ den)) (sym (mul-one ((a .to - a .from) * 1000)))
+    ∙ ap (λ (den : ℕ). roundedℤ (fraction .num overℤ den)) (sym (mul-one ((a .to - a .from) * heatUnits)))
 
 pub own-price-spec : {M : Type 1} → statement M
 own-price-spec = tie.close (tie.spec (λ c κs. search needs) (λ c. search needs) (λ c. search needs) rounded-signed-requires returns)

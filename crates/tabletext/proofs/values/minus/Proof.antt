@@ -1,15 +1,16 @@
 -- Both the number and its opposite are far inside an i64.
 use mathlib.Core.Path.{_∙_}
-use Prim.Native.Nat.{ℕ, _<_}
+use Prim.Native.Nat.{ℕ, _<_, _^_}
 use lib.IntN.{pos, negℤ, +ℤ-idl}
 use lib.Dec.{lit<}
 use Rattle.integers.proofs.Ranges.{Within, within-at, within-weaken, within-diff, within-fits, plain}
+use Rattle.tabletext.specs.Values.{mostDigits}
 use borrow.Author.Needs.{needs}
 use native.Mathlib.Omega.{arith}
 use Rattle.tabletext.proofs.values.minus.Statement.{statement}
 use Rattle.tabletext.proofs.values.minus.Tie as tie
 
-small : (n : ℕ) → n < 10000000000 → Within 10000000000 (pos n)
+small : (n : ℕ) → n < 10 ^ mostDigits → Within (10 ^ mostDigits) (pos n)
 small n h = within-weaken (omega arith) (within-at n)
 
 sub-result : tie.Need-sub-result
