@@ -76,15 +76,15 @@ module _ (f : Figures) (prices : List ℤ) (hours : Hours) (from to room : ℕ) 
   some none = t .some (sym (boxed-value f c (endsBy end) (quartersHere f prices hours from to) c) ∙ none)
 
   -- whose table fits
-  pub as-leaf : (w : ℕ) → w ≡ width g → w ≤ room / (to - from + 1) → Leaf g prices hours from to w c end cells schedule
-  as-leaf w wide h =
+  pub as-leaf : (w : ℕ) → w ≡ width g → (held lent : ℕ) → held ≤ lent → w ≤ held / (to - from + 1) → Leaf g prices hours from to w c end lent schedule
+  as-leaf w wide held lent inside h =
       record {
         asked = asked;
         here = boxed-inside f c (t .here);
         some = some;
         long = t .long;
         wide = wide;
-        fits = omega (arith, table-fits w (to - from) room h, t .fits);
+        fits = omega (arith, table-fits w (to - from) held h, inside);
       }
 
   -- or does not: then it has two intervals

@@ -37,6 +37,10 @@ abbrev pub Reachable : Figures → End → Type 0
 Reachable f Anywhere = Unit
 Reachable f (In s) = s < states f
 
+-- the cells of a table that is filled aside
+abbrev pub near : ℕ
+near = 2048
+
 -- all cells but the first n are as they were
 abbrev pub Untouched : ℕ → List ℤ → List ℤ → Type 0
 Untouched n was cells = (j : ℕ) → n ≤ j → getD cells j (pos 0) ≡ getD was j (pos 0)

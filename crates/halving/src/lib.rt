@@ -26,12 +26,15 @@ ghost use Rattle.geometry.specs.Layers.{Layer, storedAt};
 ghost use Rattle.layers.specs.Filling.{quartersIn, Beyond};
 ghost use Rattle.intervals.specs.Stretches.{Apart};
 ghost use Rattle.marks.specs.Standing as standing;
-ghost use Rattle.halving.specs.Tasks.{endsBy, Reachable, Untouched, Task, Leaf, PassAsked, Halved, Halves, MarkKept, MarkedWith, Solved};
+ghost use Rattle.halving.specs.Tasks.{near, endsBy, Reachable, Untouched, Task, Leaf, PassAsked, Halved, Halves, MarkKept, MarkedWith, Solved};
 ghost use Rattle.halving.specs.Tasks.{CaseAsked, FirstPass};
 ghost use Rattle.halving.specs.Tasks as tasks;
 
 // Values and marks of the cells that `marks` works out aside at a time.
 const BUFFER: usize = 1024;
+
+// The cells of a table that is filled aside, where it has no more: as many as the buffers of a pass together.
+const NEAR: usize = 2048;
 
 // Where a plan may end: in any cell, or in a state with nothing left.
 pub enum End {
@@ -162,6 +165,25 @@ fn leaf(
     table::read_off(&cells[..], w, f, quarters, c, &mut schedule[from..])
 }
 
+// The same in cells of its own, which only this frame has.
+fn near_leaf(
+    w: usize,
+    f: Figures,
+    prices: &[i64],
+    hours: Hours,
+    from: usize,
+    to: usize,
+    c: Cell,
+    end: End,
+    schedule: &mut [u64],
+) -> usize
+    requires { ⌜ Leaf f (now prices) hours from to w c end near (length (now schedule)) ⌝ }
+    ensures { λ r. ⌜ Solved f (now (prices .entry)) hours from to c end (now (schedule .entry)) (now (schedule .exit)) r ⌝ }
+{
+    let mut cells = [0i64; NEAR];
+    leaf(&mut cells, w, f, prices, hours, from, to, c, end, schedule)
+}
+
 // A task's plan, in its place of the schedule, and how many outputs were tried for it. `room` cells are at hand.
 fn solve(
     cells: &mut [i64],
@@ -181,8 +203,12 @@ fn solve(
 {
     let g = boxed(f, c);
     let w = geometry::layer_cells(g);
-    if w <= room / (to - from + 1) {
+    let layers = to - from + 1;
+    if w <= room / layers {
         return leaf(cells, w, g, prices, hours, from, to, c, end, schedule);
+    }
+    if w <= NEAR / layers {
+        return near_leaf(w, g, prices, hours, from, to, c, end, schedule);
     }
     pass(&mut *cells, w, g, prices, hours, from, to, end);
     halves(cells, room, w, g, prices, hours, from, to, c, end, schedule)

@@ -1,5 +1,5 @@
 -- The cycle of calls {halves, solve}. The intervals fall: twice their number for `halves`, one more for `solve`, which calls it with as many.
-use mathlib.Core.Path.{_≡_, _∙_}
+use mathlib.Core.Path.{_≡_, refl, _∙_}
 use Prim.Native.Nat.{ℕ, _+_, _-_, _<_}
 use native.Mathlib.Omega.{arith}
 use borrow.Author.Needs.{needs}
@@ -7,7 +7,7 @@ use borrow.Fn.Kinds.{In}
 use borrow.Fn.PlainCycle.{Measures, is, falls, and}
 use lib.ListN.{length}
 use Rattle.geometry.specs.Geometry.{width}
-use Rattle.halving.specs.Tasks.{boxed, Task, Halves}
+use Rattle.halving.specs.Tasks.{near, boxed, Task, Halves}
 use Rattle.halving.proofs.Boxes.{as-leaf, as-passed, as-halves, unboxed, boxed-sound, table-fits}
 use Rattle.halving.proofs.Joining.{middle-apart, mark, mark-kept, spends-all, early-task, late-task, both-solved}
 use Rattle.halving.proofs.halves.Reads as halves
@@ -21,6 +21,7 @@ use Rattle.halving.proofs.boxed.Reads as boxed-reads
 use Rattle.halving.proofs.leaf.Reads as leaf-reads
 use Rattle.halving.proofs.marked.Reads as marked-reads
 use Rattle.halving.proofs.midway.Reads as midway-reads
+use Rattle.halving.proofs.near_leaf.Reads as near-leaf-reads
 use Rattle.halving.proofs.pass.Reads as pass-reads
 use Rattle.halving.proofs.spent.Reads as spent-reads
 use Rattle.halving.proofs.+halves+solve.{statement}
@@ -173,6 +174,8 @@ module _ (t : ℕ) where
     layer-cells-reads.Learnt,
     leaf-reads.Asked,
     leaf-reads.Learnt,
+    near-leaf-reads.Asked,
+    near-leaf-reads.Learnt,
     pass-reads.Asked,
     pass-reads.Learnt,
     halves-below t,
@@ -203,7 +206,7 @@ module _ (t : ℕ) where
       let a = o .args in
       rw (layer .before .boxed .ensures)
       (as-leaf (a .f) (a .prices .now) (a .hours) (a .from) (a .to) (a .room) (a .c) (a .end) (length (a .cells .now)) (length (a .schedule .now)) (task o)
-      (layer .layer-cells .result) (wide layer) (taken .if1 .taken))
+      (layer .layer-cells .result) (wide layer) (a .room) (length (a .cells .now)) (task o .fits) (taken .if1 .taken))
 
   leaf-returns : solve-lts.Need-returns solve-calls (solve-at t) solve.Post
   leaf-returns c =
@@ -218,9 +221,31 @@ module _ (t : ℕ) where
         λ j k. made .leaf .ensures .1 j (omega (arith, k, table-fits (layer .layer-cells .result) (a .to - a .from) (a .room) (taken .if1 .taken))),
       )
 
+  near-requires : solve-lts.Need-near-leaf-requires solve-calls (solve-at t) solve.Post
+  near-requires c κs =
+      let taken = c .before in
+      let layer = taken .before .before in
+      let o = layer .before .before .before in
+      let a = o .args in
+      rw (layer .before .boxed .ensures)
+      (as-leaf (a .f) (a .prices .now) (a .hours) (a .from) (a .to) (a .room) (a .c) (a .end) (length (a .cells .now)) (length (a .schedule .now)) (task o)
+      (layer .layer-cells .result) (wide layer) near near (omega arith) (taken .if2 .taken))
+
+  near-returns : solve-lts.Need-returns-2 solve-calls (solve-at t) solve.Post
+  near-returns c =
+      let made = c .before .before in
+      let layer = made .before .before .before .before in
+      let o = layer .before .before .before in
+      let a = o .args in (
+        unboxed (a .f) (a .prices .now) (a .hours) (a .from) (a .to) (a .room) (a .c) (a .end) (length (a .cells .now)) (length (a .schedule .now)) (task o)
+            _ _ _
+            (rw (layer .before .boxed .ensures) at (made .near-leaf .ensures)),
+        λ j k. refl,
+      )
+
   pass-requires : solve-lts.Need-pass-requires solve-calls (solve-at t) solve.Post
   pass-requires c κs =
-      let left = c .before in
+      let left = c .before .before in
       let layer = left .before in
       let o = layer .before .before .before in
       let a = o .args in
@@ -231,7 +256,7 @@ module _ (t : ℕ) where
   halves-requires : solve-lts.Need-halves-requires solve-calls (solve-at t) solve.Post
   halves-requires c κs =
       let made = c .before .before .before in
-      let left = made .before .before in
+      let left = made .before .before .before in
       let layer = left .before in
       let o = layer .before .before .before in
       let a = o .args in (
@@ -243,11 +268,11 @@ module _ (t : ℕ) where
             (rw (layer .before .boxed .ensures) at (made .pass .ensures .marked))),
       )
 
-  solve-returns : solve-lts.Need-returns-2 solve-calls (solve-at t) solve.Post
+  solve-returns : solve-lts.Need-returns-3 solve-calls (solve-at t) solve.Post
   solve-returns c =
       let done = c .before .before .before in
       let made = done .before .before .before .before in
-      let left = made .before .before in
+      let left = made .before .before .before in
       let layer = left .before in
       let o = layer .before .before .before in
       let a = o .args in (
@@ -270,6 +295,7 @@ pub +halves+solve-spec : {M : Type 1} → statement M
     (λ c. omega arith)
     (leaf-requires t)
     (λ c. c .before .before .before .leaf .kept .0) (λ c. c .before .before .before .leaf .kept .1 .1 .1 .1 .1 .1 .1 .1 .1 .0) (leaf-returns t)
+    (λ c. omega arith) (near-requires t) (λ c. c .before .before .near-leaf .kept .1 .1 .1 .1 .1 .1 .1 .1 .0) (near-returns t)
     (pass-requires t) (halves-requires t)
     (λ c. c .before .before .before .halves .kept .0 ∙ c .before .before .before .before .before .before .before .pass .kept .0)
     (λ c. c .before .before .before .halves .kept .1 .1 .1 .1 .1 .1 .1 .1 .1 .1 .0) (solve-returns t))
