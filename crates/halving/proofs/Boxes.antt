@@ -19,9 +19,10 @@ use Rattle.optimality.specs.Machine.{Quarter}
 use Rattle.optimality.specs.Cells.{Sound, InTable, planAt, valueAt}
 use Rattle.optimality.proofs.Within.{within-itself, with-sound}
 use Rattle.geometry.specs.Geometry.{row, span, section, width}
+use Rattle.halving.specs.declared.Task.{Task}
 use Rattle.halving.specs.declared.End.{End}
 use Rattle.halving.specs.declared.End.the-variants.{Anywhere, In}
-use Rattle.halving.specs.Tasks.{boxed, endsBy, Reachable, quartersHere, HasPlan, Asked, Task, Leaf, PassAsked, Marked, Halves, Solved}
+use Rattle.halving.specs.Tasks.{boxed, frame, endsBy, Reachable, quartersHere, Asked, Given, TaskAsked, Leaf, PassAsked, Marked, Halves, Solved}
 
 module _ (f : Figures) (c : Cell) where
   pub boxed-plan : (ends : Cell → BestProfit) (quarters : List Quarter) (x : Cell) → planAt (boxed f c) ends quarters x ≡ planAt f ends quarters x
@@ -50,77 +51,70 @@ module _ (f : Figures) (c : Cell) where
 pub table-fits : (w n room : ℕ) → w ≤ room / (n + 1) → (n + 1) * w ≤ room
 table-fits w n room h = omega (arith, mul-comm w (n + 1), le-div-iff-mul-le {k = n + 1} {x = w} {y = room} (omega arith) .0 h)
 
-module _ (f : Figures) (prices : List ℤ) (hours : Hours) (from to room : ℕ) (c : Cell) (end : End) (cells schedule : ℕ)
-    (t : Task f prices hours from to room c end cells schedule) where
+module _ (f : Figures) (prices : List ℤ) (hours : Hours) (room : ℕ) (t : Task) (cells schedule : ℕ)
+    (k : TaskAsked f prices hours room t cells schedule) where
   abbrev g : Figures
-  g = boxed f c
+  g = boxed f (t .cell)
 
-  asked : Asked g prices hours from to end
+  abbrev many : ℕ
+  many = t .to - t .from + 1
+
+  asked : Asked g prices hours (t .from) (t .to) (t .end)
   asked =
-      let k = t .asked in
+      let a = k .given .asked in
       record {
-        sound = boxed-sound f c (t .here) (k .sound);
-        priced = k .priced;
-        clocked = k .clocked;
-        ordered = k .ordered;
-        inside = k .inside;
-        short = k .short;
-        ends = reached end (k .ends);
+        sound = boxed-sound f (t .cell) (k .given .here) (a .sound);
+        priced = a .priced;
+        clocked = a .clocked;
+        ordered = a .ordered;
+        inside = a .inside;
+        short = a .short;
+        ends = reached (t .end) (a .ends);
       }
     where
       reached : (e : End) → Reachable f e → Reachable g e
       reached Anywhere h = h
       reached (In s) h = h
 
-  some : HasPlan g prices hours from to c end
-  some none = t .some (sym (boxed-value f c (endsBy end) (quartersHere f prices hours from to) c) ∙ none)
-
-  -- whose table fits
-  pub as-leaf : (w : ℕ) → w ≡ width g → w ≤ room / (to - from + 1) → Leaf g prices hours from to w c end cells schedule
-  as-leaf w wide h =
+  given : Given g prices hours t schedule
+  given =
       record {
         asked = asked;
-        here = boxed-inside f c (t .here);
-        some = some;
-        long = t .long;
-        wide = wide;
-        fits = omega (arith, table-fits w (to - from) room h, t .fits);
+        here = boxed-inside f (t .cell) (k .given .here);
+        some = λ none. k .given .some (sym (boxed-value f (t .cell) (endsBy (t .end)) (quartersHere f prices hours (t .from) (t .to)) (t .cell)) ∙ none);
+        long = k .given .long;
       }
 
-  -- or does not: then it has two intervals
-  apart : (w : ℕ) → w ≡ width g → room / (to - from + 1) < w → from + 2 ≤ to
-  apart w wide h = by (ltb to (from + 2)) refl
-    where
-      by : (b : Bool) → ltb to (from + 2) ≡ b → from + 2 ≤ to
-      by false e = ltb-false to (from + 2) e
-      by true e =
-          let l = ltb-true to (from + 2) e in
-          let few : w * (to - from + 1) ≤ w * 2 = mul-le-mul (le-refl w) (omega (arith, l)) in
-          absurd (omega (arith, h, le-div-iff-mul-le {k = to - from + 1} {x = w} {y = room} (omega arith) .1 (omega (arith, few, wide, t .two))))
+  module _ (w : ℕ) (wide : w ≡ width g) where
+    -- whose table fits
+    pub as-leaf : (held lent : ℕ) → held ≤ lent → w ≤ held / many → Leaf (frame g w hours) prices t lent schedule
+    as-leaf held lent inside h =
+        record { given = given; wide = wide; fits = omega (arith, table-fits w (t .to - t .from) held h, inside) }
 
-  pub as-passed : (w : ℕ) → w ≡ width g → room / (to - from + 1) < w → PassAsked g prices hours from to w end cells
-  as-passed w wide h = record { asked = asked; some = omega (arith, apart w wide h); wide = wide; fits = omega (arith, wide, t .two, t .fits) }
+    -- or does not: then it has two intervals
+    apart : room / many < w → t .from + 2 ≤ t .to
+    apart h = by (ltb (t .to) (t .from + 2)) refl
+      where
+        by : (b : Bool) → ltb (t .to) (t .from + 2) ≡ b → t .from + 2 ≤ t .to
+        by false e = ltb-false (t .to) (t .from + 2) e
+        by true e =
+            let l = ltb-true (t .to) (t .from + 2) e in
+            let few : w * many ≤ w * 2 = mul-le-mul (le-refl w) (omega (arith, l)) in
+            absurd (omega (arith, h, le-div-iff-mul-le {k = many} {x = w} {y = room} (omega arith) .1 (omega (arith, few, wide, k .two))))
 
-  pub as-halves : (w : ℕ) → w ≡ width g → room / (to - from + 1) < w → (now : List ℤ) → room ≤ length now → Marked g prices hours from to w end now
-      → Halves g prices hours from to room w c end now schedule
-  as-halves w wide h now fits marked =
-      record {
-        asked = asked;
-        here = boxed-inside f c (t .here);
-        some = some;
-        long = t .long;
-        apart = apart w wide h;
-        wide = wide;
-        two = omega (arith, wide, t .two);
-        fits = fits;
-        marked = marked;
-      }
+    pub as-passed : room / many < w → PassAsked (frame g w hours) prices (t .from) (t .to) (t .end) cells
+    as-passed h = record { asked = asked; some = omega (arith, apart h); wide = wide; fits = omega (arith, wide, k .two, k .fits) }
 
-  pub unboxed : (was now : List ℕ) (tries : ℕ) → Solved g prices hours from to c end was now tries → Solved f prices hours from to c end was now tries
+    pub as-halves : room / many < w → (now : List ℤ) → room ≤ length now → Marked (frame g w hours) prices (t .from) (t .to) (t .end) now
+        → Halves (frame g w hours) prices room t now schedule
+    as-halves h now fits marked =
+        record { given = given; apart = apart h; wide = wide; two = omega (arith, wide, k .two); fits = fits; marked = marked }
+
+  pub unboxed : (was now : List ℕ) (tries : ℕ) → Solved g prices hours t was now tries → Solved f prices hours t was now tries
   unboxed was now tries s =
-      let same = boxed-plan f c (endsBy end) (quartersHere f prices hours from to) c in
+      let same = boxed-plan f (t .cell) (endsBy (t .end)) (quartersHere f prices hours (t .from) (t .to)) (t .cell) in
       record {
-        written = s .written ∙ ap (λ (p : Plan). take from was ++ (scheduleOf p ++ drop to was)) same;
+        written = s .written ∙ ap (λ (p : Plan). take (t .from) was ++ (scheduleOf p ++ drop (t .to) was)) same;
         tried = s .tried ∙ ap (λ (p : Plan). triesOver (f .block) (f .pmin) (scheduleOf p)) same;
         few = s .few;
       }

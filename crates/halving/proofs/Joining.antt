@@ -31,9 +31,11 @@ use Rattle.layers.proofs.Between.{between-length, between-all}
 use Rattle.marks.specs.Lines.{markOf}
 use Rattle.marks.specs.Standing.{Stands, MarkedBy, endsIn, spent}
 use Rattle.marks.proofs.Halving.{spends, earlier-half}
+use Rattle.marks.specs.declared.Frame.{Frame}
+use Rattle.halving.specs.declared.Task.{Task}
 use Rattle.halving.specs.declared.End.{End}
 use Rattle.halving.specs.declared.End.the-variants.{Anywhere, In}
-use Rattle.halving.specs.Tasks.{boxed, endsBy, Reachable, midway, planOf, Asked, Task, Solved, Marked, Halves, MarkKept}
+use Rattle.halving.specs.Tasks.{boxed, frame, endsBy, Reachable, midway, planOf, earlyHalf, lateHalf, Asked, TaskAsked, Solved, Marked, Halves, MarkKept}
 use Rattle.halving.proofs.Boxes.{boxed-width}
 use Rattle.halving.proofs.Parts.{both-written}
 
@@ -70,8 +72,28 @@ middle-apart from to h =
     let one = le-div-iff-mul-le {k = 2} {x = 1} {y = to - from} (omega arith) .1 (omega arith) in
     (omega (arith, one), middle-before from to (omega arith))
 
-module _ (f : Figures) (prices : List ℤ) (hours : Hours) (from to room w : ℕ) (c : Cell) (end : End) (cells : List ℤ) (schedule : ℕ)
-    (h : Halves f prices hours from to room w c end cells schedule) where
+module _ (g : Frame) (prices : List ℤ) (room : ℕ) (t : Task) (cells : List ℤ) (schedule : ℕ) (h : Halves g prices room t cells schedule) where
+  abbrev f : Figures
+  f = g .figures
+
+  abbrev w : ℕ
+  w = g .width
+
+  abbrev hours : Hours
+  hours = g .hours
+
+  abbrev from : ℕ
+  from = t .from
+
+  abbrev to : ℕ
+  to = t .to
+
+  abbrev c : Cell
+  c = t .cell
+
+  abbrev end : End
+  end = t .end
+
   abbrev quarters : List Quarter
   quarters = quartersIn hours prices
 
@@ -86,7 +108,7 @@ module _ (f : Figures) (prices : List ℤ) (hours : Hours) (from to room w : ℕ
 
   -- the cell at the middle
   pub mark : MarkedBy f (endsBy end) (between quarters from mid) (between quarters mid to) (λ x. pos (index f x)) c (markOf f w cells c)
-  mark = h .marked .marks c (h .here) (rw parts (h .some))
+  mark = h .marked .marks c (h .given .here) (rw parts (h .given .some))
 
   pub mark-kept : MarkKept f w cells c
   mark-kept = record { at = mark .at; inside = mark .stands .inside; is = mark .is }
@@ -97,7 +119,7 @@ module _ (f : Figures) (prices : List ℤ) (hours : Hours) (from to room w : ℕ
 
     pub spends-all : Within (at .left) (c .left)
     spends-all =
-        let e = spends f (h .asked .sound) (endsBy end) (between quarters from mid) (between quarters mid to) c at stands in
+        let e = spends f (h .given .asked .sound) (endsBy end) (between quarters from mid) (between quarters mid to) c at stands in
         let x = ap (λ (z : Cell). z .left .starts) e in
         let y = ap (λ (z : Cell). z .left .ons) e in
         let z = ap (λ (z : Cell). z .left .blocks) e in
@@ -107,7 +129,7 @@ module _ (f : Figures) (prices : List ℤ) (hours : Hours) (from to room w : ℕ
 
     asked-in : (a b : ℕ) (e : End) → a ≤ b → b ≤ to → Reachable f e → Asked f prices hours a b e
     asked-in a b e ordered inside reach =
-        let k = h .asked in
+        let k = h .given .asked in
         record {
           sound = k .sound;
           priced = k .priced;
@@ -123,30 +145,36 @@ module _ (f : Figures) (prices : List ℤ) (hours : Hours) (from to room w : ℕ
 
     spent-inside : InTable f (spent c at)
     spent-inside =
-        let i = h .here in
+        let i = h .given .here in
         record { state = i .state; left = within-within (less-within (c .left) (at .left)) (i .left) }
 
-    early-plan : planOf f prices hours from mid (spent c at) (In (at .state)) ≡ plan (stands .outputs) (stands .earned)
-    early-plan = earlier-half f (h .asked .sound) (endsBy end) (between quarters from mid) (between quarters mid to) c at stands
+    early-plan : planOf f prices hours (earlyHalf t mid at) ≡ plan (stands .outputs) (stands .earned)
+    early-plan = earlier-half f (h .given .asked .sound) (endsBy end) (between quarters from mid) (between quarters mid to) c at stands
 
-    pub early-task : (n m : ℕ) → room ≤ n → to ≤ m → Task f prices hours from mid room (spent c at) (In (at .state)) n m
+    pub early-task : (n m : ℕ) → room ≤ n → to ≤ m → TaskAsked f prices hours room (earlyHalf t mid at) n m
     early-task n m fits long =
         record {
-          asked = asked-in from mid (In (at .state)) (omega (arith, apart)) (omega (arith, apart)) (stands .inside .state);
-          here = spent-inside;
-          some = planned f (endsIn (at .state)) (between quarters from mid) (spent c at) (stands .outputs) (stands .earned) early-plan;
-          long = omega (arith, apart, long);
+          given =
+              record {
+                asked = asked-in from mid (In (at .state)) (omega (arith, apart)) (omega (arith, apart)) (stands .inside .state);
+                here = spent-inside;
+                some = planned f (endsIn (at .state)) (between quarters from mid) (spent c at) (stands .outputs) (stands .earned) early-plan;
+                long = omega (arith, apart, long);
+              };
           two = two-fit (spent c at) spent-inside;
           fits = fits;
         }
 
-    pub late-task : (n m : ℕ) → room ≤ n → to ≤ m → Task f prices hours mid to room at end n m
+    pub late-task : (n m : ℕ) → room ≤ n → to ≤ m → TaskAsked f prices hours room (lateHalf t mid at) n m
     late-task n m fits long =
         record {
-          asked = asked-in mid to end (omega (arith, apart)) (omega arith) (h .asked .ends);
-          here = stands .inside;
-          some = planned f (endsBy end) (between quarters mid to) at (stands .rest) (stands .profit) (stands .goes-on);
-          long = long;
+          given =
+              record {
+                asked = asked-in mid to end (omega (arith, apart)) (omega arith) (h .given .asked .ends);
+                here = stands .inside;
+                some = planned f (endsBy end) (between quarters mid to) at (stands .rest) (stands .profit) (stands .goes-on);
+                long = long;
+              };
           two = two-fit at (stands .inside);
           fits = fits;
         }
@@ -154,12 +182,12 @@ module _ (f : Figures) (prices : List ℤ) (hours : Hours) (from to room w : ℕ
     -- ---- and both together are the whole
 
     abbrev earlyPlan : List ℕ
-    earlyPlan = scheduleOf (planOf f prices hours from mid (spent c at) (In (at .state)))
+    earlyPlan = scheduleOf (planOf f prices hours (earlyHalf t mid at))
 
     abbrev latePlan : List ℕ
-    latePlan = scheduleOf (planOf f prices hours mid to at end)
+    latePlan = scheduleOf (planOf f prices hours (lateHalf t mid at))
 
-    joined : scheduleOf (planOf f prices hours from to c end) ≡ earlyPlan ++ latePlan
+    joined : scheduleOf (planOf f prices hours t) ≡ earlyPlan ++ latePlan
     joined =
         ap (λ (qs : List Quarter). scheduleOf (planAt f (endsBy end) qs c)) (sym parts) ∙ ap scheduleOf (stands .whole)
         ∙ ap₂ (λ (xs ys : List ℕ). xs ++ ys) (sym (ap scheduleOf early-plan)) (sym (ap scheduleOf (stands .goes-on)))
@@ -169,12 +197,12 @@ module _ (f : Figures) (prices : List ℤ) (hours : Hours) (from to room w : ℕ
         let k = quarters-length (opens hours) 0 prices in
         ap (λ (p : Plan). length (scheduleOf p)) early-plan
         ∙ walk-length Cell Quarter (inQuarter (cellStep f)) (between quarters from mid) c (stands .outputs) (stands .earned) at (stands .leads)
-        ∙ between-length quarters from mid (omega (arith, apart)) (omega (arith, apart, k, h .asked .inside))
+        ∙ between-length quarters from mid (omega (arith, apart)) (omega (arith, apart, k, h .given .asked .inside))
 
     pub both-solved : (was now last : List ℕ) (early late : ℕ) → to ≤ length was
-        → Solved f prices hours from mid (spent c at) (In (at .state)) was now early
-        → Solved f prices hours mid to at end now last late
-        → Solved f prices hours from to c end was last (early + late)
+        → Solved f prices hours (earlyHalf t mid at) was now early
+        → Solved f prices hours (lateHalf t mid at) now last late
+        → Solved f prices hours t was last (early + late)
     both-solved was now last early late long a b =
         record {
           written =
@@ -195,7 +223,7 @@ module _ (f : Figures) (prices : List ℤ) (hours : Hours) where
   pub whole : between (quartersIn hours prices) 0 (length prices) ≡ quartersIn hours prices
   whole = between-all (quartersIn hours prices) (length prices) (sym (quarters-length (opens hours) 0 prices))
 
-  pub first-layer : (w : ℕ) (cells : List ℤ) → Marked f prices hours 0 (length prices) w Anywhere cells
+  pub first-layer : (w : ℕ) (cells : List ℤ) → Marked (frame f w hours) prices 0 (length prices) Anywhere cells
       → Layer f anywhere (quartersIn hours prices) (inFront f cells)
   first-layer w cells m =
       let half = div-le-self (length prices - 0) 2 in

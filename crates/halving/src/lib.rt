@@ -7,6 +7,7 @@
 use commitment::windows::Hours;
 use geometry::INFEASIBLE;
 use intervals::rows;
+use marks::Frame;
 use marks::passes;
 use optimality::Budgets;
 use optimality::Cell;
@@ -26,17 +27,28 @@ ghost use Rattle.geometry.specs.Layers.{Layer, storedAt};
 ghost use Rattle.layers.specs.Filling.{quartersIn, Beyond};
 ghost use Rattle.intervals.specs.Stretches.{Apart};
 ghost use Rattle.marks.specs.Standing as standing;
-ghost use Rattle.halving.specs.Tasks.{endsBy, Reachable, Untouched, Task, Leaf, PassAsked, Halved, Halves, MarkKept, MarkedWith, Solved};
-ghost use Rattle.halving.specs.Tasks.{CaseAsked, FirstPass};
+ghost use Rattle.halving.specs.Tasks.{near, endsBy, Reachable, Untouched, TaskAsked, Leaf, PassAsked, Halved, Halves, MarkKept, MarkedWith, Solved};
+ghost use Rattle.halving.specs.Tasks.{CaseAsked, FirstPass, earlyHalf, lateHalf};
 ghost use Rattle.halving.specs.Tasks as tasks;
 
 // Values and marks of the cells that `marks` works out aside at a time.
 const BUFFER: usize = 1024;
 
+// The cells of a table that is filled aside, where it has no more: as many as the buffers of a pass together.
+const NEAR: usize = 2048;
+
 // Where a plan may end: in any cell, or in a state with nothing left.
 pub enum End {
     Anywhere,
     In(usize),
+}
+
+// The prices from one interval on to another, a cell to start from, and an end.
+pub struct Task {
+    pub from: usize,
+    pub to: usize,
+    pub cell: Cell,
+    pub end: End,
 }
 
 // The figures with a cell's own budgets: more is never left on the way from it.
@@ -99,26 +111,20 @@ fn put_end(cells: &mut [i64], at: usize, w: usize, f: Figures, end: End)
     }
 }
 
-// The first layer of a task's intervals, and for every cell the number of the cell where its plan stands at the middle.
-fn pass(
-    cells: &mut [i64],
-    w: usize,
-    f: Figures,
-    prices: &[i64],
-    hours: Hours,
-    from: usize,
-    to: usize,
-    end: End,
-)
-    requires { ⌜ PassAsked f (now prices) hours from to w end (length (now cells)) ⌝ }
-    ensures { λ _. ⌜ Halved f (now (prices .entry)) hours from to w end (now (cells .entry)) (now (cells .exit)) ⌝ }
+// The first layer of so many intervals, and for every cell the number of the cell where its plan stands at the middle.
+fn pass(cells: &mut [i64], g: Frame, prices: &[i64], from: usize, to: usize, end: End)
+    requires { ⌜ PassAsked g (now prices) from to end (length (now cells)) ⌝ }
+    ensures { λ _. ⌜ Halved g (now (prices .entry)) from to end (now (cells .entry)) (now (cells .exit)) ⌝ }
 {
     let mut begun = [0i64; BUFFER];
     let mut ran = [0i64; BUFFER];
+    let f = g.figures;
+    let w = g.width;
+    let hours = g.hours;
     let at = midway(from, to);
     put_end(&mut *cells, w, w, f, end);
     pair::roll(&mut *cells, w, f, prices, hours, at, to);
-    passes::mark(cells, w, f, prices, hours, from, at, &mut begun, &mut ran);
+    passes::mark(cells, g, prices, from, at, &mut begun, &mut ran);
 }
 
 // A signed number that is not below 0 as a natural one.
@@ -140,26 +146,58 @@ fn marked(cells: &[i64], w: usize, f: Figures, c: Cell) -> Cell
 }
 
 // A task whose table fits: filled and read off.
-fn leaf(
-    cells: &mut [i64],
-    w: usize,
-    f: Figures,
-    prices: &[i64],
-    hours: Hours,
-    from: usize,
-    to: usize,
-    c: Cell,
-    end: End,
-    schedule: &mut [u64],
-) -> usize
-    requires { ⌜ Leaf f (now prices) hours from to w c end (length (now cells)) (length (now schedule)) ⌝ }
-    ensures { λ r. ⌜ Solved f (now (prices .entry)) hours from to c end (now (schedule .entry)) (now (schedule .exit)) r ⌝ }
-    ensures { λ _. ⌜ Untouched ((to - from + 1) * w) (now (cells .entry)) (now (cells .exit)) ⌝ }
+fn leaf(cells: &mut [i64], g: Frame, prices: &[i64], t: Task, schedule: &mut [u64]) -> usize
+    requires { ⌜ Leaf g (now prices) t (length (now cells)) (length (now schedule)) ⌝ }
+    ensures { λ r. ⌜ Solved (g .figures) (now (prices .entry)) (g .hours) t (now (schedule .entry)) (now (schedule .exit)) r ⌝ }
+    ensures { λ _. ⌜ Untouched ((t .to - t .from + 1) * g .width) (now (cells .entry)) (now (cells .exit)) ⌝ }
 {
+    let f = g.figures;
+    let w = g.width;
+    let hours = g.hours;
+    let from = t.from;
+    let to = t.to;
+    let end = t.end;
     put_end(&mut *cells, (to - from) * w, w, f, end);
     let quarters = &prices[from..to];
     layers::fill(&mut *cells, w, f, quarters, hours, from);
-    table::read_off(&cells[..], w, f, quarters, c, &mut schedule[from..])
+    table::read_off(&cells[..], w, f, quarters, t.cell, &mut schedule[from..])
+}
+
+// The same in cells of its own, which only this frame has.
+fn near_leaf(g: Frame, prices: &[i64], t: Task, schedule: &mut [u64]) -> usize
+    requires { ⌜ Leaf g (now prices) t near (length (now schedule)) ⌝ }
+    ensures { λ r. ⌜ Solved (g .figures) (now (prices .entry)) (g .hours) t (now (schedule .entry)) (now (schedule .exit)) r ⌝ }
+{
+    let mut cells = [0i64; NEAR];
+    leaf(&mut cells, g, prices, t, schedule)
+}
+
+// The half before the middle, where the plan stands in `at`: from what it spends there, to end in its state with nothing left.
+fn early_half(t: Task, mid: usize, at: Cell) -> Task
+    requires { ⌜ Within (at .left) (t .cell .left) ⌝ }
+    ensures { λ r. ⌜ r ≡ earlyHalf t mid at ⌝ }
+{
+    let cell = spent(t.cell, at);
+    let end = End::In(at.state);
+    Task {
+        from: t.from,
+        to: mid,
+        cell,
+        end,
+    }
+}
+
+// The half behind it: from that cell to the task's own end.
+fn late_half(t: Task, mid: usize, at: Cell) -> Task
+    ensures { λ r. ⌜ r ≡ lateHalf t mid at ⌝ }
+{
+    let end = t.end;
+    Task {
+        from: mid,
+        to: t.to,
+        cell: at,
+        end,
+    }
 }
 
 // A task's plan, in its place of the schedule, and how many outputs were tried for it. `room` cells are at hand.
@@ -169,58 +207,53 @@ fn solve(
     f: Figures,
     prices: &[i64],
     hours: Hours,
-    from: usize,
-    to: usize,
-    c: Cell,
-    end: End,
+    t: Task,
     schedule: &mut [u64],
 ) -> usize
-    requires { ⌜ Task f (now prices) hours from to room c end (length (now cells)) (length (now schedule)) ⌝ }
-    ensures { λ r. ⌜ Solved f (now (prices .entry)) hours from to c end (now (schedule .entry)) (now (schedule .exit)) r ⌝ }
+    requires { ⌜ TaskAsked f (now prices) hours room t (length (now cells)) (length (now schedule)) ⌝ }
+    ensures { λ r. ⌜ Solved f (now (prices .entry)) hours t (now (schedule .entry)) (now (schedule .exit)) r ⌝ }
     ensures { λ _. ⌜ Untouched room (now (cells .entry)) (now (cells .exit)) ⌝ }
 {
-    let g = boxed(f, c);
-    let w = geometry::layer_cells(g);
-    if w <= room / (to - from + 1) {
-        return leaf(cells, w, g, prices, hours, from, to, c, end, schedule);
+    let figures = boxed(f, t.cell);
+    let width = geometry::layer_cells(figures);
+    let g = Frame {
+        figures,
+        width,
+        hours,
+    };
+    let layers = t.to - t.from + 1;
+    if width <= room / layers {
+        return leaf(cells, g, prices, t, schedule);
     }
-    pass(&mut *cells, w, g, prices, hours, from, to, end);
-    halves(cells, room, w, g, prices, hours, from, to, c, end, schedule)
+    if width <= NEAR / layers {
+        return near_leaf(g, prices, t, schedule);
+    }
+    let end = t.end;
+    pass(&mut *cells, g, prices, t.from, t.to, end);
+    halves(cells, room, g, prices, t, schedule)
 }
 
 // The same after the pass: the plan's cell at the middle is marked, and each half is a task.
 fn halves(
     cells: &mut [i64],
     room: usize,
-    w: usize,
-    f: Figures,
+    g: Frame,
     prices: &[i64],
-    hours: Hours,
-    from: usize,
-    to: usize,
-    c: Cell,
-    end: End,
+    t: Task,
     schedule: &mut [u64],
 ) -> usize
-    requires { ⌜ Halves f (now prices) hours from to room w c end (now cells) (length (now schedule)) ⌝ }
-    ensures { λ r. ⌜ Solved f (now (prices .entry)) hours from to c end (now (schedule .entry)) (now (schedule .exit)) r ⌝ }
+    requires { ⌜ Halves g (now prices) room t (now cells) (length (now schedule)) ⌝ }
+    ensures { λ r. ⌜ Solved (g .figures) (now (prices .entry)) (g .hours) t (now (schedule .entry)) (now (schedule .exit)) r ⌝ }
     ensures { λ _. ⌜ Untouched room (now (cells .entry)) (now (cells .exit)) ⌝ }
 {
-    let at = marked(&cells[..], w, f, c);
-    let mid = midway(from, to);
-    let early = solve(
-        &mut *cells,
-        room,
-        f,
-        prices,
-        hours,
-        from,
-        mid,
-        spent(c, at),
-        End::In(at.state),
-        &mut *schedule,
-    );
-    let late = solve(cells, room, f, prices, hours, mid, to, at, end, schedule);
+    let f = g.figures;
+    let hours = g.hours;
+    let at = marked(&cells[..], g.width, f, t.cell);
+    let mid = midway(t.from, t.to);
+    let first = early_half(t, mid, at);
+    let second = late_half(t, mid, at);
+    let early = solve(&mut *cells, room, f, prices, hours, first, &mut *schedule);
+    let late = solve(cells, room, f, prices, hours, second, schedule);
     early + late
 }
 
@@ -230,7 +263,12 @@ pub fn first_pass(cells: &mut [i64], w: usize, f: Figures, prices: &[i64], hours
     ensures { λ _. ⌜ FirstPass f (now (prices .entry)) hours w (now (cells .exit)) ⌝ }
     ensures { λ _. ⌜ Beyond (w + w) (now (cells .entry)) (now (cells .exit)) ⌝ }
 {
-    pass(cells, w, f, prices, hours, 0, prices.len(), End::Anywhere);
+    let g = Frame {
+        figures: f,
+        width: w,
+        hours,
+    };
+    pass(cells, g, prices, 0, prices.len(), End::Anywhere);
 }
 
 // The best plan from a cell that has one, in the front of the schedule, and how many outputs were tried for it.
@@ -251,18 +289,17 @@ pub fn plan_from(
         ≡ scheduleOf (planAt f anywhere (quartersIn hours (now (prices .entry))) from) ++ drop (length (now (prices .entry))) (now (schedule .entry)) ⌝ }
     ensures { λ _. ⌜ Beyond (w + w) (now (cells .entry)) (now (cells .exit)) ⌝ }
 {
-    let n = prices.len();
-    halves(
-        cells,
-        w + w,
-        w,
-        f,
-        prices,
+    let g = Frame {
+        figures: f,
+        width: w,
         hours,
-        0,
-        n,
-        from,
-        End::Anywhere,
-        schedule,
-    )
+    };
+    let end = End::Anywhere;
+    let task = Task {
+        from: 0,
+        to: prices.len(),
+        cell: from,
+        end,
+    };
+    halves(cells, w + w, g, prices, task, schedule)
 }

@@ -14,14 +14,15 @@ use Rattle.optimality.specs.declared.Figures.{Figures}
 use Rattle.optimality.specs.Machine.{Quarter}
 use Rattle.optimality.specs.Cells.{Sound, InTable, states, startTakes, offCell, onCell, rungs}
 use Rattle.optimality.proofs.Turns.{off-in-table, on-in-table}
-use Rattle.geometry.specs.Geometry.{row, span, section}
-use Rattle.geometry.proofs.Places.{in-row, in-span, span-fits, row-fits}
+use Rattle.geometry.specs.Geometry.{row, span}
 use Rattle.intervals.proofs.Turning.{pmax-most}
 use Rattle.carrying.specs.Images.{piece}
-use Rattle.marks.specs.Lines.{valueOf, markOf, columnOf, OfPiece, WholeChunks}
+use Rattle.marks.specs.declared.Step.{Step}
+use Rattle.marks.specs.declared.Line.{Line}
+use Rattle.marks.specs.declared.Piece.{Piece}
+use Rattle.marks.specs.Lines.{valueOf, markOf, columnOf, quarterOf, WholeChunks}
 use Rattle.marks.specs.Turning.{Turn, Partly, PieceAsked}
-use Rattle.marks.specs.Passing.{Columns, Before, Line, LastPiece}
-use Rattle.marks.proofs.Leading.{same-place}
+use Rattle.marks.specs.Passing.{Columns, Before, LineOf, LastPiece, pieceOf}
 use Rattle.marks.proofs.Turned.{turn-same, runs-on}
 
 on-column : (f : Figures) (c : Cell) (k : ℕ) → columnOf f (onCell f c k) ≤ columnOf f c
@@ -62,90 +63,48 @@ module _ (f : Figures) (q : Quarter) (w : ℕ) where
           let k = new .apart c i (inr l) in
           rw (k .0, k .1) (old .done c i l b)
 
-  module _ (was : List ℤ) (x y place sections column count : ℕ) (a : PieceAsked f w was (q .price) x y place sections column count) where
-    -- the cell of a column in it
-    of-piece : (c : Cell) → InTable f c → column ≤ columnOf f c → columnOf f c < column + count
-        → OfPiece f (c .state) x y place (columnOf f c - column) c
-    of-piece c i lo hi =
-        record {
-          inside = i;
-          state = refl;
-          starts = on .0;
-          at = omega (arith, on .1);
-          line = λ one.
-              let k = a .lined one in
-              same-place (row f) (c .left .ons) y (c .left .blocks) (place + (columnOf f c - column)) (in-row f (c .left .blocks) (i .left .blocks))
-              (omega (arith, k .1)) (omega (arith, on .1)) .0;
-        }
-      where
-        in-line : y * row f + (place + (columnOf f c - column)) < span f
-        in-line = by (ltb 0 (f .takes .blocks)) refl
-          where
-            by : (t : Bool) → ltb 0 (f .takes .blocks) ≡ t → y * row f + (place + (columnOf f c - column)) < span f
-            by true e =
-                let l = ltb-true 0 (f .takes .blocks) e in
-                let k = a .lined (omega (arith, a .interval .sound .takes .blocks)) in
-                omega (arith, k .1, row-fits f y (k .0))
-            by false e =
-                let l = ltb-false 0 (f .takes .blocks) e in
-                let k = a .flat (omega arith) in
-                let z : y * row f ≡ 0 = rw (k .0) (zero-mul (row f)) in
-                omega (arith, k .1, z)
-
-        on : (c .left .starts ≡ x) × (c .left .ons * row f + c .left .blocks ≡ y * row f + (place + (columnOf f c - column)))
-        on =
-            same-place (span f) (c .left .starts) x (c .left .ons * row f + c .left .blocks) (y * row f + (place + (columnOf f c - column)))
-            (in-span f (c .left .ons) (c .left .blocks) (i .left .ons) (i .left .blocks)) in-line (omega (arith, a .columns .column-is))
-
-    pub piece-columns : (now : List ℤ) → Partly f q w was now x y place column count (states f) → Columns f q w was now column (column + count)
-    piece-columns now p =
-        record {
-          same = p .same;
-          done = λ c i lo hi. p .done (columnOf f c - column) (omega arith) c (of-piece c i lo hi) (i .state);
-          apart = p .apart;
-          beyond = p .beyond;
-        }
+-- a piece whose states are all turned
+pub piece-columns : (t : Step) (was now : List ℤ) (p : Piece) → Partly t was now p (states (t .figures))
+    → Columns (t .figures) (quarterOf t) (t .width) was now (p .column) (p .column + p .count)
+piece-columns t was now p made =
+    record {
+      same = made .same;
+      done = λ c i lo hi.
+          made .done (columnOf (t .figures) c - p .column) (omega arith) c (record { inside = i; state = refl; at = omega arith }) (i .state);
+      apart = made .apart;
+      beyond = made .beyond;
+    }
 
 -- ---- a line's pieces
 
-module _ (f : Figures) (q : Quarter) (w : ℕ) (was : List ℤ) (x y start long sections : ℕ) (b : Before f w was (q .price) (start + long))
-    (l : Line f x y start long) (e : sections ≡ section f) where
-  pub line-ends : start + long ≤ section f
-  line-ends = by (ltb 0 (f .takes .blocks)) refl
-    where
-      fit : x * span f + span f ≤ section f
-      fit = span-fits f x (l .starts)
-
-      by : (t : Bool) → ltb 0 (f .takes .blocks) ≡ t → start + long ≤ section f
-      by true g =
-          let h = ltb-true 0 (f .takes .blocks) g in
-          let k = l .lined (omega (arith, b .interval .sound .takes .blocks)) in
-          omega (arith, l .begins, k .1, row-fits f y (k .0), fit)
-      by false g =
-          let h = ltb-false 0 (f .takes .blocks) g in
-          let k = l .flat (omega arith) in
-          let z : y * row f ≡ 0 = rw (k .0) (zero-mul (row f)) in
-          omega (arith, l .begins, k .1, z, fit)
-
-  pub piece-asked : (cur : List ℤ) (at end : ℕ) → at < end → end ≤ long → end - at ≤ piece → Columns f q w was cur (start + end) (start + long)
-      → (f .takes .blocks ≡ 1 → (end ≤ f .pmin) ⊎ WholeChunks f at (end - at)) → PieceAsked f w cur (q .price) x y at sections (start + at) (end - at)
-  piece-asked cur at end some inside few done chunks =
-      let up : at + (end - at) ≡ end = omega arith in
-      record {
-        interval = b .interval;
-        wide = b .wide;
-        marks = omega (arith, b .marks, done .same);
-        small = λ c i h.
-            let k = done .apart c i (inl (omega (arith, h, up))) in
-            rw (k .0) (b .small c i (omega (arith, h, up)));
-        starts = l .starts;
-        some = omega arith;
-        few = few;
-        flat = λ none. let k = l .flat none in (k .0, omega (arith, up, k .1));
-        lined = λ one. let k = l .lined one in (k .0, omega (arith, up, k .1), rw up (chunks one));
-        columns =
-            record { sections-are = e; column-is = omega (arith, l .begins); fits = omega (arith, line-ends, up) };
-      }
+pub piece-asked : (t : Step) (was cur : List ℤ) (l : Line) (at end : ℕ) → Before t was (l .start + l .long) → LineOf (t .figures) l
+    → at < end → end ≤ l .long → end - at ≤ piece
+    → Columns (t .figures) (quarterOf t) (t .width) was cur (l .start + end) (l .start + l .long)
+    → (t .figures .takes .blocks ≡ 1 → (end ≤ t .figures .pmin) ⊎ WholeChunks (t .figures) at (end - at)) → PieceAsked t cur (pieceOf l at end)
+piece-asked t was cur l at end b k some inside few done chunks =
+    let up : at + (end - at) ≡ end = omega arith in
+    record {
+      over = b .over;
+      marks = omega (arith, b .marks, done .same);
+      piece-of =
+          record {
+            starts = k .starts;
+            column-is = omega (arith, k .begins);
+            fits = omega (arith, k .ends, up);
+            some = omega arith;
+            few = few;
+            flat = λ none.
+                let e = k .flat none in (
+                  e .0,
+                  ⊎-elim (λ (h : l .long ≤ span (t .figures)). inl (omega (arith, up, h))) (λ (h : (l .starts ≡ 0) × (t .figures .takes .ons ≡ 0)). inr h)
+                      (e .1),
+                );
+            lined = λ one. let e = k .lined one in (e .0, omega (arith, up, e .1), rw up (chunks one));
+          };
+      small = λ c i h.
+          let e = done .apart c i (inl (omega (arith, h, up))) in
+          rw (e .0) (b .small c i (omega (arith, h, up)));
+    }
 
 -- so many whole pieces, and less than one
 pub whole : (n most : ℕ) → 1 ≤ most → (n / most * most ≤ n) × (n < n / most * most + most)
@@ -183,12 +142,11 @@ one-less start n y h =
     let m : (y - 1 + 1) * n ≡ y * n = ap (λ (k : ℕ). k * n) e in
     omega (arith, m, add-mul (y - 1) 1 n, one-mul n)
 
-pub before-next : (f : Figures) (q : Quarter) (w : ℕ) (was cur : List ℤ) (at to : ℕ) → at ≤ to → Before f w was (q .price) to → Columns f q w was cur at to
-    → Before f w cur (q .price) at
-before-next f q w was cur at to h b done =
+pub before-next : (t : Step) (was cur : List ℤ) (at to : ℕ) → at ≤ to → Before t was to
+    → Columns (t .figures) (quarterOf t) (t .width) was cur at to → Before t cur at
+before-next t was cur at to h b done =
     record {
-      interval = b .interval;
-      wide = b .wide;
+      over = b .over;
       marks = omega (arith, b .marks, done .same);
       small = λ c i l. let k = done .apart c i (inl l) in rw (k .0) (b .small c i (omega arith));
     }

@@ -1,6 +1,6 @@
 -- From the places of a line to the cells of a layer: what is picked for a place is picked for the cell that stands there.
 use mathlib.Core.Path.{_≡_, refl, sym, ap, ap₂, _∙_}
-use mathlib.Core.Bool.{Bool, true, false}
+use mathlib.Core.Bool.{Bool, true, false, cond}
 use mathlib.Core.List.{List}
 use mathlib.Core.Logic.{_⊎_, ⊎-elim, inl, inr}
 use Prim.Native.Nat.{ℕ, zero, suc, _+_, _-_, _*_, _≤_, _<_}
@@ -18,10 +18,10 @@ use Rattle.integers.proofs.Maximum.{Max, max-is}
 use Rattle.integers.proofs.Order.{ltZ-dec}
 use Rattle.optimality.specs.declared.Cell.{Cell}
 use Rattle.optimality.specs.declared.Figures.{Figures}
-use Rattle.optimality.specs.Cells.{Sound, states, afterOn, startTakes, startPays, mayRun, onCell}
+use Rattle.optimality.specs.Cells.{Sound, InTable, states, afterOn, startTakes, startPays, mayRun, onCell}
 use Rattle.geometry.specs.Geometry.{row, span, section, width, index}
 use Rattle.geometry.specs.Layers.{infeasible}
-use Rattle.geometry.proofs.Places.{in-row, in-section, row-fits, span-fits, section-fits, numbered}
+use Rattle.geometry.proofs.Places.{in-row, in-span, in-section, row-fits, span-fits, section-fits, numbered}
 use Rattle.intervals.specs.declared.rows.Ladder.{Ladder}
 use Rattle.intervals.specs.Ladders.{brings, betterEnd, Steady}
 use Rattle.intervals.specs.Turns.{net, onStored}
@@ -29,9 +29,13 @@ use Rattle.intervals.proofs.Ladders.{brings-least, brings-next, ladder-brings, 
 use Rattle.intervals.proofs.Turning.{pays-most}
 use Rattle.intervals.specs.Stretches.{Small}
 use Rattle.carrying.specs.Picking.{Picked}
-use Rattle.carrying.specs.Images.{worth, markBy, PickedAt, Piece}
-use Rattle.marks.specs.Lines.{FlatAt, valueOf, markOf, columnOf, OnPicked, OfPiece, lineOf, laddered, FlatLine, OnAsked, WholeChunks}
+use Rattle.carrying.specs.Images as images
 use Rattle.carrying.proofs.Picking.{picked-same}
+use Rattle.marks.specs.declared.Step.{Step}
+use Rattle.marks.specs.declared.Piece.{Piece}
+use Rattle.marks.specs.declared.lines.Back.{Back}
+use Rattle.marks.specs.Lines.{FlatAt, FlatLine, valueOf, markOf, columnOf, OnPicked, OnOf, Here, PieceOf, WholeChunks, OnAsked}
+use Rattle.marks.specs.Lines.{lineOf, skippedOf, laddered}
 
 -- ---- outputs that lead to the same cell: the lowest or the highest is the first of the best
 
@@ -120,154 +124,6 @@ module _ (l : Ladder) (some : l .low ≤ l .high) (stored mark : ℤ) where
                   let same : k ≡ l .high = omega arith in
                   rw (is, same) (omega zarith)
 
--- ---- the cells of a piece
-
-module _ (f : Figures) (ok : Sound f) (w : ℕ) (cells : List ℤ) (price : ℤ) (s x : ℕ) where
-  -- what may run has what it takes
-  running : (c : Cell) → c .state ≡ s → c .left .starts ≡ x → mayRun f c ≡ true → (startTakes f s ≤ x) × (f .takes .ons ≤ c .left .ons)
-  running c es ex e =
-      let run = both _ (leb (f .takes .ons) (c .left .ons)) e in
-      let start = both (ltb (afterOn f (c .state)) (states f)) (leb (startTakes f (c .state)) (c .left .starts)) (run .0) in
-      let t = leb-true (startTakes f (c .state)) (c .left .starts) (start .1) in
-      (rw (es, ex) at t, leb-true (f .takes .ons) (c .left .ons) (run .1))
-
-  runs : (c : Cell) → c .state ≡ s → c .left .starts ≡ x → afterOn f s < states f → startTakes f s ≤ x → f .takes .ons ≤ c .left .ons → mayRun f c ≡ true
-  runs c es ex leads takes ons =
-      rw (es, ex, lt-ltb (afterOn f s) (states f) leads, le-leb (startTakes f s) x takes, le-leb (f .takes .ons) (c .left .ons) ons)
-
-  -- no start is left
-  pub no-start : x < startTakes f s → (y place i : ℕ) (c : Cell) → OfPiece f s x y place i c → {v : ℤ} (m : ℤ) → v ≡ infeasible
-      → OnPicked f (valueOf f w cells) (markOf f w cells) price c v m
-  no-start short y place i c p m e =
-      inl (λ k r. let t = running c (p .state) (p .starts) (r .2) in omega (arith, t .0, short), e)
-
-  -- where the cell stands that k blocks lead to
-  leads-to : (c : Cell) → c .state ≡ s → c .left .starts ≡ x → (k : ℕ)
-      → index f (onCell f c k) ≡ lineOf f s x + ((c .left .ons - f .takes .ons) * row f + (c .left .blocks - k * f .takes .blocks))
-  unfolding index
-  leads-to c es ex k = rw (es, ex) (omega arith)
-
-  module _ (leads : afterOn f s < states f) (takes : startTakes f s ≤ x) where
-    -- what an output brings, and where it leads
-    on-is : (c : Cell) → c .state ≡ s → c .left .starts ≡ x → (k at : ℕ) → f .pmin ≤ k
-        → (c .left .ons - f .takes .ons) * row f + (c .left .blocks - k * f .takes .blocks) ≡ at
-        → (onStored f (valueOf f w cells) c price k ≡ getD cells (lineOf f s x + at) (pos 0) +ℤ brings (laddered f price s) k)
-        × (markOf f w cells (onCell f c k) ≡ getD cells (w + (lineOf f s x + at)) (pos 0))
-    on-is c es ex k at lo e =
-        let place = leads-to c es ex k ∙ ap (λ (j : ℕ). lineOf f s x + j) e in (
-          ap₂ (λ (j : ℕ) (b : ℤ). getD cells j (pos 0) +ℤ b) place
-              (ap (λ (t : ℕ). net f price (startPays f t) k) es ∙ sym (ladder-brings f price (startPays f s) k lo)),
-          ap (λ (j : ℕ). getD cells (w + j) (pos 0)) place,
-        )
-
-    less-on : (c : Cell) → f .takes .ons ≤ c .left .ons → (c .left .ons - f .takes .ons) * row f + f .takes .ons * row f ≡ c .left .ons * row f
-    less-on c h =
-        let e : c .left .ons - f .takes .ons + f .takes .ons ≡ c .left .ons = omega arith in
-        sym (add-mul (c .left .ons - f .takes .ons) (f .takes .ons) (row f)) ∙ ap (λ (n : ℕ). n * row f) e
-
-    -- MWh not limited
-    pub flat-on : f .takes .blocks ≡ 0 → (place i : ℕ) (c : Cell) → OfPiece f s x 0 place i c → {v m : ℤ}
-        → FlatAt cells w (lineOf f s x) (f .takes .ons * row f) place (betterEnd (laddered f price s)) i v m
-        → OnPicked f (valueOf f w cells) (markOf f w cells) price c v m
-    flat-on none place i c p {v} {m} a = by (ltb (place + i) (f .takes .ons * row f)) refl
-      where
-        at : c .left .ons * row f + c .left .blocks ≡ place + i
-        at = let z = zero-mul (row f) in omega (arith, p .at, z)
-
-        by : (t : Bool) → ltb (place + i) (f .takes .ons * row f) ≡ t → OnPicked f (valueOf f w cells) (markOf f w cells) price c v m
-        by true e =
-            let short = ltb-true (place + i) (f .takes .ons * row f) e in
-            inl (
-              λ k r.
-                  let t = running c (p .state) (p .starts) (r .2) in
-                  let m : f .takes .ons * row f ≤ c .left .ons * row f = mul-le-mul-right (row f) (t .1) in
-                  omega (arith, m, at, short),
-              a .none short,
-            )
-        by false e =
-            let enough = ltb-false (place + i) (f .takes .ons * row f) e in
-            let few = in-row f (c .left .blocks) (p .inside .left .blocks) in
-            let ons : f .takes .ons ≤ c .left .ons = enough-on enough few (ltb (c .left .ons) (f .takes .ons)) refl in
-            let spent : (k : ℕ) → c .left .blocks - k * f .takes .blocks ≡ c .left .blocks = λ k. let z : k * f .takes .blocks ≡ 0 = rw none (mul-zero k) in omega (arith, z) in
-            let source : (k : ℕ) → (c .left .ons - f .takes .ons) * row f + (c .left .blocks - k * f .takes .blocks) ≡ place + i - f .takes .ons * row f =
-            λ k. omega (arith, spent k, less-on c ons, at) in
-            inr
-            (rw (a .value enough, a .mark enough)
-            (picked-same (λ k. getD cells (lineOf f s x + (place + i - f .takes .ons * row f)) (pos 0) +ℤ brings (laddered f price s) k)
-            (λ k. getD cells (w + (lineOf f s x + (place + i - f .takes .ons * row f))) (pos 0))
-            (onStored f (valueOf f w cells) c price) (λ k. markOf f w cells (onCell f c k))
-            (λ k h. (h .0, h .1, runs c (p .state) (p .starts) leads takes ons, let z : k * f .takes .blocks ≡ 0 = rw none (mul-zero k) in omega (arith, z)))
-            (λ k h. (h .0, h .1))
-            (λ k h. on-is c (p .state) (p .starts) k (place + i - f .takes .ons * row f) (h .0) (source k))
-            (ends-picked (laddered f price s) (ok .pmax) (getD cells (lineOf f s x + (place + i - f .takes .ons * row f)) (pos 0))
-            (getD cells (w + (lineOf f s x + (place + i - f .takes .ons * row f))) (pos 0)))))
-          where
-            enough-on : f .takes .ons * row f ≤ place + i → c .left .blocks < row f → (t : Bool) → ltb (c .left .ons) (f .takes .ons) ≡ t → f .takes .ons ≤ c .left .ons
-            enough-on enough few true e =
-                let l = ltb-true (c .left .ons) (f .takes .ons) e in
-                let m : (c .left .ons + 1) * row f ≤ f .takes .ons * row f = mul-le-mul-right (row f) (omega arith) in
-                absurd (omega (arith, m, enough, few, at, add-mul (c .left .ons) 1 (row f), one-mul (row f)))
-            enough-on enough few false e = ltb-false (c .left .ons) (f .takes .ons) e
-
-    -- limited
-    blocks-are : f .takes .blocks ≡ 1 → (y place i : ℕ) (c : Cell) → OfPiece f s x y place i c → c .left .blocks ≡ place + i
-    blocks-are one y place i c p =
-        let e = p .line one in
-        let m : c .left .ons * row f ≡ y * row f = ap (λ (n : ℕ). n * row f) e in
-        omega (arith, m, p .at)
-
-    pub lined-none : f .takes .blocks ≡ 1 → (y place i : ℕ) → (y < f .takes .ons) ⊎ (place + i < f .pmin) → (c : Cell) → OfPiece f s x y place i c → {v : ℤ} (m : ℤ)
-        → v ≡ infeasible → OnPicked f (valueOf f w cells) (markOf f w cells) price c v m
-    lined-none one y place i short c p m e =
-        let b = blocks-are one y place i c p in
-        inl (
-          λ k r.
-              let t = running c (p .state) (p .starts) (r .2) in
-              let n : k * f .takes .blocks ≡ k = rw one (mul-one k) in
-              ⊎-elim (λ (h : y < f .takes .ons). omega (arith, h, t .1, p .line one)) (λ (h : place + i < f .pmin). omega (arith, h, n, b, r .0, r .3)) short,
-          e,
-        )
-
-    pub lined-on : f .takes .blocks ≡ 1 → (y place i : ℕ) → f .takes .ons ≤ y → (c : Cell) → OfPiece f s x y place i c → {v m : ℤ}
-        → PickedAt (laddered f price s) cells w (lineOf f s x + (y - f .takes .ons) * row f) (place + i) v m
-        → OnPicked f (valueOf f w cells) (markOf f w cells) price c v m
-    lined-on one y place i ons c p {v} {m} a =
-        let b = blocks-are one y place i c p in
-        let line = p .line one in
-        let have : f .takes .ons ≤ c .left .ons = omega (arith, ons, line) in
-        let at : (k : ℕ) → k ≤ place + i → (c .left .ons - f .takes .ons) * row f + (c .left .blocks - k * f .takes .blocks) ≡ (y - f .takes .ons) * row f + (place + i - k) =
-        λ k h.
-        let n : k * f .takes .blocks ≡ k = rw one (mul-one k) in
-        let e : (c .left .ons - f .takes .ons) * row f ≡ (y - f .takes .ons) * row f = ap (λ (j : ℕ). (j - f .takes .ons) * row f) line in
-        omega (arith, n, e, b) in
-        let grouped : (k : ℕ) → lineOf f s x + ((y - f .takes .ons) * row f + (place + i - k)) ≡ lineOf f s x + (y - f .takes .ons) * row f + (place + i - k) =
-        λ k. omega arith in
-        inr
-        (picked-same (worth (laddered f price s) cells w (lineOf f s x + (y - f .takes .ons) * row f) (place + i))
-        (markBy (laddered f price s) cells w (lineOf f s x + (y - f .takes .ons) * row f) (place + i))
-        (onStored f (valueOf f w cells) c price) (λ k. markOf f w cells (onCell f c k))
-        (λ k h. (h .0, h .1, runs c (p .state) (p .starts) leads takes have, let n : k * f .takes .blocks ≡ k = rw one (mul-one k) in omega (arith, n, b, h .2)))
-        (λ k h. (h .0, h .1, let n : k * f .takes .blocks ≡ k = rw one (mul-one k) in omega (arith, n, b, h .3)))
-        (λ k h.
-        let r = on-is c (p .state) (p .starts) k ((y - f .takes .ons) * row f + (place + i - k)) (h .0) (at k (h .2)) in
-        rw (grouped k) at r)
-        a)
-
--- ---- the line stands in the layer
-
-pub line-fits : (f : Figures) (s x : ℕ) → afterOn f s < states f → x ≤ f .most .starts → lineOf f s x + span f ≤ width f
-line-fits f s x leads starts =
-    let a = section-fits f (afterOn f s) leads in
-    let b = span-fits f (x - startTakes f s) (omega arith) in
-    omega (arith, a, b)
-
-pub row-in-line : (f : Figures) (s x y : ℕ) → afterOn f s < states f → x ≤ f .most .starts → y ≤ f .most .ons
-    → lineOf f s x + (y - f .takes .ons) * row f + row f ≤ width f
-row-in-line f s x y leads starts ons =
-    let a = line-fits f s x leads starts in
-    let b = row-fits f (y - f .takes .ons) (omega arith) in
-    omega (arith, a, b)
-
 -- ---- a place is one line and one column
 
 pub same-place : (n a b r t : ℕ) → r < n → t < n → a * n + r ≡ b * n + t → (a ≡ b) × (r ≡ t)
@@ -289,66 +145,299 @@ same-place n a b r t hr ht e = by (ltb a b) refl (ltb b a) refl
         let m : a * n ≡ b * n = ap (λ (k : ℕ). k * n) same in
         (same, omega (arith, m))
 
+-- so many whole lines are no more
+whole-lines : (n a b r : ℕ) → r < n → b * n ≤ a * n + r → b ≤ a
+whole-lines n a b r few h = by (ltb a b) refl
+  where
+    by : (p : Bool) → ltb a b ≡ p → b ≤ a
+    by true e =
+        let l = ltb-true a b e in
+        let m : (a + 1) * n ≤ b * n = mul-le-mul-right n (omega arith) in
+        absurd (omega (arith, m, add-mul a 1 n, one-mul n))
+    by false e = ltb-false a b e
+
+-- less by some, and by those again
+less-lines : (a b n : ℕ) → b ≤ a → (a - b) * n + b * n ≡ a * n
+less-lines a b n h =
+    let e : a - b + b ≡ a = omega arith in
+    sym (add-mul (a - b) b n) ∙ ap (λ (k : ℕ). k * n) e
+
+-- the places of a piece
+module _ (f : Figures) (p : Piece) (k : PieceOf f p) (s i : ℕ) (few : i < p .count) (c : Cell) (h : Here f s (p .column + i) c) where
+  pub on-flat-line : f .takes .blocks ≡ 0
+      → (columnOf f c ≡ p .starts * span f + (p .place + i)) × ((c .left .starts ≡ p .starts) ⊎ ((p .starts ≡ 0) × (f .takes .ons ≡ 0)))
+  on-flat-line none =
+      let e = k .flat none in
+      let z : p .ons * row f ≡ 0 = rw (e .0) (zero-mul (row f)) in
+      let at : columnOf f c ≡ p .starts * span f + (p .place + i) = omega (arith, h .at, k .column-is, z) in (
+        at,
+        ⊎-elim
+            (λ (l : p .place + p .count ≤ span f).
+            inl
+            (same-place (span f) (c .left .starts) (p .starts) (c .left .ons * row f + c .left .blocks) (p .place + i)
+            (in-span f (c .left .ons) (c .left .blocks) (h .inside .left .ons) (h .inside .left .blocks)) (omega arith) at
+            .0))
+            (λ (l : (p .starts ≡ 0) × (f .takes .ons ≡ 0)). inr l) (e .1),
+      )
+
+  pub on-row : f .takes .blocks ≡ 1 → (c .left .starts ≡ p .starts) × (c .left .ons ≡ p .ons) × (c .left .blocks ≡ p .place + i)
+  on-row one =
+      let e = k .lined one in
+      let u =
+      same-place (span f) (c .left .starts) (p .starts) (c .left .ons * row f + c .left .blocks) (p .ons * row f + (p .place + i))
+      (in-span f (c .left .ons) (c .left .blocks) (h .inside .left .ons) (h .inside .left .blocks)) (omega (arith, e .1, row-fits f (p .ons) (e .0)))
+      (omega (arith, h .at, k .column-is)) in
+      let v =
+      same-place (row f) (c .left .ons) (p .ons) (c .left .blocks) (p .place + i) (in-row f (c .left .blocks) (h .inside .left .blocks))
+      (omega (arith, e .1)) (u .1) in
+      (u .0, v .0, v .1)
+
+-- ---- an interval on from a cell
+
+-- a start takes one at most
+pub takes-one : (f : Figures) → Sound f → (s : ℕ) → startTakes f s ≤ 1
+takes-one f ok s = by (ltb s (f .mot))
+  where
+    by : (b : Bool) → cond b 0 (f .takes .starts) ≤ 1
+    by true = omega arith
+    by false = ok .takes .starts
+
+-- where all outputs lead from the places of a line
+abbrev pub backOf : Step → ℕ → ℕ → Back
+backOf t s x = record { line = lineOf (t .figures) s x; skipped = skippedOf (t .figures) s x; gain = betterEnd (laddered t s) }
+
+module _ (t : Step) (cells : List ℤ) (s : ℕ) (c : Cell) (es : c .state ≡ s) where
+  abbrev f : Figures
+  f = t .figures
+
+  -- what may run has what it takes
+  running : mayRun f c ≡ true → (startTakes f s ≤ c .left .starts) × (f .takes .ons ≤ c .left .ons)
+  running e =
+      let run = both _ (leb (f .takes .ons) (c .left .ons)) e in
+      let start = both (ltb (afterOn f (c .state)) (states f)) (leb (startTakes f (c .state)) (c .left .starts)) (run .0) in
+      let takes = leb-true (startTakes f (c .state)) (c .left .starts) (start .1) in
+      (rw es at takes, leb-true (f .takes .ons) (c .left .ons) (run .1))
+
+  runs : afterOn f s < states f → startTakes f s ≤ c .left .starts → f .takes .ons ≤ c .left .ons → mayRun f c ≡ true
+  runs leads starts ons =
+      rw (es, lt-ltb (afterOn f s) (states f) leads, le-leb (startTakes f s) (c .left .starts) starts, le-leb (f .takes .ons) (c .left .ons) ons)
+
+  -- where the cell stands that k blocks lead to
+  leads-to : (k : ℕ)
+      → index f (onCell f c k) ≡ afterOn f s * section f
+      + ((c .left .starts - startTakes f s) * span f + ((c .left .ons - f .takes .ons) * row f + (c .left .blocks - k * f .takes .blocks)))
+  unfolding index
+  leads-to k = rw es
+
+  -- what an output brings, and where it leads
+  on-is : (k at : ℕ) → f .pmin ≤ k
+      → afterOn f s * section f
+      + ((c .left .starts - startTakes f s) * span f + ((c .left .ons - f .takes .ons) * row f + (c .left .blocks - k * f .takes .blocks)))
+      ≡ at
+      → (onStored f (valueOf f (t .width) cells) c (t .price) k ≡ getD cells at (pos 0) +ℤ brings (laddered t s) k)
+      × (markOf f (t .width) cells (onCell f c k) ≡ getD cells (t .width + at) (pos 0))
+  on-is k at lo e =
+      let place = leads-to k ∙ e in (
+        ap₂ (λ (j : ℕ) (b : ℤ). getD cells j (pos 0) +ℤ b) place
+            (ap (λ (n : ℕ). net f (t .price) (startPays f n) k) es ∙ sym (ladder-brings f (t .price) (startPays f s) k lo)),
+        ap (λ (j : ℕ). getD cells (t .width + j) (pos 0)) place,
+      )
+
+  -- MWh not limited: by its column, a place back or none
+  module _ (x z : ℕ) (inside : InTable f c) (at : columnOf f c ≡ x * span f + z)
+      (line : (c .left .starts ≡ x) ⊎ ((x ≡ 0) × (f .takes .ons ≡ 0))) where
+    lacking : (x ≡ 0) × (f .takes .ons ≡ 0)
+        → (x * span f ≡ 0) × ((startTakes f s - x) * span f ≡ startTakes f s * span f) × (f .takes .ons * row f ≡ 0)
+    lacking e =
+        let d : startTakes f s - x ≡ startTakes f s = omega (arith, e .0) in (
+          ap (λ (n : ℕ). n * span f) (e .0) ∙ zero-mul (span f),
+          ap (λ (n : ℕ). n * span f) d,
+          ap (λ (n : ℕ). n * row f) (e .1) ∙ zero-mul (row f),
+        )
+
+    in-place : c .left .starts ≡ x → c .left .ons * row f + c .left .blocks ≡ z
+    in-place e = let m : c .left .starts * span f ≡ x * span f = ap (λ (n : ℕ). n * span f) e in omega (arith, at, m)
+
+    short : z < skippedOf f s x → startTakes f s ≤ c .left .starts → f .takes .ons ≤ c .left .ons → ⊥
+    short h starts ons =
+        ⊎-elim
+        (λ (e : c .left .starts ≡ x).
+        let none : startTakes f s - x ≡ 0 = omega (arith, starts, e) in
+        let m : (startTakes f s - x) * span f ≡ 0 = rw none (zero-mul (span f)) in
+        let n : f .takes .ons * row f ≤ c .left .ons * row f = mul-le-mul-right (row f) ons in
+        omega (arith, h, m, n, in-place e))
+        (λ (e : (x ≡ 0) × (f .takes .ons ≡ 0)).
+        let m : startTakes f s * span f ≤ c .left .starts * span f = mul-le-mul-right (span f) starts in
+        omega (arith, h, m, lacking e, at))
+        line
+
+    enough : skippedOf f s x ≤ z → (startTakes f s ≤ c .left .starts) × (f .takes .ons ≤ c .left .ons)
+    enough h =
+        let left = in-span f (c .left .ons) (c .left .blocks) (inside .left .ons) (inside .left .blocks) in
+        ⊎-elim
+        (λ (e : c .left .starts ≡ x).
+        let is = in-place e in
+        let none =
+        whole-lines (span f) 0 (startTakes f s - x) z (omega (arith, left, is)) (omega (arith, h, zero-mul (span f))) in
+        let ons =
+        whole-lines (row f) (c .left .ons) (f .takes .ons) (c .left .blocks) (in-row f (c .left .blocks) (inside .left .blocks)) (omega (arith, h, is)) in
+        (omega (arith, none, e), ons))
+        (λ (e : (x ≡ 0) × (f .takes .ons ≡ 0)).
+        let starts =
+        whole-lines (span f) (c .left .starts) (startTakes f s) (c .left .ons * row f + c .left .blocks) left (omega (arith, h, lacking e, at)) in
+        (starts, omega (arith, e .1)))
+        line
+
+    -- as far back
+    source : skippedOf f s x ≤ z → (k : ℕ) → k * f .takes .blocks ≡ 0
+        → afterOn f s * section f
+        + ((c .left .starts - startTakes f s) * span f + ((c .left .ons - f .takes .ons) * row f + (c .left .blocks - k * f .takes .blocks)))
+        ≡ lineOf f s x + (z - skippedOf f s x)
+    source h k none =
+        let had = enough h in
+        let a = less-lines (c .left .starts) (startTakes f s) (span f) (had .0) in
+        let b = less-lines (c .left .ons) (f .takes .ons) (row f) (had .1) in
+        let e : x - startTakes f s + startTakes f s ≡ x + (startTakes f s - x) = omega arith in
+        let m : (x - startTakes f s) * span f + startTakes f s * span f ≡ x * span f + (startTakes f s - x) * span f =
+        sym (add-mul (x - startTakes f s) (startTakes f s) (span f)) ∙ ap (λ (n : ℕ). n * span f) e ∙ add-mul x (startTakes f s - x) (span f) in
+        linear (c .left .starts * span f) ((c .left .starts - startTakes f s) * span f) (startTakes f s * span f) (c .left .ons * row f)
+        ((c .left .ons - f .takes .ons) * row f) (f .takes .ons * row f) (x * span f) ((x - startTakes f s) * span f)
+        ((startTakes f s - x) * span f) (c .left .blocks) (k * f .takes .blocks) z (afterOn f s * section f) a b m none at h
+      where
+        linear : (u u′ v y y′ o n n′ l r g z to : ℕ) → u′ + v ≡ u → y′ + o ≡ y → n′ + v ≡ n + l → g ≡ 0 → u + (y + r) ≡ n + z → l + o ≤ z
+            → to + (u′ + (y′ + (r - g))) ≡ to + n′ + (z - (l + o))
+        linear u u′ v y y′ o n n′ l r g z to a b m e at h = omega arith
+
+    pub flat-on : f .takes .blocks ≡ 0 → f .pmin ≤ f .pmax → afterOn f s < states f → (place i : ℕ) → place + i ≡ z → {v m : ℤ}
+        → FlatAt cells (t .width) (backOf t s x) place i v m
+        → OnPicked f (valueOf f (t .width) cells) (markOf f (t .width) cells) (t .price) c v m
+    flat-on none some leads place i is {v} {m} a = by (ltb z (skippedOf f s x)) refl
+      where
+        nothing : (k : ℕ) → k * f .takes .blocks ≡ 0
+        nothing k = rw none (mul-zero k)
+
+        by : (b : Bool) → ltb z (skippedOf f s x) ≡ b → OnPicked f (valueOf f (t .width) cells) (markOf f (t .width) cells) (t .price) c v m
+        by true e =
+            let l = ltb-true z (skippedOf f s x) e in
+            inl (λ k r. let had = running (r .2) in short l (had .0) (had .1), a .none (rw is l))
+        by false e =
+            let l = ltb-false z (skippedOf f s x) e in
+            let had = enough l in
+            let from = lineOf f s x + (z - skippedOf f s x) in
+            let value = rw is at (a .value (rw is l)) in
+            let mark = rw is at (a .mark (rw is l)) in
+            inr
+            (rw (value, mark)
+            (picked-same (λ k. getD cells from (pos 0) +ℤ brings (laddered t s) k) (λ k. getD cells (t .width + from) (pos 0))
+            (onStored f (valueOf f (t .width) cells) c (t .price)) (λ k. markOf f (t .width) cells (onCell f c k))
+            (λ k h. (h .0, h .1, runs leads (had .0) (had .1), omega (arith, nothing k)))
+            (λ k h. (h .0, h .1))
+            (λ k h. on-is k from (h .0) (source l k (nothing k)))
+            (ends-picked (laddered t s) some (getD cells from (pos 0)) (getD cells (t .width + from) (pos 0)))))
+
+  -- limited: by the row that it leads to, or none
+  module _ (x y z : ℕ) (one : f .takes .blocks ≡ 1) (is : (c .left .starts ≡ x) × (c .left .ons ≡ y) × (c .left .blocks ≡ z)) where
+    all : (k : ℕ) → k * f .takes .blocks ≡ k
+    all k = rw one (mul-one k)
+
+    pub lined-none : (x < startTakes f s) ⊎ ((y < f .takes .ons) ⊎ (z < f .pmin)) → {v : ℤ} (m : ℤ) → v ≡ infeasible
+        → OnPicked f (valueOf f (t .width) cells) (markOf f (t .width) cells) (t .price) c v m
+    lined-none lacks m e =
+        inl (
+          λ k r.
+              let had = running (r .2) in
+              ⊎-elim (λ (h : x < startTakes f s). omega (arith, h, had .0, is .0))
+              (λ (h : (y < f .takes .ons) ⊎ (z < f .pmin)).
+              ⊎-elim (λ (l : y < f .takes .ons). omega (arith, l, had .1, is .1)) (λ (l : z < f .pmin). omega (arith, l, all k, is .2, r .0, r .3)) h)
+              lacks,
+          e,
+        )
+
+    pub lined-on : afterOn f s < states f → startTakes f s ≤ x → f .takes .ons ≤ y → {v m : ℤ}
+        → images.PickedAt (laddered t s) cells (t .width) (lineOf f s x + (y - f .takes .ons) * row f) z v m
+        → OnPicked f (valueOf f (t .width) cells) (markOf f (t .width) cells) (t .price) c v m
+    lined-on leads starts ons {v} {m} a =
+        let line = lineOf f s x + (y - f .takes .ons) * row f in
+        inr
+        (picked-same (images.worth (laddered t s) cells (t .width) line z) (images.markBy (laddered t s) cells (t .width) line z)
+        (onStored f (valueOf f (t .width) cells) c (t .price)) (λ k. markOf f (t .width) cells (onCell f c k))
+        (λ k h. (h .0, h .1, runs leads (omega (arith, starts, is .0)) (omega (arith, ons, is .1)), omega (arith, all k, is .2, h .2)))
+        (λ k h. (h .0, h .1, omega (arith, all k, is .2, h .3)))
+        (λ k h. on-is k (line + (z - k)) (h .0) (at k))
+        a)
+      where
+        at : (k : ℕ)
+            → afterOn f s * section f
+            + ((c .left .starts - startTakes f s) * span f + ((c .left .ons - f .takes .ons) * row f + (c .left .blocks - k * f .takes .blocks)))
+            ≡ lineOf f s x + (y - f .takes .ons) * row f + (z - k)
+        at k = rw (is .0, is .1, is .2, all k) (omega arith)
+
+-- ---- the line stands in the layer
+
+pub line-fits : (f : Figures) (s x : ℕ) → afterOn f s < states f → x ≤ f .most .starts → lineOf f s x + span f ≤ width f
+line-fits f s x leads starts =
+    let a = section-fits f (afterOn f s) leads in
+    let b = span-fits f (x - startTakes f s) (omega arith) in
+    omega (arith, a, b)
+
 -- ---- what the lines ask
 
-module _ (f : Figures) (w : ℕ) (cells : List ℤ) (price : ℤ) (s x y place count : ℕ) (a : OnAsked f w cells price s x y place count) where
-  pub steady : Steady (laddered f price s)
-  steady = ladder-steady f price (startPays f s) (a .interval) (pays-most f (a .interval .sound) s)
+module _ (t : Step) (cells : List ℤ) (s : ℕ) (p : Piece) (a : OnAsked t cells s p) where
+  abbrev g : Figures
+  g = t .figures
 
-  index-is : (c : Cell) → c .state * section f + columnOf f c ≡ index f c
+  pub steady : Steady (laddered t s)
+  steady = ladder-steady g (t .price) (startPays g s) (a .over .interval) (pays-most g (a .over .interval .sound) s)
+
+  index-is : (c : Cell) → c .state * section g + columnOf g c ≡ index g c
   unfolding index
   index-is c = refl
 
-  -- a stretch of the columns that are read, in the state that the interval leads to
-  small-from : (off n : ℕ) → off + n ≤ x * span f + (y * row f + (place + count)) → off + n ≤ section f → Small cells (afterOn f s * section f + off) n
-  small-from off n bound inside i h =
-      let here = section-fits f (afterOn f s) (a .leads) in
-      let c = numbered f (afterOn f s * section f + off + i) (omega (arith, here)) in
-      let e : c .of .state * section f + columnOf f (c .of) ≡ afterOn f s * section f + (off + i) = index-is (c .of) ∙ (omega (arith, c .is)) in
-      let u = same-place (section f) (c .of .state) (afterOn f s) (columnOf f (c .of)) (off + i)
-      (in-section f (c .of .left .starts) (c .of .left .ons) (c .of .left .blocks) (c .inside .left .starts) (c .inside .left .ons) (c .inside .left .blocks)) (omega arith) e in
-      rw (← c .is) (a .small (c .of) (c .inside) (u .0) (omega (arith, u .1)))
+  -- a stretch of the columns up to the piece's last, in the state that the interval leads to
+  readable : (off n : ℕ) → off + n ≤ p .column + p .count → (afterOn g s * section g + off + n ≤ t .width) × Small cells (afterOn g s * section g + off) n
+  readable off n bound =
+      let here = section-fits g (afterOn g s) (a .leads) in
+      let fits = a .piece-of .fits in (
+        omega (arith, here, fits, a .over .wide),
+        λ i h.
+            let c = numbered g (afterOn g s * section g + off + i) (omega (arith, here, fits)) in
+            let e : c .of .state * section g + columnOf g (c .of) ≡ afterOn g s * section g + (off + i) = index-is (c .of) ∙ (omega (arith, c .is)) in
+            let u = same-place (section g) (c .of .state) (afterOn g s) (columnOf g (c .of)) (off + i)
+            (in-section g (c .of .left .starts) (c .of .left .ons) (c .of .left .blocks) (c .inside .left .starts) (c .inside .left .ons)
+            (c .inside .left .blocks)) (omega (arith, fits)) e in
+            rw (← c .is) (a .small (c .of) (c .inside) (u .0) (omega (arith, u .1))),
+      )
 
-  spans : (x - startTakes f s) * span f ≤ x * span f
-  spans = mul-le-mul-right (span f) (omega arith)
+  spans : (p .starts - startTakes g s) * span g ≤ p .starts * span g
+  spans = mul-le-mul-right (span g) (omega arith)
 
-  flat-small : f .takes .blocks ≡ 0 → Small cells (lineOf f s x) (place + count)
-  flat-small none =
-      let fit = span-fits f (x - startTakes f s) (omega (arith, a .starts)) in
-      let k = a .flat none in
-      λ i h.
-      let e : lineOf f s x + i ≡ afterOn f s * section f + ((x - startTakes f s) * span f + i) = omega arith in
-      let z : afterOn f s * section f + 0 + ((x - startTakes f s) * span f + i) ≡ afterOn f s * section f + ((x - startTakes f s) * span f + i) = omega arith in
-      rw e
-      (rw z at (small-from 0 ((x - startTakes f s) * span f + (place + count)) (omega (arith, spans)) (omega (arith, fit, k .1))
-      ((x - startTakes f s) * span f + i) (omega arith)))
-
-  lined-small : f .takes .blocks ≡ 1 → Small cells (lineOf f s x + (y - f .takes .ons) * row f) (place + count)
-  lined-small one =
-      let k = a .lined one in
-      let rows : (y - f .takes .ons) * row f ≤ y * row f = mul-le-mul-right (row f) (omega arith) in
-      let fit = span-fits f (x - startTakes f s) (omega (arith, a .starts)) in
-      let in-span = row-fits f (y - f .takes .ons) (omega (arith, k .0)) in
-      λ i h.
-      let off = (x - startTakes f s) * span f + (y - f .takes .ons) * row f in
-      let e : lineOf f s x + (y - f .takes .ons) * row f + i ≡ afterOn f s * section f + (off + i) = omega arith in
-      let z : afterOn f s * section f + 0 + (off + i) ≡ afterOn f s * section f + (off + i) = omega arith in
-      rw e
-      (rw z at (small-from 0 (off + (place + count)) (omega (arith, spans, rows)) (omega (arith, fit, in-span, k .1)) (off + i) (omega arith)))
-
-  pub flat-line : f .takes .blocks ≡ 0 → FlatLine cells w (lineOf f s x) place count (betterEnd (laddered f price s))
+  pub flat-line : g .takes .blocks ≡ 0 → FlatLine cells (t .width) (backOf t s (p .starts)) p
   flat-line none =
-      let fits = line-fits f s x (a .leads) (a .starts) in
-      let room : lineOf f s x + (place + count) ≤ w = omega (arith, fits, a .wide, a .flat none .1) in
-      record { values = room; marks = a .marks; small = flat-small none; gains = end-small (laddered f price s) steady }
+      let z : p .ons * row g ≡ 0 = rw (a .piece-of .flat none .0) (zero-mul (row g)) in
+      let r =
+      readable ((p .starts - startTakes g s) * span g) (p .place + p .count) (omega (arith, spans, a .piece-of .column-is, z)) in
+      record { values = r .0; marks = a .marks; small = r .1; gains = end-small (laddered t s) steady; few = a .piece-of .few }
 
-  pub lined-piece : f .takes .blocks ≡ 1 → f .pmin ≤ place → Piece (laddered f price s) cells w (lineOf f s x + (y - f .takes .ons) * row f) place count
+  -- the row that an interval on leads to
+  row-behind : (afterOn g s * section g + ((p .starts - startTakes g s) * span g + (p .ons - g .takes .ons) * row g) + (p .place + p .count) ≤ t .width)
+      × Small cells (afterOn g s * section g + ((p .starts - startTakes g s) * span g + (p .ons - g .takes .ons) * row g)) (p .place + p .count)
+  row-behind =
+      let rows : (p .ons - g .takes .ons) * row g ≤ p .ons * row g = mul-le-mul-right (row g) (omega arith) in
+      readable ((p .starts - startTakes g s) * span g + (p .ons - g .takes .ons) * row g) (p .place + p .count)
+      (omega (arith, spans, rows, a .piece-of .column-is))
+
+  grouped : afterOn g s * section g + ((p .starts - startTakes g s) * span g + (p .ons - g .takes .ons) * row g)
+      ≡ lineOf g s (p .starts) + (p .ons - g .takes .ons) * row g
+  grouped = omega arith
+
+  pub row-fits-behind : lineOf g s (p .starts) + (p .ons - g .takes .ons) * row g + (p .place + p .count) ≤ t .width
+  row-fits-behind = omega (arith, row-behind .0, grouped)
+
+  pub lined-piece : g .takes .blocks ≡ 1 → g .pmin ≤ p .place
+      → images.Piece (laddered t s) cells (t .width) (lineOf g s (p .starts) + (p .ons - g .takes .ons) * row g) (p .place) (p .count)
   lined-piece one lo =
-      let k = a .lined one in
-      let fits = row-in-line f s x y (a .leads) (a .starts) (k .0) in
-      let room : lineOf f s x + (y - f .takes .ons) * row f + (place + count) ≤ w = omega (arith, fits, a .wide, k .1) in
-      ⊎-elim (λ (h : place + count ≤ f .pmin). absurd (omega (arith, a .some)))
-      (λ (c : WholeChunks f place count).
+      ⊎-elim (λ (h : p .place + p .count ≤ g .pmin). absurd (omega (arith, a .piece-of .some)))
+      (λ (c : WholeChunks g (p .place) (p .count)).
       record {
         steady = steady;
         before = c .before;
@@ -356,8 +445,8 @@ module _ (f : Figures) (w : ℕ) (cells : List ℤ) (price : ℤ) (s x y place c
         chunks = c .chunks;
         most = c .most;
         fits = c .fits;
-        values = omega (arith, room);
+        values = omega (arith, row-fits-behind);
         marks = a .marks;
-        small = lined-small one;
+        small = rw grouped at (row-behind .1);
       })
-      (k .2)
+      (a .piece-of .lined one .2)

@@ -10,17 +10,17 @@ use borrow.Author.Tests.{ltb-true, lt-ltb, ne-eqb, eq-eqb, le-ltb}
 use lib.Dec.{ltb, eqb}
 use lib.IntN.{ℤ, pos}
 use lib.ListN.{length, getD}
-use Rattle.optimality.specs.declared.Cell.{Cell}
 use Rattle.optimality.specs.declared.Figures.{Figures}
-use Rattle.optimality.specs.Machine.{Quarter}
 use Rattle.optimality.specs.Cells.{states, afterOff}
-use Rattle.geometry.specs.Geometry.{row, span, section, index}
+use Rattle.geometry.specs.Geometry.{section, index}
 use Rattle.geometry.specs.Layers.{infeasible}
 use Rattle.intervals.specs.Turns.{offStored}
 use Rattle.intervals.specs.Stretches.{Copied, Apart}
 use Rattle.carrying.specs.Pairs.{Pairs, JoinedFrom}
 use Rattle.carrying.specs.Images.{piece, Imaged}
-use Rattle.marks.specs.Lines.{columnOf, OfPiece}
+use Rattle.marks.specs.declared.Step.{Step}
+use Rattle.marks.specs.declared.Piece.{Piece}
+use Rattle.marks.specs.Lines.{columnOf}
 use Rattle.marks.specs.Turning.{MovedAt, OffHere, OnHere, TurnHere}
 
 -- two copies, of the values and of the marks
@@ -69,69 +69,67 @@ module _ (f : Figures) (s : ℕ) where
           rw (eq-eqb (s + 1) (f .mot) last) (sym last)
       by false e = omega arith
 
-module _ (f : Figures) (w : ℕ) (was now : List ℤ) (s column count : ℕ) where
+module _ (t : Step) (was now : List ℤ) (s : ℕ) (p : Piece) where
+  abbrev f : Figures
+  f = t .figures
+
+  abbrev at : ℕ
+  at = s * section f + p .column
+
   -- none
-  pub off-barred : s + 1 < f .mot → length now ≡ length was → (s * section f + column) + count ≤ w
-      → ((i : ℕ) → i < count → getD now (s * section f + column + i) (pos 0) ≡ infeasible) → Apart was now (s * section f + column) count
-      → Pairs w (OffHere f w was s column) was now (s * section f + column) count
+  pub off-barred : s + 1 < f .mot → length now ≡ length was → at + p .count ≤ t .width
+      → ((i : ℕ) → i < p .count → getD now (at + i) (pos 0) ≡ infeasible) → Apart was now at (p .count)
+      → Pairs (t .width) (OffHere t was s p) was now at (p .count)
   unfolding offStored
   off-barred young same fits put apart =
       record {
-        inside = λ i h c inside es at.
-            let past : afterOff f (c .state) ≡ states f = rw es (off-young f s young) in
+        inside = λ i h c here.
+            let past : afterOff f (c .state) ≡ states f = rw (here .state) (off-young f s young) in
             let none : ltb (states f) (states f) ≡ false = le-ltb (states f) (states f) (omega arith) in
             record { value = rw (past, none) (put i h); mark = λ g. absurd (omega (arith, past, g)) };
         apart =
             record {
               same = same;
               values = λ j h o. apart j o;
-              marks = λ j h o. apart (w + j) (inr (omega arith));
+              marks = λ j h o. apart (t .width + j) (inr (omega arith));
               beyond = λ j h. apart j (inr (omega arith));
             };
       }
 
   -- the next state's
-  pub off-moved : f .mot ≤ s + 1 → s + 1 < states f
-      → Pairs w (MovedAt w was (s * section f + column + section f)) was now (s * section f + column) count
-      → Pairs w (OffHere f w was s column) was now (s * section f + column) count
+  pub off-moved : f .mot ≤ s + 1 → s + 1 < states f → Pairs (t .width) (MovedAt (t .width) was (at + section f)) was now at (p .count)
+      → Pairs (t .width) (OffHere t was s p) was now at (p .count)
   unfolding offStored index
-  off-moved old inner p =
+  off-moved old inner made =
       record {
-        inside = λ i h c inside es at.
-            let next : afterOff f (c .state) ≡ s + 1 = rw es (off-next f s old inner) in
+        inside = λ i h c here.
+            let next : afterOff f (c .state) ≡ s + 1 = rw (here .state) (off-next f s old inner) in
             let goes : ltb (afterOff f (c .state)) (states f) ≡ true = rw next (lt-ltb (s + 1) (states f) inner) in
-            let place : s * section f + column + section f + i ≡ afterOff f (c .state) * section f + columnOf f c =
-            omega (arith, ap (λ (n : ℕ). n * section f) next, add-mul s 1 (section f), one-mul (section f), at) in
-            let m = p .inside i h in
+            let place : at + section f + i ≡ afterOff f (c .state) * section f + columnOf f c =
+            omega (arith, ap (λ (n : ℕ). n * section f) next, add-mul s 1 (section f), one-mul (section f), here .at) in
+            let m = made .inside i h in
             record {
               value = rw goes (m .0 ∙ ap (λ (j : ℕ). getD was j (pos 0)) place);
-              mark = λ g. m .1 ∙ ap (λ (j : ℕ). getD was (w + j) (pos 0)) place;
+              mark = λ g. m .1 ∙ ap (λ (j : ℕ). getD was (t .width + j) (pos 0)) place;
             };
-        apart = p .apart;
+        apart = made .apart;
       }
 
 -- ---- off in place, and on where it is better
 
-pub column-of : (f : Figures) (s x y place i column : ℕ) (c : Cell) → column ≡ x * span f + (y * row f + place) → OfPiece f s x y place i c
-    → columnOf f c ≡ column + i
-column-of f s x y place i column c e p =
-    let m : c .left .starts * span f ≡ x * span f = ap (λ (n : ℕ). n * span f) (p .starts) in
-    omega (arith, e, m, p .at)
-
-pub turned-here : (f : Figures) (q : Quarter) (w : ℕ) (was mid now empty ran : List ℤ) (s x y place column to count : ℕ)
-    → column ≡ x * span f + (y * row f + place)
-    → Imaged (OnHere f q w was s x y place) empty ran count → Pairs w (OffHere f w was s column) was mid to count
-    → Pairs w (JoinedFrom w piece mid ran to) mid now to count → Pairs w (TurnHere f q w was s x y place) was now to count
-turned-here f q w was mid now empty ran s x y place column to count e on off joined =
+pub turned-here : (t : Step) (was mid now empty ran : List ℤ) (s : ℕ) (p : Piece) (to : ℕ)
+    → Imaged (OnHere t was s p) empty ran (p .count) → Pairs (t .width) (OffHere t was s p) was mid to (p .count)
+    → Pairs (t .width) (JoinedFrom (t .width) piece mid ran to) mid now to (p .count) → Pairs (t .width) (TurnHere t was s p) was now to (p .count)
+turned-here t was mid now empty ran s p to on off joined =
     record {
-      inside = λ i h c p.
+      inside = λ i h c here.
           record {
             off-value = getD mid (to + i) (pos 0);
-            off-mark = getD mid (w + (to + i)) (pos 0);
-            off = off .inside i h c (p .inside) (p .state) (column-of f s x y place i column c e p);
+            off-mark = getD mid (t .width + (to + i)) (pos 0);
+            off = off .inside i h c here;
             on-value = getD ran i (pos 0);
             on-mark = getD ran (piece + i) (pos 0);
-            on = on .inside i h c p;
+            on = on .inside i h c here;
             larger = joined .inside i h;
           };
       apart =

@@ -10,14 +10,15 @@ use lib.Dec.{leb, ltb}
 use lib.IntN.{ℤ, _+ℤ_}
 use Rattle.optimality.specs.declared.Cell.{Cell}
 use Rattle.optimality.specs.declared.Figures.{Figures}
-use Rattle.optimality.specs.Machine.{Quarter}
-use Rattle.optimality.specs.Cells.{Sound, cell, states, afterOn, startTakes, startPays, mayRun, onCell}
+use Rattle.optimality.specs.Cells.{cell, states, afterOn, startTakes, startPays, mayRun, onCell}
 use Rattle.optimality.proofs.Turns.{on-in-table}
-use Rattle.geometry.specs.Geometry.{row, span, section, width}
+use Rattle.geometry.specs.Geometry.{section, width}
 use Rattle.geometry.specs.Layers.{infeasible}
 use Rattle.intervals.specs.Turns.{net, onStored}
 use Rattle.carrying.specs.Images.{Imaged}
-use Rattle.marks.specs.Lines.{valueOf, markOf, Runs, OfPiece, OnPicked}
+use Rattle.marks.specs.declared.Step.{Step}
+use Rattle.marks.specs.declared.Piece.{Piece}
+use Rattle.marks.specs.Lines.{valueOf, markOf, quarterOf, Runs, Here, OnPicked}
 use Rattle.carrying.specs.Pairs.{Pairs}
 use Rattle.carrying.specs.Picking.{Picked}
 use Rattle.marks.specs.Turning.{OnAt, OnHere}
@@ -74,37 +75,39 @@ module _ (f : Figures) (s : ℕ) (oldest : s + 2 ≡ f .mot) where
         value k e = ap₂ (λ (x : ℤ) (n : ℕ). x +ℤ net f price n k) (sym (ap stored (leads k) ∙ e)) (sym pays)
 
 -- aside for the younger, it stands aside for the oldest when the younger's stretch is made
-pub next-image : (f : Figures) → Sound f → (q : Quarter) (w : ℕ) → w ≡ width f → (x y place column count : ℕ) → column ≡ x * span f + (y * row f + place)
-    → column + count ≤ section f
-    → {Stands : ℕ → ℤ → ℤ → Type 0} (was now ran : List ℤ) (s : ℕ) → s + 2 ≡ f .mot → Pairs w Stands was now (s * section f + column) count
-    → (before : List ℤ) → Imaged (OnHere f q w was s x y place) before ran count → Imaged (OnHere f q w now (s + 1) x y place) ran ran count
-next-image f ok q w wide x y place column count at fits {Stands} was now ran s oldest p before image =
-    record { inside = λ i h c o. older i c o (image .inside i h (cell s (c .left .starts) (c .left .ons) (c .left .blocks)) (same-place i c o)); same = refl }
-  where
-    same-place : (i : ℕ) (c : Cell) → OfPiece f (s + 1) x y place i c → OfPiece f s x y place i (cell s (c .left .starts) (c .left .ons) (c .left .blocks))
-    same-place i c o =
-        let h = o .inside in
-        record {
-          inside = record { state = omega (arith, oldest, ok .mdt); left = record { starts = h .left .starts; ons = h .left .ons; blocks = h .left .blocks } };
-          state = refl;
-          starts = o .starts;
-          at = o .at;
-          line = o .line;
-        }
+module _ (t : Step) (wide : t .width ≡ width (t .figures)) (p : Piece) (fits : p .column + p .count ≤ section (t .figures)) (mdt : 1 ≤ t .figures .mdt)
+    {Stands : ℕ → ℤ → ℤ → Type 0} (was now ran : List ℤ) (s : ℕ) (oldest : s + 2 ≡ t .figures .mot)
+    (made : Pairs (t .width) Stands was now (s * section (t .figures) + p .column) (p .count)) where
+  abbrev g : Figures
+  g = t .figures
 
-    older : (i : ℕ) (c : Cell) → OfPiece f (s + 1) x y place i c → {v m : ℤ}
-        → OnAt f q (valueOf f w was) (markOf f w was) (cell s (c .left .starts) (c .left .ons) (c .left .blocks)) v m → OnAt f q (valueOf f w now) (markOf f w now) c v m
-    older i c o {v} {m} on =
-        record {
-          opened = λ e.
-              on-older f s oldest c (o .state) (valueOf f w was) (markOf f w was) (valueOf f w now) (markOf f w now)
-              (λ k r.
-              let l = runs-on f c (r .2) in
-              let e = after-oldest f s oldest in
-              let there : afterOn f (c .state) ≡ s + 1 = ap (afterOn f) (o .state) ∙ e in
-              let u = unmoved f ok q w wide x y place column count at fits was now s p (onCell f c k) (on-in-table f c k (o .inside) l)
-              (λ z. absurd (omega (arith, z, there))) in
-              (sym (u .0), sym (u .1)))
-              (q .price) v m (on .opened e);
-          shut = on .shut;
-        }
+  abbrev before : Cell → Cell
+  before c = cell s (c .left .starts) (c .left .ons) (c .left .blocks)
+
+  same-place : (i : ℕ) (c : Cell) → Here g (s + 1) (p .column + i) c → Here g s (p .column + i) (before c)
+  same-place i c o =
+      let h = o .inside .left in
+      record {
+        inside = record { state = omega (arith, oldest, mdt); left = record { starts = h .starts; ons = h .ons; blocks = h .blocks } };
+        state = refl;
+        at = o .at;
+      }
+
+  older : (i : ℕ) (c : Cell) → Here g (s + 1) (p .column + i) c → {v m : ℤ}
+      → OnAt g (quarterOf t) (valueOf g (t .width) was) (markOf g (t .width) was) (before c) v m
+      → OnAt g (quarterOf t) (valueOf g (t .width) now) (markOf g (t .width) now) c v m
+  older i c o {v} {m} on =
+      record {
+        opened = λ e.
+            on-older g s oldest c (o .state) (valueOf g (t .width) was) (markOf g (t .width) was) (valueOf g (t .width) now) (markOf g (t .width) now)
+            (λ k r.
+            let l = runs-on g c (r .2) in
+            let there : afterOn g (c .state) ≡ s + 1 = ap (afterOn g) (o .state) ∙ after-oldest g s oldest in
+            let u = unmoved t wide p fits was now s made (onCell g c k) (on-in-table g c k (o .inside) l) (λ z. absurd (omega (arith, z, there))) in
+            (sym (u .0), sym (u .1)))
+            (t .price) v m (on .opened e);
+        shut = on .shut;
+      }
+
+  pub next-image : (empty : List ℤ) → Imaged (OnHere t was s p) empty ran (p .count) → Imaged (OnHere t now (s + 1) p) ran ran (p .count)
+  next-image empty image = record { inside = λ i h c o. older i c o (image .inside i h (before c) (same-place i c o)); same = refl }

@@ -26,8 +26,9 @@ use Rattle.layers.proofs.Filling.{layer-earlier}
 use Rattle.table.specs.Reading.{chosen, nextCell}
 use Rattle.table.proofs.Choosing.{Chosen}
 use Rattle.table.proofs.Plans.{read-layers, one-more}
-use Rattle.marks.specs.Lines.{valueOf, markOf}
+use Rattle.marks.specs.Lines.{valueOf, markOf, Over}
 use Rattle.marks.specs.Turning.{Turn}
+use Rattle.marks.specs.declared.Step as steps
 use Rattle.marks.specs.Passing.{Columns, Before, OwnNumbers}
 use Rattle.marks.specs.Standing.{Stands, MarkedLayer, Swept, Numbered}
 use Rattle.marks.proofs.Pieces.{off-floored, small-floored}
@@ -84,7 +85,9 @@ module _ (f : Figures) (ends : Cell → BestProfit) (later : List Quarter) where
       (was now : List ℤ) (given : Cell → ℤ) (m : MarkedLayer f ends front later given (valueOf f w was) (markOf f w was))
       (turned : Columns f q w was now 0 (section f)) where
     turn : (c : Cell) → InTable f c → Turn f q (valueOf f w was) (markOf f w was) c (valueOf f w now c) (markOf f w now c)
-    turn c i = turned .done c i (omega arith) (in-section f (c .left .starts) (c .left .ons) (c .left .blocks) (i .left .starts) (i .left .ons) (i .left .blocks))
+    turn c i =
+        turned .done c i (omega arith)
+        (in-section f (c .left .starts) (c .left .ons) (c .left .blocks) (i .left .starts) (i .left .ons) (i .left .blocks))
 
     floor : (c : Cell) → InTable f c → infeasible ≤ℤ offStored f (valueOf f w was) c
     floor c i =
@@ -138,20 +141,21 @@ module _ (f : Figures) (w : ℕ) where
             (s .marked ends later layer (omega (arith, few))) turned;
       }
 
-  -- what the next interval asks
-  pub before-swept : (was cur : List ℤ) (price : ℤ) (front : List Quarter) → Interval f price → w ≡ width f → w + w ≤ length was → Swept f w was cur front
-      → (ends : Cell → BestProfit) (later : List Quarter) → Layer f ends later (valueOf f w was) → length later + length front ≤ mostIntervals
-      → Before f w cur price (section f)
-  before-swept was cur price front interval wide marks s ends later layer few =
-      record {
-        interval = interval;
-        wide = wide;
-        marks = omega (arith, marks, s .same);
-        small = λ c i h.
-            let n = length-append front later in
-            let m = s .marked ends later layer few in
-            holds-small (length (front ++ later)) (valueAt f ends (front ++ later) c) (valueOf f w cur c) (omega (arith, n, few)) (m .layer .holds c i);
-      }
+-- what the next interval asks
+pub before-swept : (t : steps.Step) (was cur : List ℤ) (front : List Quarter) → Over t → t .width + t .width ≤ length was
+    → Swept (t .figures) (t .width) was cur front → (ends : Cell → BestProfit) (later : List Quarter)
+    → Layer (t .figures) ends later (valueOf (t .figures) (t .width) was) → length later + length front ≤ mostIntervals
+    → Before t cur (section (t .figures))
+before-swept t was cur front over marks s ends later layer few =
+    record {
+      over = over;
+      marks = omega (arith, marks, s .same);
+      small = λ c i h.
+          let n = length-append front later in
+          let m = s .marked ends later layer few in
+          holds-small (length (front ++ later)) (valueAt (t .figures) ends (front ++ later) c) (valueOf (t .figures) (t .width) cur c)
+          (omega (arith, n, few)) (m .layer .holds c i);
+    }
 
 -- ---- from cells that have their own numbers
 

@@ -8,6 +8,7 @@ use lib.IntN.{ℤ, pos, natAbs, _+ℤ_}
 use lib.ListN.{length, getD}
 use Rattle.optimality.specs.declared.Cell.{Cell}
 use Rattle.optimality.specs.declared.Figures.{Figures}
+use Rattle.optimality.specs.Machine.{Quarter, quarter}
 use Rattle.optimality.specs.Cells.{InTable, states, afterOn, startTakes, startPays, mayRun, onCell, rungs}
 use Rattle.geometry.specs.Geometry.{row, span, section, width, index}
 use Rattle.geometry.specs.Layers.{infeasible}
@@ -17,19 +18,23 @@ use Rattle.intervals.specs.Stretches.{Small}
 use Rattle.intervals.specs.Turns.{Interval, onStored}
 use Rattle.carrying.specs.Images.{piece}
 use Rattle.carrying.specs.Picking.{Picked}
+use Rattle.marks.specs.declared.Step.{Step}
+use Rattle.marks.specs.declared.Piece.{Piece}
+use Rattle.marks.specs.declared.lines.Back.{Back}
 
 -- ---- a line where every output leads to the same cell, the first `skipped` places having none
 
-pub record FlatLine (cells : List ℤ) (w line place count : ℕ) (gain : ℤ) : Type 0 where
-  pub values : line + (place + count) ≤ w
+pub record FlatLine (cells : List ℤ) (w : ℕ) (b : Back) (p : Piece) : Type 0 where
+  pub values : b .line + (p .place + p .count) ≤ w
   pub marks : w + w ≤ length cells
-  pub small : Small cells line (place + count)
-  pub gains : natAbs gain ≤ mostBrought
+  pub small : Small cells (b .line) (p .place + p .count)
+  pub gains : natAbs (b .gain) ≤ mostBrought
+  pub few : p .count ≤ piece
 
-pub record FlatAt (cells : List ℤ) (w line skipped place : ℕ) (gain : ℤ) (i : ℕ) (v m : ℤ) : Type 0 where
-  pub none : place + i < skipped → v ≡ infeasible
-  pub value : skipped ≤ place + i → v ≡ getD cells (line + (place + i - skipped)) (pos 0) +ℤ gain
-  pub mark : skipped ≤ place + i → m ≡ getD cells (w + (line + (place + i - skipped))) (pos 0)
+pub record FlatAt (cells : List ℤ) (w : ℕ) (b : Back) (place i : ℕ) (v m : ℤ) : Type 0 where
+  pub none : place + i < b .skipped → v ≡ infeasible
+  pub value : b .skipped ≤ place + i → v ≡ getD cells (b .line + (place + i - b .skipped)) (pos 0) +ℤ b .gain
+  pub mark : b .skipped ≤ place + i → m ≡ getD cells (w + (b .line + (place + i - b .skipped))) (pos 0)
 
 -- ---- the cells of a layer at the front, and their marks
 
@@ -53,26 +58,25 @@ abbrev pub OnPicked : Figures → (Cell → ℤ) → (Cell → ℤ) → ℤ → 
 OnPicked f stored marked price c v m =
     (((k : ℕ) → Runs f c k → ⊥) × (v ≡ infeasible)) ⊎ Picked (Runs f c) (onStored f stored c price) (λ k. marked (onCell f c k)) v m
 
--- the i-th cell of a piece: where MWh is limited a line has the blocks left, else the on-intervals left with them
-pub record OfPiece (f : Figures) (s x y place i : ℕ) (c : Cell) : Type 0 where
+-- the cell of a state that stands in a column
+pub record Here (f : Figures) (s column : ℕ) (c : Cell) : Type 0 where
   pub inside : InTable f c
   pub state : c .state ≡ s
-  pub starts : c .left .starts ≡ x
-  pub at : c .left .ons * row f + c .left .blocks ≡ y * row f + (place + i)
-  pub line : f .takes .blocks ≡ 1 → c .left .ons ≡ y
+  pub at : columnOf f c ≡ column
 
-abbrev pub OnOf : Figures → ℕ → List ℤ → ℤ → ℕ → ℕ → ℕ → ℕ → ℕ → ℤ → ℤ → Type 0
-OnOf f w cells price s x y place i v m = (c : Cell) → OfPiece f s x y place i c → OnPicked f (valueOf f w cells) (markOf f w cells) price c v m
-
--- the line that an interval on leads to, from the spans of the state after it
+-- the line that an interval on leads to, from a line that begins with x starts left
 abbrev pub lineOf : Figures → ℕ → ℕ → ℕ
 lineOf f s x = afterOn f s * section f + (x - startTakes f s) * span f
 
--- its outputs
-abbrev pub laddered : Figures → ℤ → ℕ → Ladder
-laddered f price s = ladderOf f price (startPays f s)
+-- where MWh is not limited: the places of the line without an interval on, for the starts that it lacks where it begins and for an on-interval
+abbrev pub skippedOf : Figures → ℕ → ℕ → ℕ
+skippedOf f s x = (startTakes f s - x) * span f + f .takes .ons * row f
 
--- ---- what an interval on asks: a state that may run, and a piece of a line
+-- ---- a piece of a line
+
+-- so many places from a line's beginning: of a span, or of the whole section
+abbrev pub Flat : Figures → ℕ → ℕ → Type 0
+Flat f x places = (places ≤ span f) ⊎ ((x ≡ 0) × (f .takes .ons ≡ 0))
 
 -- whole chunks from where the lowest output begins, the last perhaps cut short
 pub record WholeChunks (f : Figures) (place count : ℕ) : Type 0 where
@@ -82,22 +86,41 @@ pub record WholeChunks (f : Figures) (place count : ℕ) : Type 0 where
   pub most : count ≤ chunks * rungs f
   pub fits : chunks * rungs f ≤ piece
 
-pub record OnAsked (f : Figures) (w : ℕ) (cells : List ℤ) (price : ℤ) (s x y place count : ℕ) : Type 0 where
-  pub interval : Interval f price
-  pub wide : w ≡ width f
-  pub marks : w + w ≤ length cells
-  pub small : (c : Cell) → InTable f c → c .state ≡ afterOn f s → columnOf f c < x * span f + (y * row f + (place + count))
-      → natAbs (valueOf f w cells c) ≤ 2 ^ 62
-  pub state : s < states f
-  pub leads : afterOn f s < states f
-  pub starts : x ≤ f .most .starts
-  pub some : 1 ≤ count
-  pub few : count ≤ piece
-  pub flat : f .takes .blocks ≡ 0 → (y ≡ 0) × (place + count ≤ span f)
-  pub lined : f .takes .blocks ≡ 1 → (y ≤ f .most .ons) × (place + count ≤ row f) × ((place + count ≤ f .pmin) ⊎ WholeChunks f place count)
+pub record PieceOf (f : Figures) (p : Piece) : Type 0 where
+  pub starts : p .starts ≤ f .most .starts
+  pub column-is : p .column ≡ p .starts * span f + (p .ons * row f + p .place)
+  pub fits : p .column + p .count ≤ section f
+  pub some : 1 ≤ p .count
+  pub few : p .count ≤ piece
+  pub flat : f .takes .blocks ≡ 0 → (p .ons ≡ 0) × Flat f (p .starts) (p .place + p .count)
+  pub lined : f .takes .blocks ≡ 1
+      → (p .ons ≤ f .most .ons) × (p .place + p .count ≤ row f) × ((p .place + p .count ≤ f .pmin) ⊎ WholeChunks f (p .place) (p .count))
 
--- where a start is left, the line and the outputs
-pub record Behind (f : Figures) (price : ℤ) (s x line : ℕ) (l : Ladder) : Type 0 where
-  pub takes : startTakes f s ≤ x
-  pub line-is : line ≡ lineOf f s x
-  pub ladder-is : l ≡ laddered f price s
+-- ---- what an interval on asks: a state that may run, and a piece of a line
+
+pub record Over (t : Step) : Type 0 where
+  pub interval : Interval (t .figures) (t .price)
+  pub wide : t .width ≡ width (t .figures)
+  pub sections : t .section ≡ section (t .figures)
+
+abbrev pub quarterOf : Step → Quarter
+quarterOf t = quarter (t .price) (t .opens)
+
+-- the outputs
+abbrev pub laddered : Step → ℕ → Ladder
+laddered t s = ladderOf (t .figures) (t .price) (startPays (t .figures) s)
+
+pub record OnAsked (t : Step) (cells : List ℤ) (s : ℕ) (p : Piece) : Type 0 where
+  pub over : Over t
+  pub marks : t .width + t .width ≤ length cells
+  pub piece-of : PieceOf (t .figures) p
+  pub small : (c : Cell) → InTable (t .figures) c → c .state ≡ afterOn (t .figures) s → columnOf (t .figures) c < p .column + p .count
+      → natAbs (valueOf (t .figures) (t .width) cells c) ≤ 2 ^ 62
+  pub state : s < states (t .figures)
+  pub leads : afterOn (t .figures) s < states (t .figures)
+
+-- the i-th place of a piece: an interval on from the cell that stands there
+abbrev pub OnOf : Step → List ℤ → ℕ → Piece → ℕ → ℤ → ℤ → Type 0
+OnOf t cells s p i v m =
+    (c : Cell) → Here (t .figures) s (p .column + i) c
+    → OnPicked (t .figures) (valueOf (t .figures) (t .width) cells) (markOf (t .figures) (t .width) cells) (t .price) c v m

@@ -6,7 +6,6 @@ use mathlib.Core.Bool.{cond, _&&_}
 use lib.Dec.{eqb}
 use lib.IntN.{ℤ, pos, _+ℤ_}
 use lib.ListN.{length, getD}
-use Rattle.commitment.specs.declared.windows.Hours.{Hours}
 use Rattle.commitment.specs.Windows.{Clocked}
 use Rattle.commitment.specs.Ranges.{Priced}
 use Rattle.commitment.specs.Bounds.{mostIntervals}
@@ -19,6 +18,7 @@ use Rattle.optimality.specs.Machine.{Quarter, go, inQuarter, walk}
 use Rattle.optimality.specs.Cells.{Sound, InTable, less, cellStep, planAt, valueAt}
 use Rattle.geometry.specs.Geometry.{width, index}
 use Rattle.geometry.specs.Layers.{Layer}
+use Rattle.marks.specs.declared.Frame.{Frame}
 use Rattle.marks.specs.Lines.{valueOf, markOf}
 
 -- its outputs over the quarters in front lead from c to `at`, and from there it goes on as the plan of the later ones
@@ -46,18 +46,18 @@ pub record MarkedLayer (f : Figures) (ends : Cell → BestProfit) (front later :
 -- ---- several intervals
 
 -- a layer stands in front, and so many intervals are to go before it
-pub record SweepAsked (f : Figures) (w : ℕ) (cells prices : List ℤ) (hours : Hours) (from to : ℕ) : Type 0 where
-  pub sound : Sound f
-  pub wide : w ≡ width f
-  pub marks : w + w ≤ length cells
+pub record SweepAsked (g : Frame) (cells prices : List ℤ) (from to : ℕ) : Type 0 where
+  pub sound : Sound (g .figures)
+  pub wide : g .width ≡ width (g .figures)
+  pub marks : g .width + g .width ≤ length cells
   pub priced : Priced prices
-  pub clocked : Clocked hours
+  pub clocked : Clocked (g .hours)
   pub ordered : from ≤ to
   pub inside : to ≤ length prices
   pub short : length prices ≤ mostIntervals
   pub ends : Cell → BestProfit
   pub later : List Quarter
-  pub layer : Layer f ends later (valueOf f w cells)
+  pub layer : Layer (g .figures) ends later (valueOf (g .figures) (g .width) cells)
   pub few : length later + (to - from) ≤ mostIntervals
 
 -- whatever the layer said, the layer before these quarters stands there, each cell marked as the cell was where its plan stands after them

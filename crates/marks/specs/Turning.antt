@@ -10,13 +10,14 @@ use lib.Signed.{_≤ℤ_}
 use Rattle.optimality.specs.declared.Cell.{Cell}
 use Rattle.optimality.specs.declared.Figures.{Figures}
 use Rattle.optimality.specs.Machine.{Quarter}
-use Rattle.optimality.specs.Cells.{Sound, InTable, states, afterOff, offCell}
-use Rattle.geometry.specs.Geometry.{row, span, section, width}
+use Rattle.optimality.specs.Cells.{InTable, states, afterOff, offCell}
 use Rattle.geometry.specs.Layers.{infeasible}
-use Rattle.intervals.specs.Turns.{Interval, offStored}
+use Rattle.intervals.specs.Turns.{offStored}
 use Rattle.carrying.specs.Pairs.{Larger}
-use Rattle.marks.specs.Lines.{valueOf, markOf, columnOf, OnPicked, OfPiece, WholeChunks, OnAsked}
-use Rattle.carrying.specs.Images.{piece, Imaged}
+use Rattle.carrying.specs.Images.{Imaged}
+use Rattle.marks.specs.declared.Step.{Step}
+use Rattle.marks.specs.declared.Piece.{Piece}
+use Rattle.marks.specs.Lines.{valueOf, markOf, columnOf, quarterOf, OnPicked, Here, PieceOf, Over, OnAsked}
 
 -- the interval off; past the last state there is no mark to take over
 pub record OffAt (f : Figures) (stored marked : Cell → ℤ) (c : Cell) (v m : ℤ) : Type 0 where
@@ -42,61 +43,56 @@ pub record Turn (f : Figures) (q : Quarter) (stored marked : Cell → ℤ) (c : 
 abbrev pub MovedAt : ℕ → List ℤ → ℕ → ℕ → ℤ → ℤ → Type 0
 MovedAt w was from i v m = (v ≡ getD was (from + i) (pos 0)) × (m ≡ getD was (w + (from + i)) (pos 0))
 
--- the i-th place of a plane's stretch: of every cell that stands there
-abbrev pub OnHere : Figures → Quarter → ℕ → List ℤ → ℕ → ℕ → ℕ → ℕ → ℕ → ℤ → ℤ → Type 0
-OnHere f q w cells s x y place i v m = (c : Cell) → OfPiece f s x y place i c → OnAt f q (valueOf f w cells) (markOf f w cells) c v m
+-- the i-th place of a piece: what the cell that stands there gets of an interval off, on, and of both
+module _ (t : Step) (cells : List ℤ) (s : ℕ) (p : Piece) where
+  abbrev pub OffHere : ℕ → ℤ → ℤ → Type 0
+  OffHere i v m =
+      (c : Cell) → Here (t .figures) s (p .column + i) c
+      → OffAt (t .figures) (valueOf (t .figures) (t .width) cells) (markOf (t .figures) (t .width) cells) c v m
 
--- by its column
-abbrev pub OffHere : Figures → ℕ → List ℤ → ℕ → ℕ → ℕ → ℤ → ℤ → Type 0
-OffHere f w cells s column i v m =
-    (c : Cell) → InTable f c → c .state ≡ s → columnOf f c ≡ column + i → OffAt f (valueOf f w cells) (markOf f w cells) c v m
+  abbrev pub OnHere : ℕ → ℤ → ℤ → Type 0
+  OnHere i v m =
+      (c : Cell) → Here (t .figures) s (p .column + i) c
+      → OnAt (t .figures) (quarterOf t) (valueOf (t .figures) (t .width) cells) (markOf (t .figures) (t .width) cells) c v m
 
--- what is aside serves for the oldest state that is on, where it is not the only one
-abbrev pub ServesFor : Figures → Quarter → ℕ → List ℤ → ℕ → ℕ → ℕ → ℕ → List ℤ → ℕ → Type 0
-ServesFor f q w cells s x y place aside count = 0 < s → s + 1 ≡ f .mot → Imaged (OnHere f q w cells s x y place) aside aside count
+  abbrev pub TurnHere : ℕ → ℤ → ℤ → Type 0
+  TurnHere i v m =
+      (c : Cell) → Here (t .figures) s (p .column + i) c
+      → Turn (t .figures) (quarterOf t) (valueOf (t .figures) (t .width) cells) (markOf (t .figures) (t .width) cells) c v m
 
-abbrev pub TurnHere : Figures → Quarter → ℕ → List ℤ → ℕ → ℕ → ℕ → ℕ → ℕ → ℤ → ℤ → Type 0
-TurnHere f q w cells s x y place i v m = (c : Cell) → OfPiece f s x y place i c → Turn f q (valueOf f w cells) (markOf f w cells) c v m
+  -- what is aside serves for the oldest state that is on, where it is not the only one
+  abbrev pub ServesFor : List ℤ → Type 0
+  ServesFor aside = 0 < s → s + 1 ≡ t .figures .mot → Imaged OnHere aside aside (p .count)
 
--- a piece of a line, by its column
-pub record InColumn (f : Figures) (x y place sections column count : ℕ) : Type 0 where
-  pub sections-are : sections ≡ section f
-  pub column-is : column ≡ x * span f + (y * row f + place)
-  pub fits : column + count ≤ section f
+-- as it was
+abbrev pub Kept : Figures → ℕ → List ℤ → List ℤ → Cell → Type 0
+Kept f w was now c = (valueOf f w now c ≡ valueOf f w was c) × (markOf f w now c ≡ markOf f w was c)
 
 -- a piece on the way: of the states below s its cells are turned, and all else is as it was
-module _ (f : Figures) (q : Quarter) (w : ℕ) (was now : List ℤ) where
-  abbrev pub Kept : Cell → Type 0
-  Kept c = (valueOf f w now c ≡ valueOf f w was c) × (markOf f w now c ≡ markOf f w was c)
-
-  pub record Partly (x y place column count s : ℕ) : Type 0 where
-    pub same : length now ≡ length was
-    pub done : (i : ℕ) → i < count → (c : Cell) → OfPiece f (c .state) x y place i c → c .state < s
-        → Turn f q (valueOf f w was) (markOf f w was) c (valueOf f w now c) (markOf f w now c)
-    pub rest : (c : Cell) → InTable f c → s ≤ c .state → Kept c
-    pub apart : (c : Cell) → InTable f c → (columnOf f c < column) ⊎ (column + count ≤ columnOf f c) → Kept c
-    pub beyond : (j : ℕ) → w + w ≤ j → getD now j (pos 0) ≡ getD was j (pos 0)
+pub record Partly (t : Step) (was now : List ℤ) (p : Piece) (s : ℕ) : Type 0 where
+  pub same : length now ≡ length was
+  pub done : (i : ℕ) → i < p .count → (c : Cell) → Here (t .figures) (c .state) (p .column + i) c → c .state < s
+      → Turn (t .figures) (quarterOf t) (valueOf (t .figures) (t .width) was) (markOf (t .figures) (t .width) was) c
+      (valueOf (t .figures) (t .width) now c) (markOf (t .figures) (t .width) now c)
+  pub rest : (c : Cell) → InTable (t .figures) c → s ≤ c .state → Kept (t .figures) (t .width) was now c
+  pub apart : (c : Cell) → InTable (t .figures) c → (columnOf (t .figures) c < p .column) ⊎ (p .column + p .count ≤ columnOf (t .figures) c)
+      → Kept (t .figures) (t .width) was now c
+  pub beyond : (j : ℕ) → t .width + t .width ≤ j → getD now j (pos 0) ≡ getD was j (pos 0)
 
 -- what an interval asks of one state of a piece, that is not the last
-pub record StateAsked (f : Figures) (w : ℕ) (cells : List ℤ) (price : ℤ) (s x y place sections column count : ℕ) : Type 0 where
-  pub sound : Sound f
-  pub wide : w ≡ width f
-  pub marks : w + w ≤ length cells
-  pub inner : s + 1 < states f
-  pub on : s < f .mot → OnAsked f w cells price s x y place count
-  pub floored : (c : Cell) → InTable f c → s < c .state → columnOf f c < column + count → infeasible ≤ℤ valueOf f w cells c
-  pub few : count ≤ piece
-  pub columns : InColumn f x y place sections column count
+pub record StateAsked (t : Step) (cells : List ℤ) (s : ℕ) (p : Piece) : Type 0 where
+  pub over : Over t
+  pub marks : t .width + t .width ≤ length cells
+  pub piece-of : PieceOf (t .figures) p
+  pub inner : s + 1 < states (t .figures)
+  pub on : s < t .figures .mot → OnAsked t cells s p
+  pub floored : (c : Cell) → InTable (t .figures) c → s < c .state → columnOf (t .figures) c < p .column + p .count
+      → infeasible ≤ℤ valueOf (t .figures) (t .width) cells c
 
 -- what an interval asks of a piece
-pub record PieceAsked (f : Figures) (w : ℕ) (cells : List ℤ) (price : ℤ) (x y place sections column count : ℕ) : Type 0 where
-  pub interval : Interval f price
-  pub wide : w ≡ width f
-  pub marks : w + w ≤ length cells
-  pub small : (c : Cell) → InTable f c → columnOf f c < column + count → natAbs (valueOf f w cells c) ≤ 2 ^ 62
-  pub starts : x ≤ f .most .starts
-  pub some : 1 ≤ count
-  pub few : count ≤ piece
-  pub flat : f .takes .blocks ≡ 0 → (y ≡ 0) × (place + count ≤ span f)
-  pub lined : f .takes .blocks ≡ 1 → (y ≤ f .most .ons) × (place + count ≤ row f) × ((place + count ≤ f .pmin) ⊎ WholeChunks f place count)
-  pub columns : InColumn f x y place sections column count
+pub record PieceAsked (t : Step) (cells : List ℤ) (p : Piece) : Type 0 where
+  pub over : Over t
+  pub marks : t .width + t .width ≤ length cells
+  pub piece-of : PieceOf (t .figures) p
+  pub small : (c : Cell) → InTable (t .figures) c → columnOf (t .figures) c < p .column + p .count
+      → natAbs (valueOf (t .figures) (t .width) cells c) ≤ 2 ^ 62

@@ -1,149 +1,116 @@
 // An interval on, for the cells of a piece of a line.
 
+use crate::Piece;
+use crate::Step;
 use carrying::images;
 use intervals::rows;
 use intervals::rows::Ladder;
 use intervals::steps;
-use optimality::Figures;
 ghost use mathlib.Core.Path.{_≡_};
 ghost use Prim.Native.Nat.{_+_, _≤_, _<_};
 ghost use lib.ListN.{length};
 ghost use Rattle.carrying.specs.Images.{piece, Imaged};
-ghost use Rattle.marks.specs.Lines.{FlatLine, FlatAt, OnAsked, OnOf, Behind, lineOf};
-ghost use Rattle.optimality.specs.Cells.{Sound, states, afterOn, startTakes};
+ghost use Rattle.marks.specs.Lines.{FlatLine, FlatAt, Over, OnAsked, OnOf, laddered, lineOf, skippedOf};
+ghost use Rattle.optimality.specs.Cells.{states, afterOn};
 
-// Where every output leads to the same cell, `skipped` places before.
-fn flat(
-    cells: &[i64],
-    w: usize,
-    line: usize,
-    skipped: usize,
-    place: usize,
-    count: usize,
-    gain: i64,
-    out: &mut [i64],
-)
-    requires { ⌜ (FlatLine (now cells) w line place count gain) × (count ≤ piece) × (piece + piece ≤ length (now out)) ⌝ }
-    ensures { λ _. ⌜ Imaged (FlatAt (now (cells .entry)) w line skipped place gain) (now (out .entry)) (now (out .exit)) count ⌝ }
+// Where every output leads to the same cell: so many places back on a line, for the same gain.
+pub struct Back {
+    pub line: usize,
+    pub skipped: usize,
+    pub gain: i64,
+}
+
+// The first places have no cell to lead to.
+fn flat(cells: &[i64], w: usize, b: Back, p: Piece, out: &mut [i64])
+    requires { ⌜ (FlatLine (now cells) w b p) × (piece + piece ≤ length (now out)) ⌝ }
+    ensures { λ _. ⌜ Imaged (FlatAt (now (cells .entry)) w b (p .place)) (now (out .entry)) (now (out .exit)) (p .count) ⌝ }
 {
-    let lead = integers::smaller(count, skipped - integers::smaller(skipped, place));
+    let count = p.count;
+    let lead = integers::smaller(count, b.skipped - integers::smaller(b.skipped, p.place));
     images::nothing(&mut *out, lead);
     if lead < count {
         images::shifted(
             cells,
             w,
-            line + (place + lead - skipped),
+            b.line + (p.place + lead - b.skipped),
             count - lead,
-            gain,
+            b.gain,
             out,
             lead,
         );
     }
 }
 
-// The line that an interval on leads to from the spans of x starts left.
-fn line_behind(f: Figures, s: usize, x: usize) -> usize
-    requires { ⌜ (Sound f) × (s < states f) × (afterOn f s < states f) × (startTakes f s ≤ x) × (x ≤ f .most .starts) ⌝ }
-    ensures { λ r. ⌜ r ≡ lineOf f s x ⌝ }
+// Where the line begins that an interval on leads to, from a line that begins with x starts left.
+fn line_behind(t: Step, s: usize, x: usize) -> usize
+    requires { ⌜ (Over t) × (s < states (t .figures)) × (afterOn (t .figures) s < states (t .figures)) × (x ≤ t .figures .most .starts) ⌝ }
+    ensures { λ r. ⌜ r ≡ lineOf (t .figures) s x ⌝ }
 {
-    let section = geometry::section_cells(f);
+    let f = t.figures;
     let span = geometry::span_cells(f);
-    let left = x - steps::start_takes(f, s);
-    steps::after_on(f, s) * section + left * span
+    let left = x - integers::smaller(x, steps::start_takes(f, s));
+    steps::after_on(f, s) * t.section + left * span
+}
+
+// The places of a line without an interval on, MWh not limited: a span for each start that it lacks where it begins, and a row for an on-interval.
+fn skipped_before(t: Step, s: usize, x: usize) -> usize
+    requires { ⌜ Over t ⌝ }
+    ensures { λ r. ⌜ r ≡ skippedOf (t .figures) s x ⌝ }
+{
+    let f = t.figures;
+    let takes = steps::start_takes(f, s);
+    let lacks = takes - integers::smaller(takes, x);
+    lacks * geometry::span_cells(f) + f.takes.ons * geometry::row_cells(f)
 }
 
 // MWh not limited.
-fn flat_image(
-    cells: &[i64],
-    w: usize,
-    f: Figures,
-    price: i64,
-    s: usize,
-    x: usize,
-    line: usize,
-    l: Ladder,
-    place: usize,
-    count: usize,
-    out: &mut [i64],
-)
-    requires { ⌜ (OnAsked f w (now cells) price s x 0 place count) × (f .takes .blocks ≡ 0) × (piece + piece ≤ length (now out)) ⌝ }
-    requires { ⌜ Behind f price s x line l ⌝ }
-    ensures { λ _. ⌜ Imaged (OnOf f w (now (cells .entry)) price s x 0 place) (now (out .entry)) (now (out .exit)) count ⌝ }
+fn flat_image(cells: &[i64], t: Step, s: usize, p: Piece, l: Ladder, out: &mut [i64])
+    requires { ⌜ (OnAsked t (now cells) s p) × (t .figures .takes .blocks ≡ 0) × (piece + piece ≤ length (now out)) ⌝ }
+    requires { ⌜ l ≡ laddered t s ⌝ }
+    ensures { λ _. ⌜ Imaged (OnOf t (now (cells .entry)) s p) (now (out .entry)) (now (out .exit)) (p .count) ⌝ }
 {
-    let skipped = f.takes.ons * geometry::row_cells(f);
-    flat(
-        cells,
-        w,
-        line,
-        skipped,
-        place,
-        count,
-        rows::better_end(l),
-        out,
-    );
+    let back = Back {
+        line: line_behind(t, s, p.starts),
+        skipped: skipped_before(t, s, p.starts),
+        gain: rows::better_end(l),
+    };
+    flat(cells, t.width, back, p, out);
 }
 
 // MWh limited.
-fn lined_image(
-    cells: &[i64],
-    w: usize,
-    f: Figures,
-    price: i64,
-    s: usize,
-    x: usize,
-    y: usize,
-    line: usize,
-    l: Ladder,
-    place: usize,
-    count: usize,
-    out: &mut [i64],
-)
-    requires { ⌜ (OnAsked f w (now cells) price s x y place count) × (f .takes .blocks ≡ 1) × (piece + piece ≤ length (now out)) ⌝ }
-    requires { ⌜ Behind f price s x line l ⌝ }
-    ensures { λ _. ⌜ Imaged (OnOf f w (now (cells .entry)) price s x y place) (now (out .entry)) (now (out .exit)) count ⌝ }
+fn lined_image(cells: &[i64], t: Step, s: usize, p: Piece, l: Ladder, out: &mut [i64])
+    requires { ⌜ (OnAsked t (now cells) s p) × (t .figures .takes .blocks ≡ 1) × (piece + piece ≤ length (now out)) ⌝ }
+    requires { ⌜ l ≡ laddered t s ⌝ }
+    ensures { λ _. ⌜ Imaged (OnOf t (now (cells .entry)) s p) (now (out .entry)) (now (out .exit)) (p .count) ⌝ }
 {
-    let low = l.low;
-    if (y < f.takes.ons) | (place < low) {
-        images::nothing(out, count);
+    let f = t.figures;
+    if (p.starts < steps::start_takes(f, s)) | (p.ons < f.takes.ons) | (p.place < l.low) {
+        images::nothing(out, p.count);
     } else {
+        let line = line_behind(t, s, p.starts);
         let row = geometry::row_cells(f);
         images::windows(
             cells,
-            w,
-            line + (y - f.takes.ons) * row,
-            place,
-            count,
+            t.width,
+            line + (p.ons - f.takes.ons) * row,
+            p.place,
+            p.count,
             l,
             out,
         );
     }
 }
 
-// An interval on from state s, for a piece of the line of x starts left, and of y on-intervals left where MWh is limited.
-pub fn image(
-    cells: &[i64],
-    w: usize,
-    f: Figures,
-    price: i64,
-    s: usize,
-    x: usize,
-    y: usize,
-    place: usize,
-    count: usize,
-    out: &mut [i64],
-)
-    requires { ⌜ (OnAsked f w (now cells) price s x y place count) × (piece + piece ≤ length (now out)) ⌝ }
-    ensures { λ _. ⌜ Imaged (OnOf f w (now (cells .entry)) price s x y place) (now (out .entry)) (now (out .exit)) count ⌝ }
+// An interval on from state s, for a piece of a line.
+pub fn image(cells: &[i64], t: Step, s: usize, p: Piece, out: &mut [i64])
+    requires { ⌜ (OnAsked t (now cells) s p) × (piece + piece ≤ length (now out)) ⌝ }
+    ensures { λ _. ⌜ Imaged (OnOf t (now (cells .entry)) s p) (now (out .entry)) (now (out .exit)) (p .count) ⌝ }
 {
-    if x < steps::start_takes(f, s) {
-        images::nothing(out, count);
-        return;
-    }
-    let l = steps::ladder(f, price, steps::start_pays(f, s));
-    let line = line_behind(f, s, x);
+    let f = t.figures;
+    let l = steps::ladder(f, t.price, steps::start_pays(f, s));
     if f.takes.blocks == 0 {
-        flat_image(cells, w, f, price, s, x, line, l, place, count, out);
+        flat_image(cells, t, s, p, l, out);
     } else {
-        lined_image(cells, w, f, price, s, x, y, line, l, place, count, out);
+        lined_image(cells, t, s, p, l, out);
     }
 }

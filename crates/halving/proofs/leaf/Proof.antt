@@ -24,92 +24,96 @@ use borrow.Author.Needs.{needs}
 use Rattle.halving.proofs.leaf.Statement.{statement}
 use Rattle.halving.proofs.leaf.Tie as tie
 
-asked : (c : tie.Start) →
-    let a = c .args in
-    Leaf (a .f) (a .prices .now) (a .hours) (a .from) (a .to) (a .w) (a .c) (a .end) (length (a .cells .now)) (length (a .schedule .now))
+asked : (c : tie.Start) → let a = c .args in Leaf (a .g) (a .prices .now) (a .t) (length (a .cells .now)) (length (a .schedule .now))
 asked c = c .pre
 
 -- the prices and the quarters, and how many they are
 abbrev pricesHere : tie.Start → List ℤ
-pricesHere c = pricesOf (c .args .prices .now) (c .args .from) (c .args .to)
+pricesHere c = pricesOf (c .args .prices .now) (c .args .t .from) (c .args .t .to)
 
 abbrev quartersHere : tie.Start → List Quarter
-quartersHere c = quartersOn (c .args .hours) (c .args .from) (pricesHere c)
+quartersHere c = quartersOn (c .args .g .hours) (c .args .t .from) (pricesHere c)
 
-long : (c : tie.Start) → length (pricesHere c) ≡ c .args .to - c .args .from
-long c = let k = asked c .asked in prices-long (c .args .prices .now) (c .args .from) (c .args .to) (k .ordered) (k .inside)
+long : (c : tie.Start) → length (pricesHere c) ≡ c .args .t .to - c .args .t .from
+long c = let k = asked c .given .asked in prices-long (c .args .prices .now) (c .args .t .from) (c .args .t .to) (k .ordered) (k .inside)
 
 as-many : (c : tie.Start) → length (quartersHere c) ≡ length (pricesHere c)
-as-many c = quarters-length (opens (c .args .hours)) (c .args .from) (pricesHere c)
+as-many c = quarters-length (opens (c .args .g .hours)) (c .args .t .from) (pricesHere c)
 
 -- where the last layer stands
-behind : (c : tie.Start) → length (pricesHere c) * width (c .args .f) ≡ (c .args .to - c .args .from) * c .args .w
+behind : (c : tie.Start) → length (pricesHere c) * width (c .args .g .figures) ≡ (c .args .t .to - c .args .t .from) * c .args .g .width
 behind c = ap₂ (λ (x y : ℕ). x * y) (long c) (sym (asked c .wide))
 
-room : (c : tie.Start) (n : ℕ) → n ≡ length (c .args .cells .now) → Room (c .args .f) (length (pricesHere c)) n
+room : (c : tie.Start) (n : ℕ) → n ≡ length (c .args .cells .now) → Room (c .args .g .figures) (length (pricesHere c)) n
 room c n e =
     let k = asked c in
     record {
-      sound = k .asked .sound;
-      short = omega (arith, long c, k .asked .inside, k .asked .short);
+      sound = k .given .asked .sound;
+      short = omega (arith, long c, k .given .asked .inside, k .given .asked .short);
       fits = omega (arith, behind c, e, k .fits, k .wide);
     }
 
 -- the last layer
 last : (c : tie.After-put-end) →
-    let a = c .before .before .before .args in
-    Layer (a .f) (endsBy (a .end)) [] (storedAt (a .f) (c .put-end .last .0) (length (pricesHere (c .before .before .before)) * width (a .f)))
-last c =
-    let o = c .before .before .before in
+    let o = c .before .before .before .before in
     let a = o .args in
-    subst (λ (n : ℕ). Layer (a .f) (endsBy (a .end)) [] (storedAt (a .f) (c .put-end .last .0) n)) (sym (behind o)) (c .put-end .ensures .0)
+    let f = a .g .figures in
+    Layer f (endsBy (a .t .end)) [] (storedAt f (c .put-end .last .0) (length (pricesHere o) * width f))
+last c =
+    let o = c .before .before .before .before in
+    let a = o .args in
+    let f = a .g .figures in
+    subst (λ (n : ℕ). Layer f (endsBy (a .t .end)) [] (storedAt f (c .put-end .last .0) n)) (sym (behind o)) (c .put-end .ensures .0)
 
 fill-requires : tie.Need-fill-requires
 fill-requires c κs =
     let put = c .before .before .before in
-    let o = put .before .before .before in
+    let o = put .before .before .before .before in
     let a = o .args in
     let k = asked o in (
       (
         room o _ (put .put-end .kept .0),
         k .wide,
-        prices-in-range (a .prices .now) (a .from) (a .to) (k .asked .ordered) (k .asked .inside) (k .asked .priced),
-        k .asked .clocked,
+        prices-in-range (a .prices .now) (a .t .from) (a .t .to) (k .given .asked .ordered) (k .given .asked .inside) (k .given .asked .priced),
+        k .given .asked .clocked,
       ),
-      (record { ends = endsBy (a .end); last = last put }, omega (arith, long o, k .asked .ordered, k .asked .inside, k .asked .short)),
+      (record { ends = endsBy (a .t .end); last = last put }, omega (arith, long o, k .given .asked .ordered, k .given .asked .inside, k .given .asked .short)),
     )
 
 -- the table that is filled, and the plan in it
 plans : (c : tie.After-fill) →
-    let o = c .before .before .before .before .before .before .before in
+    let o = c .before .before .before .before .before .before .before .before in
     let a = o .args in
-    PlanFrom (a .f) (endsBy (a .end)) (pricesHere o) (c .fill .last .0) (a .c) (quartersHere o)
+    PlanFrom (a .g .figures) (endsBy (a .t .end)) (pricesHere o) (c .fill .last .0) (a .t .cell) (quartersHere o)
 plans c =
     let put = c .before .before .before .before in
-    let o = put .before .before .before in
+    let o = put .before .before .before .before in
     let a = o .args in
     record {
-      priced = quarters-priced (opens (a .hours)) (a .from) (pricesHere o);
-      filled = c .fill .ensures .0 (endsBy (a .end)) (rw (as-many o) (last put));
-      some = subst (λ (qs : List Quarter). valueAt (a .f) (endsBy (a .end)) qs (a .c) ≡ Nothing → ⊥)
-          (quarters-of (a .hours) (a .prices .now) (a .from) (a .to))
-          (asked o .some);
+      priced = quarters-priced (opens (a .g .hours)) (a .t .from) (pricesHere o);
+      filled = c .fill .ensures .0 (endsBy (a .t .end)) (rw (as-many o) (last put));
+      some = subst (λ (qs : List Quarter). valueAt (a .g .figures) (endsBy (a .t .end)) qs (a .t .cell) ≡ Nothing → ⊥)
+          (quarters-of (a .g .hours) (a .prices .now) (a .t .from) (a .t .to))
+          (asked o .given .some);
     }
 
 read-off-requires : tie.Need-read-off-requires
 read-off-requires c κs =
     let filled = c .before .before .before in
     let put = filled .before .before .before .before in
-    let o = put .before .before .before in
+    let o = put .before .before .before .before in
     let a = o .args in
     let k = asked o in
-    let part = ap (λ (xs : List ℕ). length xs) (tail-part (a .from) (a .schedule .now)) in (
+    let part = ap (λ (xs : List ℕ). length xs) (tail-part (a .t .from) (a .schedule .now)) in (
       (
         room o _ (filled .fill .kept .0 ∙ put .put-end .kept .0),
         k .wide,
-        prices-in-range (a .prices .now) (a .from) (a .to) (k .asked .ordered) (k .asked .inside) (k .asked .priced),
+        prices-in-range (a .prices .now) (a .t .from) (a .t .to) (k .given .asked .ordered) (k .given .asked .inside) (k .given .asked .priced),
       ),
-      ((endsBy (a .end), quartersHere o, plans filled), (k .here, omega (arith, part, long o, length-drop (a .from) (a .schedule .now), k .long))),
+      (
+        (endsBy (a .t .end), quartersHere o, plans filled),
+        (k .given .here, omega (arith, part, long o, length-drop (a .t .from) (a .schedule .now), k .given .long)),
+      ),
     )
 
 returns : tie.Need-returns
@@ -117,26 +121,26 @@ returns c =
     let read = c .before .before in
     let filled = read .before .before .before .before in
     let put = filled .before .before .before .before in
-    let o = put .before .before .before in
+    let o = put .before .before .before .before in
     let a = o .args in
     let k = asked o in
-    let r = read .read-off .ensures .0 (endsBy (a .end)) (quartersHere o) (plans filled) in
-    let same : quartersHere o ≡ between (quartersIn (a .hours) (a .prices .now)) (a .from) (a .to) =
-    sym (quarters-of (a .hours) (a .prices .now) (a .from) (a .to)) in
-    let plan : planAt (a .f) (endsBy (a .end)) (quartersHere o) (a .c) ≡ planOf (a .f) (a .prices .now) (a .hours) (a .from) (a .to) (a .c) (a .end) =
-    ap (λ (qs : List Quarter). planAt (a .f) (endsBy (a .end)) qs (a .c)) same in (
+    let r = read .read-off .ensures .0 (endsBy (a .t .end)) (quartersHere o) (plans filled) in
+    let same : quartersHere o ≡ between (quartersIn (a .g .hours) (a .prices .now)) (a .t .from) (a .t .to) =
+    sym (quarters-of (a .g .hours) (a .prices .now) (a .t .from) (a .t .to)) in
+    let plan : planAt (a .g .figures) (endsBy (a .t .end)) (quartersHere o) (a .t .cell) ≡ planOf (a .g .figures) (a .prices .now) (a .g .hours) (a .t) =
+    ap (λ (qs : List Quarter). planAt (a .g .figures) (endsBy (a .t .end)) qs (a .t .cell)) same in (
       record {
         written =
-            part-written (a .schedule .now) (a .from) (a .to) (k .asked .ordered) (k .long) _ _
-            (scheduleOf (planOf (a .f) (a .prices .now) (a .hours) (a .from) (a .to) (a .c) (a .end))) (tail-part (a .from) (a .schedule .now))
+            part-written (a .schedule .now) (a .t .from) (a .t .to) (k .given .asked .ordered) (k .given .long) _ _
+            (scheduleOf (planOf (a .g .figures) (a .prices .now) (a .g .hours) (a .t))) (tail-part (a .t .from) (a .schedule .now))
             (r .0
-            ∙ ap₂ (λ (p : Plan) (n : ℕ). scheduleOf p ++ drop n (take (length (a .schedule .now) - a .from) (drop (a .from) (a .schedule .now)))) plan
+            ∙ ap₂ (λ (p : Plan) (n : ℕ). scheduleOf p ++ drop n (take (length (a .schedule .now) - a .t .from) (drop (a .t .from) (a .schedule .now)))) plan
             (as-many o ∙ long o));
-        tried = r .1 ∙ ap (λ (p : Plan). triesOver (a .f .block) (a .f .pmin) (scheduleOf p)) plan;
+        tried = r .1 ∙ ap (λ (p : Plan). triesOver (a .g .figures .block) (a .g .figures .pmin) (scheduleOf p)) plan;
         few = rw (long o) at (read .read-off .ensures .1);
       },
       λ j h.
-          same-beyond (length (pricesHere o) * a .w) _ _ (filled .fill .ensures .1) j (omega (arith, h, ap (λ (n : ℕ). n * a .w) (long o)))
+          same-beyond (length (pricesHere o) * a .g .width) _ _ (filled .fill .ensures .1) j (omega (arith, h, ap (λ (n : ℕ). n * a .g .width) (long o)))
           ∙ put .put-end .ensures .1 j (inr (omega (arith, h))),
     )
 

@@ -25,30 +25,31 @@ use Rattle.halving.proofs.pass.Tie as tie
 
 asked : (c : tie.Start) →
     let a = c .args in
-    PassAsked (a .f) (a .prices .now) (a .hours) (a .from) (a .to) (a .w) (a .end) (length (a .cells .now))
+    PassAsked (a .g) (a .prices .now) (a .from) (a .to) (a .end) (length (a .cells .now))
 asked c = c .pre
 
 -- where the middle lies
-middle : (c : tie.After-midway) → (c .before .args .from ≤ c .midway .result) × (c .midway .result < c .before .args .to)
+middle : (c : tie.After-midway) → let a = c .before .before .args in (a .from ≤ c .midway .result) × (c .midway .result < a .to)
 middle c =
-    let a = c .before .args in
+    let o = c .before .before in
+    let a = o .args in
     let e = c .midway .ensures in
-    (omega (arith, e, asked (c .before) .asked .ordered), omega (arith, e, middle-before (a .from) (a .to) (asked (c .before) .some)))
+    (omega (arith, e, asked o .asked .ordered), omega (arith, e, middle-before (a .from) (a .to) (asked o .some)))
 
 -- the layer that is put behind
 last : (c : tie.After-put-end) →
-    let a = c .before .before .before .args in
-    Layer (a .f) (endsBy (a .end)) [] (storedAt (a .f) (c .put-end .last .0) (width (a .f)))
+    let a = c .before .before .before .before .args in
+    Layer (a .g .figures) (endsBy (a .end)) [] (storedAt (a .g .figures) (c .put-end .last .0) (width (a .g .figures)))
 last c =
-    let o = c .before .before .before in
+    let o = c .before .before .before .before in
     let a = o .args in
-    subst (λ (n : ℕ). Layer (a .f) (endsBy (a .end)) [] (storedAt (a .f) (c .put-end .last .0) n)) (asked o .wide) (c .put-end .ensures .0)
+    subst (λ (n : ℕ). Layer (a .g .figures) (endsBy (a .end)) [] (storedAt (a .g .figures) (c .put-end .last .0) n)) (asked o .wide) (c .put-end .ensures .0)
 
 roll-requires : tie.Need-roll-requires
 roll-requires c κs =
     let put = c .before .before in
     let mid = put .before .before in
-    let o = mid .before in
+    let o = mid .before .before in
     let k = asked o in
     record {
       sound = k .asked .sound;
@@ -64,26 +65,26 @@ roll-requires c κs =
 
 -- the later quarters, and the layer before them
 abbrev laterQuarters : tie.After-midway → List Quarter
-laterQuarters c = let a = c .before .args in between (quartersIn (a .hours) (a .prices .now)) (c .midway .result) (a .to)
+laterQuarters c = let a = c .before .before .args in between (quartersIn (a .g .hours) (a .prices .now)) (c .midway .result) (a .to)
 
-later-long : (c : tie.After-midway) → length (laterQuarters c) ≡ c .before .args .to - c .midway .result
+later-long : (c : tie.After-midway) → length (laterQuarters c) ≡ c .before .before .args .to - c .midway .result
 later-long c =
-    let a = c .before .args in
-    between-length (quartersIn (a .hours) (a .prices .now)) (c .midway .result) (a .to) (omega (arith, middle c))
-    (omega (arith, quarters-length (opens (a .hours)) 0 (a .prices .now), asked (c .before) .asked .inside))
+    let a = c .before .before .args in
+    between-length (quartersIn (a .g .hours) (a .prices .now)) (c .midway .result) (a .to) (omega (arith, middle c))
+    (omega (arith, quarters-length (opens (a .g .hours)) 0 (a .prices .now), asked (c .before .before) .asked .inside))
 
 layer : (c : tie.After-roll) →
     let mid = c .before .before .before .before .before in
-    let a = mid .before .args in
-    Layer (a .f) (endsBy (a .end)) (laterQuarters mid) (valueOf (a .f) (a .w) (c .roll .last .0))
-layer c = let put = c .before .before .before in c .roll .ensures .0 (endsBy (put .before .before .before .args .end)) (last put)
+    let a = mid .before .before .args in
+    Layer (a .g .figures) (endsBy (a .end)) (laterQuarters mid) (valueOf (a .g .figures) (a .g .width) (c .roll .last .0))
+layer c = let put = c .before .before .before in c .roll .ensures .0 (endsBy (put .before .before .before .before .args .end)) (last put)
 
 mark-requires : tie.Need-mark-requires
 mark-requires c κs =
     let rolled = c .before .before .before .before in
     let put = rolled .before .before .before in
     let mid = put .before .before in
-    let o = mid .before in
+    let o = mid .before .before in
     let a = o .args in
     let k = asked o in
     let m = middle mid in (
@@ -101,7 +102,7 @@ mark-requires c κs =
         layer = layer rolled;
         few = omega (arith, later-long mid, m, k .asked .inside, k .asked .short);
       },
-      (omega arith, omega arith, rw (k .wide) (lt-of-le-of-lt (width-most (a .f) (k .asked .sound)) (lit< tt))),
+      (omega arith, omega arith, rw (k .wide) (lt-of-le-of-lt (width-most (a .g .figures) (k .asked .sound)) (lit< tt))),
     )
 
 returns : tie.Need-returns
@@ -110,25 +111,25 @@ returns c =
     let rolled = made .before .before .before .before .before in
     let put = rolled .before .before .before in
     let mid = put .before .before in
-    let o = mid .before in
+    let o = mid .before .before in
     let a = o .args in
     let k = asked o in
     let m = made .mark .ensures in
-    let inside : mid .midway .result ≤ length (quartersIn (a .hours) (a .prices .now)) =
-    omega (arith, quarters-length (opens (a .hours)) 0 (a .prices .now), k .asked .inside, middle mid) in
-    let early = between-length (quartersIn (a .hours) (a .prices .now)) (a .from) (mid .midway .result) (middle mid .0) inside in
+    let inside : mid .midway .result ≤ length (quartersIn (a .g .hours) (a .prices .now)) =
+    omega (arith, quarters-length (opens (a .g .hours)) 0 (a .prices .now), k .asked .inside, middle mid) in
+    let early = between-length (quartersIn (a .g .hours) (a .prices .now)) (a .from) (mid .midway .result) (middle mid .0) inside in
     record {
       marked =
           rw (mid .midway .ensures) at
           (m .marked (endsBy (a .end)) (laterQuarters mid) (layer rolled)
           (omega (arith, early, later-long mid, middle mid, k .asked .inside, k .asked .short)));
       beyond = λ j h.
-          m .beyond j h ∙ same-beyond (a .w + a .w) _ _ (rolled .roll .ensures .1) j h ∙ put .put-end .ensures .1 j (inr (omega (arith, h)));
+          m .beyond j h ∙ same-beyond (a .g .width + a .g .width) _ _ (rolled .roll .ensures .1) j h ∙ put .put-end .ensures .1 j (inr (omega (arith, h)));
     }
 
 pub pass-spec : {M : Type 1} → statement M
 pass-spec =
     tie.close
-    (tie.spec (λ c κs. asked c .asked .ordered)
-    (λ c κs. let k = asked (c .before .before) in (k .asked .sound, k .wide, k .fits, k .asked .ends))
+    (tie.spec (λ c κs. asked (c .before) .asked .ordered)
+    (λ c κs. let k = asked (c .before .before .before) in (k .asked .sound, k .wide, k .fits, k .asked .ends))
     roll-requires (λ c. search needs) (λ c. search needs) mark-requires (λ c. search needs) returns)

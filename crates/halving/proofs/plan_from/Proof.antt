@@ -22,10 +22,13 @@ halves-requires c κs =
     let a = o .args in
     let k = o .pre .0 .0 in
     record {
-      asked = k .asked;
-      here = o .pre .0 .2;
-      some = rw (whole (a .f) (a .prices .now) (a .hours)) (o .pre .1 .1);
-      long = o .pre .1 .0 .1;
+      given =
+          record {
+            asked = k .asked;
+            here = o .pre .0 .2;
+            some = rw (whole (a .f) (a .prices .now) (a .hours)) (o .pre .1 .1);
+            long = o .pre .1 .0 .1;
+          };
       apart = omega (arith, o .pre .1 .0 .0);
       wide = k .wide;
       two = omega arith;
@@ -36,7 +39,7 @@ halves-requires c κs =
 -- the plan of all quarters
 same : (c : tie.Start) →
     let a = c .args in
-    planOf (a .f) (a .prices .now) (a .hours) 0 (length (a .prices .now)) (a .from) Anywhere
+    planOf (a .f) (a .prices .now) (a .hours) (record { from = 0; to = length (a .prices .now); cell = a .from; end = Anywhere })
     ≡ planAt (a .f) anywhere (quartersIn (a .hours) (a .prices .now)) (a .from)
 same c =
     let a = c .args in

@@ -1,6 +1,6 @@
 -- The sum of the definition, which stays below the width.
 use mathlib.Core.Path.{_≡_, ap₂}
-use Prim.Native.Nat.{ℕ, _+_, _-_, _*_, _<_, _^_}
+use Prim.Native.Nat.{ℕ, _+_, _-_, _*_, _<_, _^_, min}
 use native.Mathlib.Nat.{lt-of-le-of-lt}
 use native.Mathlib.Omega.{arith}
 use lib.Dec.{lit<}
@@ -13,33 +13,39 @@ use Rattle.marks.proofs.Leading.{line-fits}
 use Rattle.marks.proofs.lines.line_behind.Statement.{statement}
 use Rattle.marks.proofs.lines.line_behind.Tie as tie
 
-small : (c : tie.Start) → lineOf (c .args .f) (c .args .s) (c .args .x) < 2 ^ 64
+small : (c : tie.Start) → lineOf (c .args .t .figures) (c .args .s) (c .args .x) < 2 ^ 64
 small c =
-    let a = c .args in
-    let wide : width (a .f) < 2 ^ 64 = lt-of-le-of-lt (width-most (a .f) (c .pre .0)) (lit< tt) in
-    omega (arith, wide, line-fits (a .f) (a .s) (a .x) (c .pre .2) (c .pre .4))
+    let f = c .args .t .figures in
+    let wide : width f < 2 ^ 64 = lt-of-le-of-lt (width-most f (c .pre .0 .interval .sound)) (lit< tt) in
+    omega (arith, wide, line-fits f (c .args .s) (c .args .x) (c .pre .2) (c .pre .3))
 
 -- what is added, by its parts
-parts : (c : tie.After-after-on) →
-    let taken = c .before in
-    let spanned = taken .before in
-    let sectioned = spanned .before in
-    let a = sectioned .before .args in
-    (c .after-on .result * sectioned .section-cells .result ≡ afterOn (a .f) (a .s) * section (a .f))
-    × ((a .x - taken .start-takes .result) * spanned .span-cells .result ≡ (a .x - startTakes (a .f) (a .s)) * span (a .f))
+parts : (c : tie.After-struct-known) →
+    let led = c .before in
+    let had = led .before in
+    let spanned = had .before .before in
+    let a = spanned .before .before .args in
+    let f = a .t .figures in
+    (led .after-on .result * a .t .section ≡ afterOn f (a .s) * section f)
+    × ((a .x - had .smaller .result) * spanned .span-cells .result ≡ (a .x - startTakes f (a .s)) * span f)
 parts c =
-    let taken = c .before in
+    let led = c .before in
+    let had = led .before in
+    let taken = had .before in
     let spanned = taken .before in
-    let sectioned = spanned .before in
-    let a = sectioned .before .args in (
-      ap₂ _*_ (c .after-on .ensures) (sectioned .section-cells .ensures),
-      ap₂ (λ (t n : ℕ). (a .x - t) * n) (taken .start-takes .ensures) (spanned .span-cells .ensures),
-    )
+    let o = spanned .before .before in
+    let a = o .args in
+    let less : a .x - had .smaller .result ≡ a .x - startTakes (a .t .figures) (a .s) =
+    omega (arith, had .smaller .ensures, taken .start-takes .ensures) in
+    (ap₂ _*_ (led .after-on .ensures) (o .pre .0 .sections), ap₂ _*_ less (spanned .span-cells .ensures))
+
+abbrev start : tie.After-struct-known → tie.Start
+start c = c .before .before .before .before .before .before
 
 pub line-behind-spec : {M : Type 1} → statement M
 line-behind-spec =
     tie.close
-    (tie.spec (λ c κs. c .pre .0) (λ c κs. c .before .pre .0) (λ c κs. search needs)
-    (λ c. omega (arith, c .start-takes .ensures, c .before .before .before .pre .3)) (λ c κs. let o = c .before .before .before in (o .pre .0, o .pre .1))
-    (λ c. omega (arith, parts c, small (c .before .before .before .before))) (λ c. omega (arith, parts c, small (c .before .before .before .before)))
-    (λ c. omega (arith, parts c, small (c .before .before .before .before))) (λ c. ap₂ _+_ (parts c .0) (parts c .1)))
+    (tie.spec (λ c κs. c .before .pre .0 .interval .sound) (λ c κs. search needs) (λ c κs. search needs) (λ c. omega (arith, c .smaller .ensures))
+    (λ c κs. let o = c .before .before .before .before in (o .pre .0 .interval .sound, o .pre .1))
+    (λ c. omega (arith, parts c, small (start c))) (λ c. omega (arith, parts c, small (start c)))
+    (λ c. omega (arith, parts c, small (start c))) (λ c. ap₂ _+_ (parts c .0) (parts c .1)))

@@ -1,122 +1,153 @@
--- None where no on-interval or too few blocks are left; else by the row that an interval on leads to.
+-- None where no start or on-interval or too few blocks are left; else by the row that an interval on leads to.
 use mathlib.Core.Path.{_≡_, refl}
 use mathlib.Core.Bool.{Bool, true, false, _||_}
+use mathlib.Core.List.{List}
 use mathlib.Core.Logic.{_⊎_, ⊎-elim, inl, inr}
 use Prim.Native.Nat.{ℕ, _+_, _-_, _*_, _≤_, _<_}
 use native.Mathlib.Omega.{arith}
 use borrow.Author.Tests.{ltb-true, ltb-false}
 use lib.Dec.{ltb}
+use lib.IntN.{ℤ}
 use borrow.Author.Needs.{needs}
+use Rattle.optimality.specs.Cells.{startTakes}
 use Rattle.geometry.specs.Geometry.{row}
-use Rattle.marks.specs.Lines.{OnAsked, Behind, WholeChunks, lineOf}
-use Rattle.marks.proofs.Choice.{neither}
-use Rattle.marks.proofs.Leading.{lined-none, lined-on, lined-piece, row-in-line}
+use Rattle.intervals.specs.declared.rows.Ladder.{Ladder}
+use Rattle.carrying.specs.Images.{Piece, PickedAt}
+use Rattle.marks.specs.Lines.{OnAsked, WholeChunks, lineOf}
+use Rattle.marks.proofs.Choice.{neither, either}
+use Rattle.marks.proofs.Leading.{lined-none, lined-on, lined-piece, row-fits-behind, on-row}
 use Rattle.marks.proofs.lines.lined_image.Statement.{statement}
 use Rattle.marks.proofs.lines.lined_image.Tie as tie
 
-asked : (c : tie.Start) →
-    let a = c .args in
-    OnAsked (a .f) (a .w) (a .cells .now) (a .price) (a .s) (a .x) (a .y) (a .place) (a .count)
+asked : (c : tie.Start) → let a = c .args in OnAsked (a .t) (a .cells .now) (a .s) (a .p)
 asked c = c .pre .0 .0
 
-behind : (c : tie.Start) → let a = c .args in Behind (a .f) (a .price) (a .s) (a .x) (a .line) (a .l)
-behind c = c .pre .1
+lowest : (c : tie.Start) → c .args .l .low ≡ c .args .t .figures .pmin
+lowest c = rw (c .pre .1)
 
-lowest : (c : tie.Start) → c .args .l .low ≡ c .args .f .pmin
-lowest c = rw (behind c .ladder-is)
+-- the start that is taken, and the whole test
+abbrev tested : tie.After-struct-known5 → tie.After-start-takes
+tested c = c .before .before .before .before .before
 
--- which of the two is short
-either : (a b : Bool) → (a || b) ≡ true → (a ≡ true) ⊎ (b ≡ true)
-either true b e = inl refl
-either false b e = inr e
+abbrev start : tie.After-struct-known5 → tie.Start
+start c = tested c .before .before
 
--- short of an on-interval, or of blocks at every place
+-- short of a start, of an on-interval, or of blocks at every place
 short : (c : tie.Then1) →
-    let a = c .before .before .args in
-    (i : ℕ) → i < a .count → (a .y < a .f .takes .ons) ⊎ (a .place + i < a .f .pmin)
+    let a = start (c .before) .args in
+    let f = a .t .figures in
+    (i : ℕ) → i < a .p .count → (a .p .starts < startTakes f (a .s)) ⊎ ((a .p .ons < f .takes .ons) ⊎ (a .p .place + i < f .pmin))
 short c i h =
-    let o = c .before .before in
+    let o = start (c .before) in
     let a = o .args in
-    ⊎-elim (λ (e : ltb (a .y) (a .f .takes .ons) ≡ true). inl (ltb-true (a .y) (a .f .takes .ons) e))
-    (λ (e : ltb (a .place) (a .l .low) ≡ true). inr (below (ltb-true (a .place) (a .l .low) e)))
-    (either (ltb (a .y) (a .f .takes .ons)) (ltb (a .place) (a .l .low)) (c .if1 .taken))
+    let takes = tested (c .before) .start-takes in
+    ⊎-elim
+    (λ (e : (ltb (a .p .starts) (takes .result) || ltb (a .p .ons) (a .t .figures .takes .ons)) ≡ true).
+    ⊎-elim
+    (λ (g : ltb (a .p .starts) (takes .result) ≡ true). let l = ltb-true (a .p .starts) (takes .result) g in inl (omega (arith, l, takes .ensures)))
+    (λ (g : ltb (a .p .ons) (a .t .figures .takes .ons) ≡ true). inr (inl (ltb-true (a .p .ons) (a .t .figures .takes .ons) g)))
+    (either (ltb (a .p .starts) (takes .result)) (ltb (a .p .ons) (a .t .figures .takes .ons)) e))
+    (λ (e : ltb (a .p .place) (a .l .low) ≡ true). inr (inr (below (ltb-true (a .p .place) (a .l .low) e))))
+    (either _ (ltb (a .p .place) (a .l .low)) (c .if1 .taken))
   where
-    below : let a = c .before .before .args in a .place < a .l .low → a .place + i < a .f .pmin
+    below : let a = start (c .before) .args in a .p .place < a .l .low → a .p .place + i < a .t .figures .pmin
     below l =
-        let o = c .before .before in
+        let o = start (c .before) in
         let a = o .args in
-        ⊎-elim (λ (g : a .place + a .count ≤ a .f .pmin). omega arith)
-        (λ (g : WholeChunks (a .f) (a .place) (a .count)). absurd (omega (arith, l, lowest o, g .begins)))
-        (asked o .lined (o .pre .0 .1) .2)
+        ⊎-elim (λ (g : a .p .place + a .p .count ≤ a .t .figures .pmin). omega arith)
+        (λ (g : WholeChunks (a .t .figures) (a .p .place) (a .p .count)). absurd (omega (arith, l, lowest o, g .begins)))
+        (asked o .piece-of .lined (o .pre .0 .1) .2)
 
 enough : (c : tie.Else1) →
-    let a = c .before .before .args in
-    (a .f .takes .ons ≤ a .y) × (a .f .pmin ≤ a .place)
+    let a = start (c .before) .args in
+    (startTakes (a .t .figures) (a .s) ≤ a .p .starts) × (a .t .figures .takes .ons ≤ a .p .ons) × (a .t .figures .pmin ≤ a .p .place)
 enough c =
-    let o = c .before .before in
+    let o = start (c .before) in
     let a = o .args in
-    let n = neither (ltb (a .y) (a .f .takes .ons)) (ltb (a .place) (a .l .low)) (c .if1 .left) in
-    (ltb-false (a .y) (a .f .takes .ons) (n .0), let g = ltb-false (a .place) (a .l .low) (n .1) in omega (arith, g, lowest o))
+    let takes = tested (c .before) .start-takes in
+    let n = neither _ (ltb (a .p .place) (a .l .low)) (c .if1 .left) in
+    let m = neither (ltb (a .p .starts) (takes .result)) (ltb (a .p .ons) (a .t .figures .takes .ons)) (n .0) in (
+      let g = ltb-false (a .p .starts) (takes .result) (m .0) in omega (arith, g, takes .ensures),
+      ltb-false (a .p .ons) (a .t .figures .takes .ons) (m .1),
+      let g = ltb-false (a .p .place) (a .l .low) (n .1) in omega (arith, g, lowest o),
+    )
 
 returns : tie.Need-returns
 returns c =
     let made = c .before in
     let then = made .before .before in
-    let o = then .before .before in
+    let o = start (then .before) in
     let a = o .args in
     let none = made .nothing .ensures in
     record {
-      inside = λ i h cell p.
-          lined-none (a .f) (asked o .interval .sound) (a .w) (a .cells .now) (a .price) (a .s) (a .x) (asked o .leads) (behind o .takes) (o .pre .0 .1) (a .y)
-          (a .place) i (short then i h) cell p _ (none .inside i h);
+      inside = λ i h cell here.
+          lined-none (a .t) (a .cells .now) (a .s) cell (here .state) (a .p .starts) (a .p .ons) (a .p .place + i) (o .pre .0 .1)
+          (on-row (a .t .figures) (a .p) (asked o .piece-of) (a .s) i h cell here (o .pre .0 .1)) (short then i h) _ (none .inside i h);
       same = none .same;
     }
 
 -- the row
-at-row : (c : tie.After-row-cells) →
-    let a = c .before .before .before .args in
-    a .line + (a .y - a .f .takes .ons) * c .row-cells .result ≡ lineOf (a .f) (a .s) (a .x) + (a .y - a .f .takes .ons) * row (a .f)
+at-row : (c : tie.After-struct-known7) →
+    let rowed = c .before .before in
+    let line = rowed .before in
+    let a = start (line .before .before) .args in
+    let f = a .t .figures in
+    line .line-behind .result + (a .p .ons - f .takes .ons) * rowed .row-cells .result ≡ lineOf f (a .s) (a .p .starts) + (a .p .ons - f .takes .ons) * row f
 at-row c =
-    let o = c .before .before .before in
-    let a = o .args in
-    rw (behind o .line-is, c .row-cells .ensures)
+    let rowed = c .before .before in
+    rw (rowed .before .line-behind .ensures, rowed .row-cells .ensures)
 
-row-room : (c : tie.After-row-cells) →
-    let a = c .before .before .before .args in
-    a .line + (a .y - a .f .takes .ons) * c .row-cells .result ≤ a .w
+row-room : (c : tie.After-struct-known7) →
+    let rowed = c .before .before in
+    let line = rowed .before in
+    let a = start (line .before .before) .args in
+    line .line-behind .result + (a .p .ons - a .t .figures .takes .ons) * rowed .row-cells .result ≤ a .t .width
 row-room c =
-    let o = c .before .before .before in
+    let o = start (c .before .before .before .before .before) in
     let a = o .args in
-    omega (arith, at-row c, row-in-line (a .f) (a .s) (a .x) (a .y) (asked o .leads) (asked o .starts) (asked o .lined (o .pre .0 .1) .0), asked o .wide)
+    omega (arith, at-row c, row-fits-behind (a .t) (a .cells .now) (a .s) (a .p) (asked o))
+
+-- the same ladder, along the same row
+module _ {l l′ : Ladder} {at at′ : ℕ} (e : l ≡ l′) (g : at ≡ at′) (cells : List ℤ) (w : ℕ) where
+  piece-same : (z count : ℕ) → Piece l′ cells w at′ z count → Piece l cells w at z count
+  piece-same z count p = rw (e, g) p
+
+  picked-same : (z : ℕ) {v m : ℤ} → PickedAt l cells w at z v m → PickedAt l′ cells w at′ z v m
+  picked-same z p = rw (← e, ← g) p
 
 windows-requires : tie.Need-windows-requires
 windows-requires c κs =
-    let rowed = c .before .before in
-    let else = rowed .before in
-    let o = else .before .before in
-    let a = o .args in
-    rw (at-row rowed, behind o .ladder-is)
-    (lined-piece (a .f) (a .w) (a .cells .now) (a .price) (a .s) (a .x) (a .y) (a .place) (a .count) (asked o) (o .pre .0 .1) (enough else .1), o .pre .0 .2)
+    let known = c .before in
+    let else = known .before .before .before .before in
+    let o = start (else .before) in
+    let a = o .args in (
+      piece-same (o .pre .1) (at-row known) (a .cells .now) (a .t .width) (a .p .place) (a .p .count)
+          (lined-piece (a .t) (a .cells .now) (a .s) (a .p) (asked o) (o .pre .0 .1) (enough else .2)),
+      o .pre .0 .2,
+    )
 
 returns-2 : tie.Need-returns-2
 returns-2 c =
     let made = c .before in
-    let rowed = made .before .before .before in
-    let else = rowed .before in
-    let o = else .before .before in
+    let known = made .before .before in
+    let else = known .before .before .before .before in
+    let o = start (else .before) in
     let a = o .args in
-    let on = rw (at-row rowed, behind o .ladder-is) at (made .windows .ensures) in
+    let on = made .windows .ensures in
     record {
-      inside = λ i h cell p.
-          lined-on (a .f) (asked o .interval .sound) (a .w) (a .cells .now) (a .price) (a .s) (a .x) (asked o .leads) (behind o .takes) (o .pre .0 .1) (a .y)
-          (a .place) i (enough else .0) cell p (on .inside i h);
+      inside = λ i h cell here.
+          lined-on (a .t) (a .cells .now) (a .s) cell (here .state) (a .p .starts) (a .p .ons) (a .p .place + i) (o .pre .0 .1)
+          (on-row (a .t .figures) (a .p) (asked o .piece-of) (a .s) i h cell here (o .pre .0 .1)) (asked o .leads) (enough else .0) (enough else .1)
+          (picked-same (o .pre .1) (at-row known) (a .cells .now) (a .t .width) (a .p .place + i) (on .inside i h));
       same = on .same;
     }
 
 pub lined-image-spec : {M : Type 1} → statement M
 lined-image-spec =
     tie.close
-    (tie.spec (λ c κs. let o = c .before .before .before in (asked o .few, o .pre .0 .2)) (λ c κs. asked (c .before .before) .interval .sound)
-    (λ c. enough (c .before .before) .0) (λ c. let o = c .before .before .before .before in omega (arith, row-room (c .before), asked o .marks))
-    (λ c. let o = c .before .before .before .before in omega (arith, row-room (c .before), asked o .marks)) windows-requires (λ c. search needs) returns
+    (tie.spec (λ c κs. search needs) (λ c κs. let o = start (c .before .before) in (asked o .piece-of .few, o .pre .0 .2))
+    (λ c κs. let k = asked (start (c .before)) in (k .over, k .state, k .leads, k .piece-of .starts))
+    (λ c κs. asked (start (c .before .before)) .over .interval .sound)
+    (λ c. enough (c .before .before .before .before) .1) (λ c. omega (arith, row-room c, asked (start (c .before .before .before .before .before)) .marks))
+    (λ c. omega (arith, row-room c, asked (start (c .before .before .before .before .before)) .marks)) windows-requires (λ c. search needs) returns
     (λ c. search needs) returns-2)

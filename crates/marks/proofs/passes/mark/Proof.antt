@@ -6,11 +6,11 @@ use borrow.Author.Needs.{needs}
 use Rattle.marks.proofs.passes.mark.Statement.{statement}
 use Rattle.marks.proofs.passes.mark.Tie as tie
 
-asked : (c : tie.Start) → let a = c .args in SweepAsked (a .f) (a .w) (a .cells .now) (a .prices .now) (a .hours) (a .from) (a .to)
+asked : (c : tie.Start) → let a = c .args in SweepAsked (a .g) (a .cells .now) (a .prices .now) (a .from) (a .to)
 asked c = c .pre .0
 
-number-requires : tie.Need-number-requires
-number-requires c κs = let o = c .before in (asked o .marks, o .pre .1 .2)
+mark-own-requires : tie.Need-mark-own-requires
+mark-own-requires c κs = let o = c .before in (asked o .marks, o .pre .1 .2)
 
 sweep-requires : tie.Need-sweep-requires
 sweep-requires c κs =
@@ -21,7 +21,7 @@ sweep-requires c κs =
       record {
         sound = k .sound;
         wide = k .wide;
-        marks = omega (arith, numbered .number .ensures .same, k .marks);
+        marks = omega (arith, numbered .mark-own .ensures .same, k .marks);
         priced = k .priced;
         clocked = k .clocked;
         ordered = k .ordered;
@@ -30,7 +30,8 @@ sweep-requires c κs =
         ends = k .ends;
         later = k .later;
         layer =
-            value-kept (a .f) (a .w) (k .wide) (a .cells .now) (numbered .number .last .0) (numbered .number .ensures) (k .ends) (k .later) (k .layer);
+            value-kept (a .g .figures) (a .g .width) (k .wide) (a .cells .now) (numbered .mark-own .last .0) (numbered .mark-own .ensures) (k .ends)
+            (k .later) (k .layer);
         few = k .few;
       },
       (o .pre .1 .0, o .pre .1 .1),
@@ -42,8 +43,8 @@ returns c =
     let numbered = swept .before .before .before .before .before in
     let o = numbered .before .before in
     let a = o .args in
-    numbered-swept (a .f) (a .w) (asked o .wide) (a .cells .now) (numbered .number .last .0) (numbered .number .ensures) (swept .sweep .last .0) _
-    (swept .sweep .ensures)
+    numbered-swept (a .g .figures) (a .g .width) (asked o .wide) (a .cells .now) (numbered .mark-own .last .0) (numbered .mark-own .ensures)
+    (swept .sweep .last .0) _ (swept .sweep .ensures)
 
 pub mark-spec : {M : Type 1} → statement M
-mark-spec = tie.close (tie.spec number-requires sweep-requires (λ c. search needs) (λ c. search needs) (λ c. search needs) returns)
+mark-spec = tie.close (tie.spec mark-own-requires sweep-requires (λ c. search needs) (λ c. search needs) (λ c. search needs) returns)

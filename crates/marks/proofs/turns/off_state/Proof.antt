@@ -16,48 +16,56 @@ use Rattle.marks.proofs.turns.off_state.Tie as tie
 -- this state's stretch and the next one's are in the layer
 fits : (c : tie.Start) →
     let a = c .args in
-    (a .s * a .section + a .column + a .count ≤ a .w) × (a .s * a .section + a .column + a .section + a .count ≤ a .w)
+    let to = a .s * a .t .section + a .p .column in
+    (to + a .p .count ≤ a .t .width) × (to + a .t .section + a .p .count ≤ a .t .width) × (a .p .column + a .p .count ≤ a .t .section)
 fits c =
     let a = c .args in
-    let p = c .pre .0 in
-    let here = section-fits (a .f) (a .s) (omega (arith, p .1)) in
-    let next = section-fits (a .f) (a .s + 1) (p .1) in
-    let e : a .s * a .section ≡ a .s * section (a .f) = ap (λ (n : ℕ). a .s * n) (p .3) in
-    let n = add-mul (a .s) 1 (section (a .f)) in
-    (omega (arith, here, e, p .2, p .3, c .pre .1), omega (arith, next, n, one-mul (section (a .f)), e, p .2, p .3, c .pre .1))
+    let f = a .t .figures in
+    let k = c .pre .0 in
+    let here = section-fits f (a .s) (omega (arith, c .pre .2)) in
+    let next = section-fits f (a .s + 1) (c .pre .2) in
+    let e : a .s * a .t .section ≡ a .s * section f = ap (λ (n : ℕ). a .s * n) (k .sections) in
+    let n = add-mul (a .s) 1 (section f) in
+    let p = c .pre .1 .fits in (
+      omega (arith, here, e, k .wide, k .sections, p),
+      omega (arith, next, n, one-mul (section f), e, k .wide, k .sections, p),
+      omega (arith, k .sections, p),
+    )
+
+abbrev start : tie.After-struct-known3 → tie.Start
+start c = c .before .before .before
 
 returns : tie.Need-returns
 returns c =
     let made = c .before in
     let then = made .before .before in
-    let o = then .before .before in
+    let o = start (then .before) in
     let a = o .args in
-    let p = o .pre .0 in
-    let room : a .s * section (a .f) + a .column + a .count ≤ length (a .cells .now) = rw (← p .3) (omega (arith, fits o .0, p .4)) in
-    let put = rw (p .3) at (made .put .ensures) in
-    let long = made .put .kept .0 in
-    rw (p .3)
-    (off-barred (a .f) (a .w) (a .cells .now) (made .put .last .0) (a .s) (a .column) (a .count) (then .if1 .taken) long (rw (← p .3) (fits o .0))
-    (λ i h. rw put (put-inside (a .cells .now) (a .s * section (a .f) + a .column) (a .count) infeasible room i h))
-    (rw put (put-apart (a .cells .now) (a .s * section (a .f) + a .column) (a .count) infeasible room)))
+    let e = o .pre .0 .sections in
+    let at = a .s * section (a .t .figures) + a .p .column in
+    let room : at + a .p .count ≤ length (a .cells .now) = rw (← e) (omega (arith, fits o .0, o .pre .3)) in
+    let put = rw e at (made .put .ensures) in
+    rw e
+    (off-barred (a .t) (a .cells .now) (made .put .last .0) (a .s) (a .p) (then .if1 .taken) (made .put .kept .0) (rw (← e) (fits o .0))
+    (λ i h. rw put (put-inside (a .cells .now) at (a .p .count) infeasible room i h)) (rw put (put-apart (a .cells .now) at (a .p .count) infeasible room)))
 
 returns-2 : tie.Need-returns-2
 returns-2 c =
     let made = c .before in
-    let else = made .before .before in
-    let o = else .before .before in
+    let else = made .before .before .before in
+    let o = start (else .before) in
     let a = o .args in
-    let p = o .pre .0 in
-    rw (p .3)
-    (off-moved (a .f) (a .w) (a .cells .now) (made .move-plane .last .0) (a .s) (a .column) (a .count) (omega (arith, else .if1 .left)) (p .1)
-    (rw (p .3) at (made .move-plane .ensures)))
+    let e = o .pre .0 .sections in
+    rw e
+    (off-moved (a .t) (a .cells .now) (made .move-plane .last .0) (a .s) (a .p) (omega (arith, else .if1 .left)) (o .pre .2)
+    (rw e at (made .move-plane .ensures)))
 
 pub off-state-spec : {M : Type 1} → statement M
 off-state-spec =
     tie.close
-    (tie.spec (λ c. let p = c .pre .0 in omega (arith, fits c, p .4)) (λ c. let p = c .pre .0 in omega (arith, fits c, p .4))
-    (λ c. let p = c .pre .0 in let ok = p .0 in omega (arith, p .1, ok .mot-most, ok .mdt-most))
-    (λ c κs. let o = c .before .before .before in let p = o .pre .0 in omega (arith, fits o, p .4))
-    (λ c. let o = c .before .before .before in let p = o .pre .0 in omega (arith, fits o, p .4))
-    (λ c κs. let o = c .before .before .before in let p = o .pre .0 in (omega (arith, p .3, o .pre .1), omega (arith, fits o), p .4))
+    (tie.spec (λ c. omega (arith, fits (c .before), c .before .pre .3)) (λ c. omega (arith, fits (c .before .before), c .before .before .pre .3))
+    (λ c. let o = c .before .before in let ok = o .pre .0 .interval .sound in omega (arith, o .pre .2, ok .mot-most, ok .mdt-most))
+    (λ c κs. let o = start (c .before .before) in omega (arith, fits o, o .pre .3))
+    (λ c. let o = start (c .before .before .before) in omega (arith, fits o, o .pre .3))
+    (λ c κs. let o = start (c .before .before .before) in (omega (arith, fits o .2), omega (arith, fits o .1), o .pre .3))
     (λ c. search needs) returns (λ c. search needs) returns-2)

@@ -2,22 +2,17 @@
 use mathlib.Core.Path.{sym, _∙_}
 use mathlib.Core.Bool.{true≢false}
 use borrow.Author.Needs.{needs}
-use Rattle.integers.proofs.Ranges.{plain-fits}
 use Rattle.marks.proofs.turns.on_image.Statement.{statement}
 use Rattle.marks.proofs.turns.on_image.Tie as tie
-
-image-requires : tie.Need-image-requires
-image-requires c κs = let o = c .before .before in (rw (plain-fits (o .fits .price)) (o .pre .0), o .pre .1)
 
 returns : tie.Need-returns
 returns c =
     let made = c .before in
     let then = made .before .before in
-    let o = then .before in
-    let on = rw (plain-fits (o .fits .price)) at (made .image .ensures) in
+    let on = made .image .ensures in
     record {
-      inside = λ i h cell p.
-          record { opened = λ e. on .inside i h cell p; shut = λ e. absurd (true≢false (sym (then .if1 .taken) ∙ e)) };
+      inside = λ i h cell here.
+          record { opened = λ e. on .inside i h cell here; shut = λ e. absurd (true≢false (sym (then .if1 .taken) ∙ e)) };
       same = on .same;
     }
 
@@ -27,7 +22,7 @@ returns-2 c =
     let else = made .before .before in
     let none = made .nothing .ensures in
     record {
-      inside = λ i h cell p.
+      inside = λ i h cell here.
           record { opened = λ e. absurd (true≢false (sym e ∙ else .if1 .left)); shut = λ e. none .inside i h };
       same = none .same;
     }
@@ -35,4 +30,5 @@ returns-2 c =
 pub on-image-spec : {M : Type 1} → statement M
 on-image-spec =
     tie.close
-    (tie.spec image-requires (λ c κs. let o = c .before .before in (o .pre .0 .few, o .pre .1)) (λ c. search needs) returns (λ c. search needs) returns-2)
+    (tie.spec (λ c κs. c .before .before .pre) (λ c κs. let o = c .before .before in (o .pre .0 .piece-of .few, o .pre .1)) (λ c. search needs) returns
+    (λ c. search needs) returns-2)

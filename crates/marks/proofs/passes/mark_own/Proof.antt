@@ -10,8 +10,8 @@ use lib.Seq.{getD-set-same, getD-set-other}
 use Rattle.integers.proofs.Ranges.{plain-fits}
 use Rattle.intervals.proofs.Stretches.{last-or-before}
 use Rattle.marks.specs.Passing.{OwnNumbers}
-use Rattle.marks.proofs.passes.number.Statement.{statement}
-use Rattle.marks.proofs.passes.number.Tie as tie
+use Rattle.marks.proofs.passes.mark_own.Statement.{statement}
+use Rattle.marks.proofs.passes.mark_own.Tie as tie
 
 abbrev Inv-loop : tie.InvT-loop
 Inv-loop cells₀ w i₀ cells i = (i ≤ w) × OwnNumbers w cells₀ cells i
@@ -50,8 +50,8 @@ returns c =
     let e : l .loop .i ≡ l .before .args .w = omega (arith, l .loop .inv .0, c .loop-test .left) in
     rw e at (l .loop .inv .1)
 
-pub number-spec : {M : Type 1} → statement M
-number-spec =
+pub mark-own-spec : {M : Type 1} → statement M
+mark-own-spec =
     tie.close
     (tie.spec Inv-loop μ-loop
     (λ c. (omega arith, record { same = refl; own = λ i h. absurd (omega arith); apart = λ j o. refl }))
