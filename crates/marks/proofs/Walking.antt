@@ -1,11 +1,12 @@
 -- From interval to interval: a cell stands where the cell stands that its plan's first output leads to.
-use mathlib.Core.Path.{_≡_, refl, sym, ap, _∙_}
+use mathlib.Core.Path.{_≡_, refl, sym, ap, _∙_, subst}
 use mathlib.Core.List.{List, [], _∷_, _++_}
 use mathlib.Core.Logic.{inl, inr}
-use Prim.Native.Nat.{ℕ, _+_, _-_, _*_, _≤_, _<_}
+use Prim.Native.Nat.{ℕ, suc, _+_, _-_, _*_, _≤_, _<_}
+use native.Mathlib.Nat.{add-zero}
 use native.Mathlib.Omega.{arith}
 use lib.IntN.{ℤ, pos, natAbs, _+ℤ_, +ℤ-idl}
-use lib.ListN.{length, length-append}
+use lib.ListN.{length}
 use lib.Signed.{_≤ℤ_}
 use Rattle.integers.proofs.Linear.{zarith, zsum}
 use Rattle.commitment.specs.declared.BestProfit.{BestProfit}
@@ -18,7 +19,7 @@ use Rattle.optimality.specs.Machine.{Quarter, Step, earning, then, inQuarter, w
 use Rattle.optimality.specs.Cells.{Sound, InTable, offCell, cellStep, planAt, valueAt}
 use Rattle.optimality.proofs.Turns.{plan-value, off-in-table}
 use Rattle.geometry.specs.Geometry.{section, width, index}
-use Rattle.geometry.specs.Layers.{infeasible, Layer}
+use Rattle.geometry.specs.Layers.{infeasible, LayerAt}
 use Rattle.geometry.proofs.Holding.{holds-small}
 use Rattle.geometry.proofs.Places.{in-section, index-lt}
 use Rattle.intervals.specs.Turns.{Interval, offStored}
@@ -30,7 +31,7 @@ use Rattle.marks.specs.Lines.{valueOf, markOf, Over}
 use Rattle.marks.specs.Turning.{Turn}
 use Rattle.marks.specs.declared.Step as steps
 use Rattle.marks.specs.Passing.{Columns, Before, OwnNumbers}
-use Rattle.marks.specs.Standing.{Stands, MarkedLayer, Swept, Numbered}
+use Rattle.marks.specs.Standing.{Stands, MarkedAt, Swept, Numbered}
 use Rattle.marks.proofs.Pieces.{off-floored, small-floored}
 use Rattle.marks.proofs.Meaning.{turn-value, turn-mark}
 
@@ -81,8 +82,8 @@ module _ (f : Figures) (ends : Cell → BestProfit) (later : List Quarter) where
 
   -- ---- a layer, one interval earlier
 
-  module _ (ok : Sound f) (q : Quarter) (priced : natAbs (q .price) ≤ mostPrice) (front : List Quarter) (few : length (front ++ later) < mostIntervals) (w : ℕ)
-      (was now : List ℤ) (given : Cell → ℤ) (m : MarkedLayer f ends front later given (valueOf f w was) (markOf f w was))
+  module _ (ok : Sound f) (q : Quarter) (priced : natAbs (q .price) ≤ mostPrice) (front : List Quarter) (n : ℕ) (few : n < mostIntervals) (w : ℕ)
+      (was now : List ℤ) (given : Cell → ℤ) (m : MarkedAt f n ends front later given (valueOf f w was) (markOf f w was))
       (turned : Columns f q w was now 0 (section f)) where
     turn : (c : Cell) → InTable f c → Turn f q (valueOf f w was) (markOf f w was) c (valueOf f w now c) (markOf f w now c)
     turn c i =
@@ -95,20 +96,20 @@ module _ (f : Figures) (ends : Cell → BestProfit) (later : List Quarter) where
         (λ g.
         let h = off-in-table f c i g in
         small-floored (valueOf f w was (offCell f c))
-        (holds-small (length (front ++ later)) (valueAt f ends (front ++ later) (offCell f c)) (valueOf f w was (offCell f c)) (omega (arith, few))
+        (holds-small n (valueAt f ends (front ++ later) (offCell f c)) (valueOf f w was (offCell f c)) (omega (arith, few))
         (m .layer .holds (offCell f c) h)))
 
-    earlier : Layer f ends (q ∷ (front ++ later)) (valueOf f w now)
+    earlier : LayerAt f (suc n) (valueAt f ends (q ∷ (front ++ later))) (valueOf f w now)
     earlier =
-        layer-earlier f ok ends q priced (front ++ later) (length (front ++ later)) few (valueOf f w was) (valueOf f w now) (m .layer)
+        layer-earlier f ok ends q priced (front ++ later) n few (valueOf f w was) (valueOf f w now) (m .layer)
         (λ c i. turn-value f ok q (valueOf f w was) (markOf f w was) c (turn c i) (floor c i))
 
-    pub marked-next : MarkedLayer f ends (q ∷ front) later given (valueOf f w now) (markOf f w now)
+    pub marked-next : MarkedAt f (suc n) ends (q ∷ front) later given (valueOf f w now) (markOf f w now)
     marked-next =
         record {
           layer = earlier;
           marks = λ c i some.
-              let r = read-layers f ends q (front ++ later) (valueOf f w now) (valueOf f w was) c ok priced (length (front ++ later)) few earlier (m .layer) i some in
+              let r = read-layers f ends q (front ++ later) (valueOf f w now) (valueOf f w was) c ok priced n few earlier (m .layer) i some in
               let choice = r .choice in
               let k = chosen f (valueOf f w was) c (q .price) (valueOf f w now c) in
               let mark = turn-mark f ok q (valueOf f w was) (markOf f w was) c (turn c i) (floor c i) (choice .inside) in
@@ -125,8 +126,8 @@ module _ (f : Figures) (w : ℕ) where
       record {
         same = refl;
         beyond = λ j h. refl;
-        marked = λ ends later layer few.
-            record { layer = layer; marks = λ c i some. record { at = c; stands = stands-here f ends later c i some; is = refl } };
+        marked = λ ends later n layer few.
+            rw (add-zero n) (record { layer = layer; marks = λ c i some. record { at = c; stands = stands-here f ends later c i some; is = refl } });
       }
 
   pub swept-next : Sound f → (q : Quarter) → natAbs (q .price) ≤ mostPrice → (was cur now : List ℤ) (front : List Quarter) → Swept f w was cur front
@@ -135,34 +136,34 @@ module _ (f : Figures) (w : ℕ) where
       record {
         same = turned .same ∙ s .same;
         beyond = λ j h. turned .beyond j h ∙ s .beyond j h;
-        marked = λ ends later layer few.
-            let n = length-append front later in
-            marked-next f ends later ok q priced front (omega (arith, n, few)) w cur now (markOf f w was)
-            (s .marked ends later layer (omega (arith, few))) turned;
+        marked = λ ends later n layer few.
+            let one : suc (n + length front) ≡ n + suc (length front) = omega arith in
+            subst (λ (k : ℕ). MarkedAt f k ends (q ∷ front) later (markOf f w was) (valueOf f w now) (markOf f w now)) one
+            (marked-next f ends later ok q priced front (n + length front) (omega (arith, few)) w cur now (markOf f w was)
+            (s .marked ends later n layer (omega (arith, few))) turned);
       }
 
 -- what the next interval asks
 pub before-swept : (t : steps.Step) (was cur : List ℤ) (front : List Quarter) → Over t → t .width + t .width ≤ length was
-    → Swept (t .figures) (t .width) was cur front → (ends : Cell → BestProfit) (later : List Quarter)
-    → Layer (t .figures) ends later (valueOf (t .figures) (t .width) was) → length later + length front ≤ mostIntervals
+    → Swept (t .figures) (t .width) was cur front → (ends : Cell → BestProfit) (later : List Quarter) (n : ℕ)
+    → LayerAt (t .figures) n (valueAt (t .figures) ends later) (valueOf (t .figures) (t .width) was) → n + length front ≤ mostIntervals
     → Before t cur (section (t .figures))
-before-swept t was cur front over marks s ends later layer few =
+before-swept t was cur front over marks s ends later n layer few =
     record {
       over = over;
       marks = omega (arith, marks, s .same);
       small = λ c i h.
-          let n = length-append front later in
-          let m = s .marked ends later layer few in
-          holds-small (length (front ++ later)) (valueAt (t .figures) ends (front ++ later) c) (valueOf (t .figures) (t .width) cur c)
-          (omega (arith, n, few)) (m .layer .holds c i);
+          let m = s .marked ends later n layer few in
+          holds-small (n + length front) (valueAt (t .figures) ends (front ++ later) c) (valueOf (t .figures) (t .width) cur c)
+          few (m .layer .holds c i);
     }
 
 -- ---- from cells that have their own numbers
 
 module _ (f : Figures) (w : ℕ) (wide : w ≡ width f) (was numbered : List ℤ) (n : OwnNumbers w was numbered w) where
   -- numbering leaves the values
-  pub value-kept : (ends : Cell → BestProfit) (later : List Quarter) → Layer f ends later (valueOf f w was) → Layer f ends later (valueOf f w numbered)
-  value-kept ends later layer =
+  pub value-kept : {k : ℕ} {value : Cell → BestProfit} → LayerAt f k value (valueOf f w was) → LayerAt f k value (valueOf f w numbered)
+  value-kept layer =
       record { holds = λ c i. rw (n .apart (index f c) (inl (omega (arith, index-lt f c i, wide)))) (layer .holds c i) }
 
   mark-own : (c : Cell) → InTable f c → markOf f w numbered c ≡ pos (index f c)
@@ -173,12 +174,12 @@ module _ (f : Figures) (w : ℕ) (wide : w ≡ width f) (was numbered : List ℤ
       record {
         same = s .same ∙ n .same;
         beyond = λ j h. s .beyond j h ∙ n .apart j (inr h);
-        marked = λ ends later layer few.
-            let m = s .marked ends later (value-kept ends later layer) few in
+        marked = λ ends later k layer few.
+            let m = s .marked ends later k (value-kept layer) few in
             record {
               layer = m .layer;
               marks = λ c i some.
-                  let k = m .marks c i some in
-                  record { at = k .at; stands = k .stands; is = k .is ∙ mark-own (k .at) (k .stands .inside) };
+                  let one = m .marks c i some in
+                  record { at = one .at; stands = one .stands; is = one .is ∙ mark-own (one .at) (one .stands .inside) };
             };
       }

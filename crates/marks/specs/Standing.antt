@@ -17,7 +17,7 @@ use Rattle.optimality.specs.declared.Figures.{Figures}
 use Rattle.optimality.specs.Machine.{Quarter, go, inQuarter, walk}
 use Rattle.optimality.specs.Cells.{Sound, InTable, less, cellStep, planAt, valueAt}
 use Rattle.geometry.specs.Geometry.{width, index}
-use Rattle.geometry.specs.Layers.{Layer}
+use Rattle.geometry.specs.Layers.{LayerAt}
 use Rattle.marks.specs.declared.Frame.{Frame}
 use Rattle.marks.specs.Lines.{valueOf, markOf}
 
@@ -38,10 +38,13 @@ pub record MarkedBy (f : Figures) (ends : Cell → BestProfit) (front later : Li
   pub stands : Stands f ends front later c at
   pub is : mark ≡ given at
 
--- values and marks of all cells that have a plan
-pub record MarkedLayer (f : Figures) (ends : Cell → BestProfit) (front later : List Quarter) (given stored marked : Cell → ℤ) : Type 0 where
-  pub layer : Layer f ends (front ++ later) stored
+-- values, n intervals before the end, and marks of all cells that have a plan
+pub record MarkedAt (f : Figures) (n : ℕ) (ends : Cell → BestProfit) (front later : List Quarter) (given stored marked : Cell → ℤ) : Type 0 where
+  pub layer : LayerAt f n (valueAt f ends (front ++ later)) stored
   pub marks : (c : Cell) → InTable f c → (valueAt f ends (front ++ later) c ≡ Nothing → ⊥) → MarkedBy f ends front later given c (marked c)
+
+abbrev pub MarkedLayer : Figures → (Cell → BestProfit) → List Quarter → List Quarter → (Cell → ℤ) → (Cell → ℤ) → (Cell → ℤ) → Type 0
+MarkedLayer f ends front later given stored marked = MarkedAt f (length (front ++ later)) ends front later given stored marked
 
 -- ---- several intervals
 
@@ -57,22 +60,23 @@ pub record SweepAsked (g : Frame) (cells prices : List ℤ) (from to : ℕ) : Ty
   pub short : length prices ≤ mostIntervals
   pub ends : Cell → BestProfit
   pub later : List Quarter
-  pub layer : Layer (g .figures) ends later (valueOf (g .figures) (g .width) cells)
-  pub few : length later + (to - from) ≤ mostIntervals
+  pub ahead : ℕ
+  pub layer : LayerAt (g .figures) ahead (valueAt (g .figures) ends later) (valueOf (g .figures) (g .width) cells)
+  pub few : ahead + (to - from) ≤ mostIntervals
 
 -- whatever the layer said, the layer before these quarters stands there, each cell marked as the cell was where its plan stands after them
 pub record Swept (f : Figures) (w : ℕ) (was now : List ℤ) (quarters : List Quarter) : Type 0 where
   pub same : length now ≡ length was
   pub beyond : (j : ℕ) → w + w ≤ j → getD now j (pos 0) ≡ getD was j (pos 0)
-  pub marked : (ends : Cell → BestProfit) (later : List Quarter) → Layer f ends later (valueOf f w was) → length later + length quarters ≤ mostIntervals
-      → MarkedLayer f ends quarters later (markOf f w was) (valueOf f w now) (markOf f w now)
+  pub marked : (ends : Cell → BestProfit) (later : List Quarter) (n : ℕ) → LayerAt f n (valueAt f ends later) (valueOf f w was)
+      → n + length quarters ≤ mostIntervals → MarkedAt f (n + length quarters) ends quarters later (markOf f w was) (valueOf f w now) (markOf f w now)
 
 -- the same where each cell of the layer was given its own number
 pub record Numbered (f : Figures) (w : ℕ) (was now : List ℤ) (quarters : List Quarter) : Type 0 where
   pub same : length now ≡ length was
   pub beyond : (j : ℕ) → w + w ≤ j → getD now j (pos 0) ≡ getD was j (pos 0)
-  pub marked : (ends : Cell → BestProfit) (later : List Quarter) → Layer f ends later (valueOf f w was) → length later + length quarters ≤ mostIntervals
-      → MarkedLayer f ends quarters later (λ c. pos (index f c)) (valueOf f w now) (markOf f w now)
+  pub marked : (ends : Cell → BestProfit) (later : List Quarter) (n : ℕ) → LayerAt f n (valueAt f ends later) (valueOf f w was)
+      → n + length quarters ≤ mostIntervals → MarkedAt f (n + length quarters) ends quarters later (λ c. pos (index f c)) (valueOf f w now) (markOf f w now)
 
 -- ---- the intervals before the cell, as a case of their own
 

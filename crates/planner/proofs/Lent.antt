@@ -32,12 +32,12 @@ use Rattle.geometry.proofs.Widths.{width-is}
 use Rattle.layers.specs.Filling.{quartersIn}
 use Rattle.halving.specs.Tasks.{CaseAsked}
 use Rattle.planner.specs.Planning.{slicesChecks, lentChecks, lentChecked, scheduleChecks, scheduleChecked, planChecked, scratchAfter}
-use Rattle.runs.specs.Telling.{Told}
+use Rattle.valuation.specs.Telling.{Told}
 use Rattle.pair.specs.Rolling as Rolling
 use Rattle.planner.specs.declared.models.Model.{Model}
 use Rattle.planner.specs.Models.{ModelOf, Begun}
 use Rattle.planner.specs.Valuing.{valueLentChecks, valueLent, valueChecked}
-use Rattle.runs.proofs.Telling.{told-in}
+use Rattle.valuation.proofs.Telling.{told-in}
 
 -- ---- in turn
 

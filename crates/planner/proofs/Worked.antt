@@ -14,7 +14,7 @@ use Rattle.optimality.proofs.Optimal.{plan-length}
 use Rattle.planner.specs.declared.Reported.{Reported}
 use Rattle.planner.specs.declared.Reported.the-variants.{Report as Given}
 use Rattle.planner.specs.Planning.{scheduleAfter}
-use Rattle.runs.specs.Telling.{Told}
+use Rattle.valuation.specs.Telling.{Told}
 
 -- ---- best profits and plans
 

@@ -20,7 +20,7 @@ ghost use Rattle.commitment.specs.Valuing.{outcomesOf};
 ghost use Rattle.layers.specs.Filling.{Beyond};
 ghost use Rattle.planner.specs.Planning.{scheduleChecked, scheduleAfter};
 ghost use Rattle.planner.specs.Reporting.{reportedBy};
-ghost use Rattle.runs.specs.Telling.{ToldBy};
+ghost use Rattle.valuation.specs.Telling.{ToldBy};
 ghost use Rattle.planner.specs.Models.{Ready};
 ghost use Rattle.planner.specs.Valuing.{valuedBy};
 
@@ -39,11 +39,11 @@ pub fn read_report(
     ensures { λ _. ⌜ Beyond (cellsUsed unit (length (now (prices .entry))) (length (now (scratch .entry)))) (now (scratch .entry)) (now (scratch .exit)) ⌝ }
 {
     let f = model.figures;
-    match runs::whole_profit(unit, f, prices, &scratch[..]) {
+    match valuation::whole_profit(unit, f, prices, &scratch[..]) {
         BestProfit::Nothing => Reported::Refused(Cause::NoSchedule),
         BestProfit::Profit(profit) => {
             let count = prices.len();
-            let outcomes = runs::outcomes_in(unit, f, prices, &scratch[..]);
+            let outcomes = valuation::outcomes_in(unit, f, prices, &scratch[..]);
             read_plan(unit, model, prices, scratch, schedule);
             Reported::Report(Report {
                 count,
@@ -83,8 +83,8 @@ pub fn read_outcomes(unit: UnitRecord, f: Figures, prices: &[i64], cells: &[i64]
     requires { ⌜ ToldBy f unit (now prices) (now cells) ⌝ }
     ensures { λ r. ⌜ r ≡ valuedBy (scheduleChecked unit (now (prices .entry))) (outcomesOf unit (now (prices .entry))) ⌝ }
 {
-    match runs::whole_profit(unit, f, prices, cells) {
+    match valuation::whole_profit(unit, f, prices, cells) {
         BestProfit::Nothing => Valued::Refused(Cause::NoSchedule),
-        BestProfit::Profit(_) => Valued::Outcomes(runs::outcomes_in(unit, f, prices, cells)),
+        BestProfit::Profit(_) => Valued::Outcomes(valuation::outcomes_in(unit, f, prices, cells)),
     }
 }

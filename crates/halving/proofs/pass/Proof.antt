@@ -1,21 +1,23 @@
 -- The layer after the last interval, the later half rolled through from there, and the earlier half with marks.
 use mathlib.Core.Path.{_≡_, subst, _∙_}
-use mathlib.Core.List.{List, []}
+use mathlib.Core.List.{List, [], _++_}
 use mathlib.Core.Logic.{inr}
 use Prim.Native.Nat.{ℕ, _+_, _-_, _≤_, _<_}
-use native.Mathlib.Nat.{lt-of-le-of-lt}
+use native.Mathlib.Nat.{lt-of-le-of-lt, zero-add}
 use native.Mathlib.Omega.{arith}
 use lib.Dec.{lit<}
-use lib.ListN.{length}
+use lib.IntN.{pos}
+use lib.ListN.{length, length-append}
 use Rattle.commitment.specs.Windows.{opens}
 use Rattle.optimality.specs.Machine.{Quarter}
 use Rattle.optimality.proofs.Quarters.{quarters-length}
-use Rattle.geometry.specs.Geometry.{width}
+use Rattle.geometry.specs.Geometry.{width, index}
 use Rattle.geometry.specs.Layers.{Layer, storedAt}
 use Rattle.geometry.proofs.Sizes.{width-most}
 use Rattle.layers.specs.Filling.{quartersIn, between}
 use Rattle.layers.proofs.Between.{between-length}
-use Rattle.marks.specs.Lines.{valueOf}
+use Rattle.marks.specs.Lines.{valueOf, markOf}
+use Rattle.marks.specs.Standing.{MarkedAt}
 use Rattle.halving.specs.Tasks.{endsBy, PassAsked}
 use Rattle.halving.proofs.Joining.{middle-before}
 use Rattle.halving.proofs.Parts.{same-beyond}
@@ -60,7 +62,10 @@ roll-requires c κs =
       short = k .asked .short;
       some = middle mid .1;
       inside = k .asked .inside;
-      ended = record { ends = endsBy (o .args .end); last = last put };
+      ends = endsBy (o .args .end);
+      ahead = 0;
+      few = omega (arith, k .asked .inside, k .asked .short);
+      last = last put;
     }
 
 -- the later quarters, and the layer before them
@@ -77,7 +82,13 @@ layer : (c : tie.After-roll) →
     let mid = c .before .before .before .before .before in
     let a = mid .before .before .args in
     Layer (a .g .figures) (endsBy (a .end)) (laterQuarters mid) (valueOf (a .g .figures) (a .g .width) (c .roll .last .0))
-layer c = let put = c .before .before .before in c .roll .ensures .0 (endsBy (put .before .before .before .before .args .end)) (last put)
+layer c =
+    let put = c .before .before .before in
+    let mid = put .before .before in
+    let o = mid .before .before in
+    let long = later-long mid in
+    rw (zero-add (length (laterQuarters mid))) at
+    (c .roll .ensures .0 (endsBy (o .args .end)) 0 (omega (arith, long, asked o .asked .inside, asked o .asked .short)) (last put))
 
 mark-requires : tie.Need-mark-requires
 mark-requires c κs =
@@ -99,6 +110,7 @@ mark-requires c κs =
         short = k .asked .short;
         ends = endsBy (a .end);
         later = laterQuarters mid;
+        ahead = length (laterQuarters mid);
         layer = layer rolled;
         few = omega (arith, later-long mid, m, k .asked .inside, k .asked .short);
       },
@@ -118,11 +130,17 @@ returns c =
     let inside : mid .midway .result ≤ length (quartersIn (a .g .hours) (a .prices .now)) =
     omega (arith, quarters-length (opens (a .g .hours)) 0 (a .prices .now), k .asked .inside, middle mid) in
     let early = between-length (quartersIn (a .g .hours) (a .prices .now)) (a .from) (mid .midway .result) (middle mid .0) inside in
+    let earlyQuarters = between (quartersIn (a .g .hours) (a .prices .now)) (a .from) (mid .midway .result) in
+    let both : length (laterQuarters mid) + length earlyQuarters ≡ length (earlyQuarters ++ laterQuarters mid) =
+    omega (arith, length-append earlyQuarters (laterQuarters mid)) in
     record {
       marked =
           rw (mid .midway .ensures) at
-          (m .marked (endsBy (a .end)) (laterQuarters mid) (layer rolled)
-          (omega (arith, early, later-long mid, middle mid, k .asked .inside, k .asked .short)));
+          (subst
+          (λ (n : ℕ). MarkedAt (a .g .figures) n (endsBy (a .end)) earlyQuarters (laterQuarters mid) (λ x. pos (index (a .g .figures) x))
+          (valueOf (a .g .figures) (a .g .width) (made .mark .last .0)) (markOf (a .g .figures) (a .g .width) (made .mark .last .0))) both
+          (m .marked (endsBy (a .end)) (laterQuarters mid) (length (laterQuarters mid)) (layer rolled)
+          (omega (arith, early, later-long mid, middle mid, k .asked .inside, k .asked .short))));
       beyond = λ j h.
           m .beyond j h ∙ same-beyond (a .g .width + a .g .width) _ _ (rolled .roll .ensures .1) j h ∙ put .put-end .ensures .1 j (inr (omega (arith, h)));
     }

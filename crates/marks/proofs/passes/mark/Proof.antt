@@ -29,9 +29,9 @@ sweep-requires c κs =
         short = k .short;
         ends = k .ends;
         later = k .later;
+        ahead = k .ahead;
         layer =
-            value-kept (a .g .figures) (a .g .width) (k .wide) (a .cells .now) (numbered .mark-own .last .0) (numbered .mark-own .ensures) (k .ends)
-            (k .later) (k .layer);
+            value-kept (a .g .figures) (a .g .width) (k .wide) (a .cells .now) (numbered .mark-own .last .0) (numbered .mark-own .ensures) (k .layer);
         few = k .few;
       },
       (o .pre .1 .0, o .pre .1 .1),

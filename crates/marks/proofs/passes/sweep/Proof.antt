@@ -107,7 +107,7 @@ step-requires c κs =
     let front = between (quartersAt o) (l .loop .at) (a .to) in
     let long = between-length (quartersAt o) (l .loop .at) (a .to) (l .loop .inv .1) (omega (arith, as-many o, k .inside)) in
     rw (step-is made) (
-      before-swept (stepOf turn) (a .cells .now) (l .loop .cells) front (over turn) (k .marks) (l .loop .inv .4) (k .ends) (k .later) (k .layer)
+      before-swept (stepOf turn) (a .cells .now) (l .loop .cells) front (over turn) (k .marks) (l .loop .inv .4) (k .ends) (k .later) (k .ahead) (k .layer)
           (omega (arith, long, k .few, l .loop .inv .0)),
       (omega (arith, l .loop .inv .2, o .pre .1 .0), omega (arith, l .loop .inv .3, o .pre .1 .1)),
     )

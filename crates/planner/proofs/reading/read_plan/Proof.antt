@@ -13,8 +13,8 @@ use Rattle.optimality.specs.Cells.{figuresOf, quartersOf, planAt}
 use Rattle.optimality.proofs.Quarters.{quarters-priced, quarters-length}
 use Rattle.layers.specs.Filling.{quartersIn}
 use Rattle.table.specs.Reading.{PlanFrom}
-use Rattle.runs.specs.Telling.{Told}
-use Rattle.runs.proofs.Telling.{opening-inside, opening-plan, opening-some}
+use Rattle.valuation.specs.Telling.{Told}
+use Rattle.valuation.proofs.Telling.{opening-inside, opening-plan, opening-some}
 use Rattle.planner.proofs.Lent.{quarters, long-room, layers-used, two-intervals, case-asked, told}
 use Rattle.planner.proofs.Worked.{plan-in-front}
 use borrow.Author.Needs.{needs}

@@ -13,7 +13,7 @@ use Rattle.optimality.proofs.Optimal.{plan-length}
 use Rattle.planner.specs.declared.Reported.{Reported}
 use Rattle.planner.specs.Planning.{hasSchedule, scheduleAfter}
 use Rattle.planner.specs.Reporting.{reportedBy}
-use Rattle.runs.specs.Telling.{ToldBy}
+use Rattle.valuation.specs.Telling.{ToldBy}
 use Rattle.planner.proofs.Lent.{told}
 use Rattle.planner.proofs.Worked.{no-plan, some-plan, same-report}
 use borrow.Author.Needs.{needs}

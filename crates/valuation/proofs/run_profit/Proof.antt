@@ -6,8 +6,8 @@ use Rattle.commitment.specs.Best.{best, profitOf}
 use Rattle.commitment.specs.Limits.{limited}
 use Rattle.optimality.proofs.Opening.{under-one}
 use borrow.Author.Needs.{needs}
-use Rattle.runs.proofs.run_profit.Statement.{statement}
-use Rattle.runs.proofs.run_profit.Tie as tie
+use Rattle.valuation.proofs.run_profit.Statement.{statement}
+use Rattle.valuation.proofs.run_profit.Tie as tie
 
 profit-under-requires : tie.Need-profit-under-requires
 profit-under-requires c κs =

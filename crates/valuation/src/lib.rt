@@ -16,7 +16,7 @@ ghost use Rattle.commitment.specs.Best.{best, profitOf};
 ghost use Rattle.commitment.specs.Limits.{limitFor, limited};
 ghost use Rattle.commitment.specs.Valuing.{runAt, gapBetween, gapAt, outcomeOf, outcomesOf};
 ghost use Rattle.optimality.specs.Runs.{AtMost, Under};
-ghost use Rattle.runs.specs.Telling.{ToldBy, amount, mostAmount};
+ghost use Rattle.valuation.specs.Telling.{ToldBy, amount, mostAmount};
 
 // All from one first layer: a run with less is a cell of it with less left.
 pub fn outcomes_in(unit: UnitRecord, f: Figures, prices: &[i64], cells: &[i64]) -> Outcomes

@@ -10,10 +10,10 @@ use Rattle.integers.proofs.Ranges.{Within, within-abs, within-weaken, within-di
 use Rattle.commitment.specs.declared.BestProfit.{BestProfit}
 use Rattle.commitment.specs.declared.BestProfit.the-variants.{Profit}
 use Rattle.commitment.specs.Valuing.{gapBetween}
-use Rattle.runs.specs.Telling.{amount, mostAmount}
+use Rattle.valuation.specs.Telling.{amount, mostAmount}
 use borrow.Author.Needs.{needs}
-use Rattle.runs.proofs.gap_between.Statement.{statement}
-use Rattle.runs.proofs.gap_between.Tie as tie
+use Rattle.valuation.proofs.gap_between.Statement.{statement}
+use Rattle.valuation.proofs.gap_between.Tie as tie
 
 within-told : {b : BestProfit} (z : ℤ) → natAbs (amount b) < mostAmount → b ≡ Profit z → Within mostAmount z
 within-told z h e = within-weaken (omega (arith, subst (λ (b : BestProfit). natAbs (amount b) < mostAmount) e h)) (within-abs z)

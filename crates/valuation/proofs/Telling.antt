@@ -24,7 +24,7 @@ use Rattle.optimality.proofs.Runs.{profit-under}
 use Rattle.geometry.specs.Geometry.{width}
 use Rattle.geometry.specs.Layers.{told, inFront, Holds, Layer}
 use Rattle.geometry.proofs.Telling.{front-told}
-use Rattle.runs.specs.Telling.{amount, mostAmount, Told}
+use Rattle.valuation.specs.Telling.{amount, mostAmount, Told}
 
 stored-small : (n : ℕ) (v : BestProfit) (r : ℤ) → n ≤ mostIntervals → Holds n v r → natAbs (amount v) < mostAmount
 stored-small n Nothing r h k = omega arith

@@ -11,11 +11,11 @@ use Rattle.commitment.specs.Valuing.{runAt, gapBetween, gapAt}
 use Rattle.optimality.specs.Runs.{AtMost}
 use Rattle.optimality.proofs.Opening.{at-most-less, under-one}
 use Rattle.optimality.proofs.Runs.{gap-above}
-use Rattle.runs.specs.Telling.{amount, mostAmount}
-use Rattle.runs.proofs.Telling.{run-small}
+use Rattle.valuation.specs.Telling.{amount, mostAmount}
+use Rattle.valuation.proofs.Telling.{run-small}
 use borrow.Author.Needs.{needs}
-use Rattle.runs.proofs.run_pair.Statement.{statement}
-use Rattle.runs.proofs.run_pair.Tie as tie
+use Rattle.valuation.proofs.run_pair.Statement.{statement}
+use Rattle.valuation.proofs.run_pair.Tie as tie
 
 less : (c : tie.Start) → AtMost (At (c .args .figure - 1)) (limitFor (c .args .unit .limits) (c .args .which))
 less c = at-most-less (c .args .figure - 1) (c .args .figure) (limitFor (c .args .unit .limits) (c .args .which)) (omega arith) (c .pre .1)

@@ -7,10 +7,10 @@ use Rattle.commitment.specs.Limits.{limited}
 use Rattle.optimality.specs.Cells.{openingCell}
 use Rattle.optimality.proofs.Opening.{order-under}
 use Rattle.geometry.specs.Layers.{told, inFront}
-use Rattle.runs.proofs.Telling.{sound, run-inside, run-told}
+use Rattle.valuation.proofs.Telling.{sound, run-inside, run-told}
 use borrow.Author.Needs.{needs}
-use Rattle.runs.proofs.profit_under.Statement.{statement}
-use Rattle.runs.proofs.profit_under.Tie as tie
+use Rattle.valuation.proofs.profit_under.Statement.{statement}
+use Rattle.valuation.proofs.profit_under.Tie as tie
 
 cell-is : (c : tie.After-opening-cell) →
     let a = c .before .before .args in

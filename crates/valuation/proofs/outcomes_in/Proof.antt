@@ -3,8 +3,8 @@ use mathlib.Core.Path.{_≡_}
 use Rattle.commitment.specs.declared.Outcome.{Outcome}
 use Rattle.commitment.specs.declared.Outcomes.{Outcomes}
 use borrow.Author.Needs.{needs}
-use Rattle.runs.proofs.outcomes_in.Statement.{statement}
-use Rattle.runs.proofs.outcomes_in.Tie as tie
+use Rattle.valuation.proofs.outcomes_in.Statement.{statement}
+use Rattle.valuation.proofs.outcomes_in.Tie as tie
 
 same-outcomes : {a a′ b b′ d d′ : Outcome} → a ≡ a′ → b ≡ b′ → d ≡ d′
     → _≡_ {A = Outcomes} (record { starts = a; hours = b; mwh = d }) (record { starts = a′; hours = b′; mwh = d′ })

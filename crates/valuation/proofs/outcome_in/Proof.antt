@@ -12,8 +12,8 @@ use Rattle.commitment.specs.Valuing.{runAt, gapAt, gapUnder}
 use Rattle.commitment.proofs.Ranges.{limit-small}
 use Rattle.optimality.proofs.Runs.{lowered-less}
 use borrow.Author.Needs.{needs}
-use Rattle.runs.proofs.outcome_in.Statement.{statement}
-use Rattle.runs.proofs.outcome_in.Tie as tie
+use Rattle.valuation.proofs.outcome_in.Statement.{statement}
+use Rattle.valuation.proofs.outcome_in.Tie as tie
 
 limit-is : (c : tie.After-limit) → let a = c .before .before .before .before .args in limitFor (a .unit .limits) (a .which) ≡ At (c .limit .given .0 .0)
 limit-is c = sym (c .before .before .limit-for .ensures) ∙ c .limit .given .1
