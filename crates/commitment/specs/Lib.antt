@@ -16,4 +16,5 @@ pub mod Cells
 pub mod Tries
 pub mod PlanCases
 pub mod HourCases
+pub mod MonthCases
 pub mod TryCases
