@@ -7,30 +7,30 @@ use Rattle.commitment.specs.declared.Limits.{Limits}
 use Rattle.commitment.specs.declared.Limit.the-variants.{None, At}
 use Rattle.commitment.specs.Months.{Month, keepsMonths}
 
-record Case : Type 0 where
-  limits : Limits
-  on : Bool
-  schedule : List ℕ
+pub record MonthCase : Type 0 where
+  pub limits : Limits
+  pub on : Bool
+  pub schedule : List ℕ
 
-starts : ℕ → Limits
+abbrev pub starts : ℕ → Limits
 starts k = record { starts = At k; hours = None; mwh = None }
 
-hours : ℕ → Limits
+abbrev pub hours : ℕ → Limits
 hours k = record { starts = None; hours = At k; mwh = None }
 
-mwh : ℕ → Limits
+abbrev pub mwh : ℕ → Limits
 mwh k = record { starts = None; hours = None; mwh = At k }
 
-two : Limits → List Month
+abbrev pub two : Limits → List Month
 two l = record { long = 3; limits = l } ∷ record { long = 3; limits = l } ∷ []
 
-kept : Case → Bool
+abbrev pub kept : MonthCase → Bool
 kept c = keepsMonths (two (c .limits)) (c .on) (c .schedule)
 
-of : Limits → Bool → List ℕ → Case
+abbrev pub of : Limits → Bool → List ℕ → MonthCase
 of l on s = record { limits = l; on = on; schedule = s }
 
-cases : List Case
+abbrev pub cases : List MonthCase
 cases =
     -- a run that goes over the month's end starts in the first month alone
     of (starts 1) false (0 ∷ 10 ∷ 10 ∷ 10 ∷ 0 ∷ 10 ∷ [])
