@@ -84,8 +84,8 @@ module _ (f : Figures) (prices : List ℤ) (hours : Hours) (m : Month) (at : Pla
           let p = asked .month .placed in
           record {
             fits = asked .fits;
-            apart = inl (omega (arith, p .here, p .after));
-            year = omega (arith, p .here, p .after, p .work, same, long);
+            apart = inl (p .here);
+            year = omega (arith, p .here, p .work, same, long);
             box = omega (arith, p .work, same, long);
           }
 
@@ -109,7 +109,7 @@ module _ (f : Figures) (prices : List ℤ) (hours : Hours) (m : Month) (at : Pla
             let p = asked .month .placed in
             record {
               made = value;
-              others = λ z i over. stored .others z i over ∙ before-work (at .here + index f z) (omega (arith, index-lt f z i, p .here, p .after));
+              others = λ z i over. stored .others z i over ∙ before-work (at .here + index f z) (omega (arith, index-lt f z i, p .here));
               elsewhere = λ j out away.
                   stored .apart j out ∙ rolled .apart j away
                   ∙ entered .apart j

@@ -132,7 +132,10 @@ module _ (f : Figures) (prices : List ℤ) (hours : Hours) (m : Month) (at : Pla
           holds = λ z i.
               subst (λ (v : ℤ). Holds n (worth z) v)
               (sym
-              (p .elsewhere (at .after + index f z) (inr (omega (arith, q .here))) (inl (omega (arith, index-lt f z i, q .after)))))
+              (p .elsewhere (at .after + index f z)
+              (⊎-elim (λ (o : at .here + width f ≤ at .after). inr (omega arith)) (λ (o : at .after + width f ≤ at .here). inl (omega (arith, index-lt f z i)))
+              (q .apart))
+              (inl (omega (arith, index-lt f z i, q .after)))))
               (layer .holds z i);
         }
 
@@ -143,7 +146,7 @@ module _ (f : Figures) (prices : List ℤ) (hours : Hours) (m : Month) (at : Pla
               record {
                 sound = asked .sound;
                 cap = asked .cap;
-                placed = record { here = asked .placed .here; after = asked .placed .after; work = omega (arith, asked .placed .work, p .same) };
+                placed = record { apart = asked .placed .apart; here = asked .placed .here; after = asked .placed .after; work = omega (arith, asked .placed .work, p .same) };
                 priced = asked .priced;
                 clocked = asked .clocked;
                 short = asked .short;

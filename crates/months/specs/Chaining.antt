@@ -51,7 +51,8 @@ valueBefore f cap quarters worth z = valueAt f (λ x. worth (raised (overOf cap 
 
 -- three places that do not meet: a year's layer each, and two layers of the box
 pub record Placed (f : Figures) (cap : Budgets) (at : Places) (cells : ℕ) : Type 0 where
-  pub here : at .here + width f ≤ at .after
+  pub apart : (at .here + width f ≤ at .after) ⊎ (at .after + width f ≤ at .here)
+  pub here : at .here + width f ≤ at .work
   pub after : at .after + width f ≤ at .work
   pub work : at .work + (width (withMost f cap) + width (withMost f cap)) ≤ cells
 
