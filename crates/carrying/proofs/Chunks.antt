@@ -16,12 +16,21 @@ use Rattle.integers.proofs.Ranges.{abs-within}
 use Rattle.intervals.specs.declared.rows.Ladder.{Ladder}
 use Rattle.intervals.specs.Ladders.{brings, outputs}
 use Rattle.intervals.proofs.Ladders.{brings-next, brings-within, fall-within}
+use Rattle.carrying.specs.declared.images.Slope.{Slope}
+use Rattle.carrying.specs.declared.images.Places.{Places}
 use Rattle.carrying.specs.Pairs.{Joined}
 use Rattle.carrying.specs.Picking.{Picked}
 use Rattle.carrying.specs.Images.{stepped, upWorth, upMark, UpPicked, downWorth, downMark, DownPicked, Allowed, worth, markBy, PickedAt}
-use Rattle.carrying.specs.Images.{piece, Aside, Descended, Sources, Chunk, Chunked, Piece, Imaged}
+use Rattle.carrying.specs.Images.{piece, Aside, Descended, Sources, Chunk, Chunked, Chunks, Imaged}
 use Rattle.carrying.proofs.Picking.{picked-of, picked-left, picked-right, picked-renamed}
 use Rattle.carrying.proofs.Steps.{stepped-none, stepped-next}
+
+-- the sources that are climbed, and those that are descended
+abbrev pub upOf : Ladder → ℕ → ℕ → ℕ → Slope
+upOf l line z count = record { from = line + (z - l .low); count = count; gain = l .least; rise = l .rise }
+
+abbrev pub downOf : Ladder → ℕ → ℕ → Slope
+downOf l line z = record { from = line + (z - l .high); count = l .high - l .low; gain = brings l (l .high); rise = pos 0 -ℤ l .rise }
 
 module _ (l : Ladder) where
   brings-up : (d : ℕ) → stepped (l .least) (l .rise) d ≡ brings l (d + l .low)
@@ -42,10 +51,10 @@ module _ (l : Ladder) where
 
   module _ (cells : List ℤ) (w line z : ℕ) (fits : l .low ≤ z) where
     -- what is climbed to a place
-    pub climbed : (i : ℕ) {v m : ℤ} → UpPicked cells w (line + (z - l .low)) (l .least) (l .rise) i v m
+    pub climbed : (count i : ℕ) {v m : ℤ} → UpPicked cells w (upOf l line z count) i v m
         → Picked (λ k. (l .low ≤ k) × (k ≤ l .low + i)) (worth l cells w line (z + i)) (markBy l cells w line (z + i)) v m
-    climbed i p =
-        picked-renamed (l .low) (upWorth cells w (line + (z - l .low)) (l .least) (l .rise) i) (upMark cells w (line + (z - l .low)) (l .least) (l .rise) i)
+    climbed count i p =
+        picked-renamed (l .low) (upWorth cells w (upOf l line z count) i) (upMark cells w (upOf l line z count) i)
         (worth l cells w line (z + i)) (markBy l cells w line (z + i))
         (λ d h. (omega arith, omega arith))
         (λ k h. (k - l .low, omega (arith, h .1), omega (arith, h .0)))
@@ -60,12 +69,12 @@ module _ (l : Ladder) where
 
     -- what is descended to a place
     pub descended : l .high ≤ z → l .low ≤ l .high → (i : ℕ) → i < l .high - l .low → {v m : ℤ}
-        → DownPicked cells w (line + (z - l .high)) (l .high - l .low) (brings l (l .high)) (pos 0 -ℤ l .rise) (l .high - l .low - 1 - i) v m
+        → DownPicked cells w (downOf l line z) (l .high - l .low - 1 - i) v m
         → Picked (λ k. (l .low + i < k) × (k ≤ l .high)) (worth l cells w line (z + i)) (markBy l cells w line (z + i)) v m
     descended past some i inside p =
         picked-renamed (l .low + suc i)
-        (downWorth cells w (line + (z - l .high)) (l .high - l .low) (brings l (l .high)) (pos 0 -ℤ l .rise) (l .high - l .low - 1 - i))
-        (downMark cells w (line + (z - l .high)) (l .high - l .low) (brings l (l .high)) (pos 0 -ℤ l .rise))
+        (downWorth cells w (downOf l line z) (l .high - l .low - 1 - i))
+        (downMark cells w (downOf l line z))
         (worth l cells w line (z + i)) (markBy l cells w line (z + i))
         (λ t h. (omega arith, omega arith))
         (λ k h. (k - (l .low + suc i), omega (arith, h .0, h .1), omega (arith, h .0)))
@@ -98,7 +107,7 @@ module _ (l : Ladder) where
       pub joined-all : l .high ≤ z → i < l .high - l .low → {v₀ m₀ v m : ℤ}
           → Picked (λ k. (l .low ≤ k) × (k ≤ l .low + i)) (worth l cells w line (z + i)) (markBy l cells w line (z + i)) v₀ m₀
           → Joined v₀ m₀ v m
-          (DownPicked cells w (line + (z - l .high)) (l .high - l .low) (brings l (l .high)) (pos 0 -ℤ l .rise) (l .high - l .low - 1 - i))
+          (DownPicked cells w (downOf l line z) (l .high - l .low - 1 - i))
           → PickedAt l cells w line (z + i) v m
       joined-all past inside {v₀} {m₀} {v} {m} a j =
           picked-of (worth l cells w line (z + i)) (markBy l cells w line (z + i))
@@ -135,10 +144,10 @@ module _ (l : Ladder) where
       narrower j n h o = ⊎-elim (λ (a : j < to). inl a) (λ (a : to + outputs l ≤ j). inr (omega arith)) o
 
       pub chunk-plain : (out : List ℤ) → (z ≡ l .low) ⊎ (l .high ≤ l .low)
-          → Aside (UpPicked cells w (line + (z - l .low)) (l .least) (l .rise)) was out to count → Chunked l cells w line z count was out to
+          → Aside (UpPicked cells w (upOf l line z count)) was out to count → Chunked l cells w (record { line = line; first = z; count = count }) was out to
       chunk-plain out begins a =
           record {
-            inside = λ i h. climbed-all i (omega arith) (begin i) (climbed i (a .inside i h));
+            inside = λ i h. climbed-all i (omega arith) (begin i) (climbed count i (a .inside i h));
             apart =
                 record {
                   same = a .apart .same;
@@ -152,9 +161,9 @@ module _ (l : Ladder) where
           begin i = ⊎-elim (λ (e : z ≡ l .low). inl e) (λ (e : l .high ≤ l .low). inr (omega arith)) begins
 
       pub chunk-joined : (mid out : List ℤ) → l .high < z → l .low < l .high
-          → Aside (UpPicked cells w (line + (z - l .low)) (l .least) (l .rise)) was mid to count
-          → Descended cells w (line + (z - l .high)) (l .high - l .low) (brings l (l .high)) (pos 0 -ℤ l .rise) mid out to (l .high - l .low)
-          → Chunked l cells w line z count was out to
+          → Aside (UpPicked cells w (upOf l line z count)) was mid to count
+          → Descended cells w (downOf l line z) mid out to (l .high - l .low)
+          → Chunked l cells w (record { line = line; first = z; count = count }) was out to
       chunk-joined mid out past wide a d =
           record {
             inside = λ i h. by i h (ltb i (l .high - l .low)) refl;
@@ -175,20 +184,26 @@ module _ (l : Ladder) where
               → PickedAt l cells w line (z + i) (getD out (to + i) (pos 0)) (getD out (piece + (to + i)) (pos 0))
           by i h true e =
               let inside = ltb-true i (l .high - l .low) e in
-              joined-all i (omega arith) (omega arith) inside (climbed i (a .inside i h)) (d .inside i (omega arith) inside)
+              joined-all i (omega arith) (omega arith) inside (climbed count i (a .inside i h)) (d .inside i (omega arith) inside)
           by i h false e =
               let past-it = ltb-false i (l .high - l .low) e in
               rw
               (d .apart .values (to + i) (omega arith) (inr (omega arith)), d .apart .marks (to + i) (omega arith) (inr (omega arith)))
-              (climbed-all i (omega arith) (inr (omega arith)) (climbed i (a .inside i h)))
+              (climbed-all i (omega arith) (inr (omega arith)) (climbed count i (a .inside i h)))
 
 -- ---- what the two ways ask of a chunk
 
-module _ (l : Ladder) (cells : List ℤ) (w line z count : ℕ) (c : Chunk l cells w line z count) where
+module _ (l : Ladder) (cells : List ℤ) (w : ℕ) (p : Places) (c : Chunk l cells w p) where
+  abbrev z : ℕ
+  z = p .first
+
+  abbrev line : ℕ
+  line = p .line
+
   pub begins-low : l .low ≤ z
   begins-low = ⊎-elim (λ (e : z ≡ l .low). omega arith) (λ (e : l .high < z). omega (arith, c .steady .some)) (c .begins)
 
-  pub up-sources : Sources cells w (line + (z - l .low)) count (l .least) (l .rise)
+  pub up-sources : Sources cells w (upOf l line z (p .count))
   up-sources =
       record {
         some = c .some;
@@ -203,7 +218,7 @@ module _ (l : Ladder) (cells : List ℤ) (w line z count : ℕ) (c : Chunk l cel
       }
 
   pub down-sources : l .high < z → l .low < l .high
-      → Sources cells w (line + (z - l .high)) (l .high - l .low) (brings l (l .high)) (pos 0 -ℤ l .rise)
+      → Sources cells w (downOf l line z)
   down-sources past wide =
       record {
         some = omega arith;
@@ -219,18 +234,18 @@ module _ (l : Ladder) (cells : List ℤ) (w line z count : ℕ) (c : Chunk l cel
 
 -- ---- a piece, chunk by chunk
 
-module _ (l : Ladder) (cells : List ℤ) (w line z count : ℕ) (p : Piece l cells w line z count) where
+module _ (l : Ladder) (cells : List ℤ) (w : ℕ) (at : Places) (p : Chunks l cells w at) where
   -- so many chunks are done
-  pub record Windowed (was out : List ℤ) (done : ℕ) : Type 0 where
+  pub record InChunks (was out : List ℤ) (done : ℕ) : Type 0 where
     pub chunks : ℕ
     pub whole : done ≡ chunks * outputs l
-    pub inside : (i : ℕ) → i < done → i < count → PickedAt l cells w line (z + i) (getD out i (pos 0)) (getD out (piece + i) (pos 0))
+    pub inside : (i : ℕ) → i < done → i < at .count → PickedAt l cells w (at .line) (at .first + i) (getD out i (pos 0)) (getD out (piece + i) (pos 0))
     pub same : length out ≡ length was
 
-  pub windowed-none : (was : List ℤ) → Windowed was was 0
-  windowed-none was = record { chunks = 0; whole = omega arith; inside = λ i h g. absurd (omega arith); same = refl }
+  pub chunks-none : (was : List ℤ) → InChunks was was 0
+  chunks-none was = record { chunks = 0; whole = omega arith; inside = λ i h g. absurd (omega arith); same = refl }
 
-  module _ (was out : List ℤ) (done : ℕ) (before : done < count) (v : Windowed was out done) where
+  module _ (was out : List ℤ) (done : ℕ) (before : done < at .count) (v : InChunks was out done) where
     -- the next chunk has room aside
     pub room-for : done + outputs l ≤ piece
     room-for = by (ltb (v .chunks) (p .chunks)) refl
@@ -245,7 +260,8 @@ module _ (l : Ladder) (cells : List ℤ) (w line z count : ℕ) (p : Piece l cel
             let m : p .chunks * outputs l ≤ v .chunks * outputs l = mul-le-mul-right (outputs l) h in
             absurd (omega (arith, m, v .whole, p .most))
 
-    pub next-chunk : (some : ℕ) → some ≡ min (outputs l) (count - done) → Chunk l cells w line (z + done) some
+    pub next-chunk : (some : ℕ) → some ≡ min (outputs l) (at .count - done)
+        → Chunk l cells w (record { line = at .line; first = at .first + done; count = some })
     next-chunk some e =
         record {
           steady = p .steady;
@@ -257,11 +273,11 @@ module _ (l : Ladder) (cells : List ℤ) (w line z count : ℕ) (p : Piece l cel
           small = λ i h. p .small i (omega (arith, e));
         }
       where
-        begin : (n : ℕ) → p .before + v .chunks ≡ n → (z + done ≡ l .low) ⊎ (l .high < z + done)
+        begin : (n : ℕ) → p .before + v .chunks ≡ n → (at .first + done ≡ l .low) ⊎ (l .high < at .first + done)
         begin zero n =
             let a : p .before ≡ 0 = omega arith in
             let b : v .chunks ≡ 0 = omega arith in
-            let za : z ≡ l .low + 0 * outputs l = rw a at (p .begins) in
+            let za : at .first ≡ l .low + 0 * outputs l = rw a at (p .begins) in
             let db : done ≡ 0 * outputs l = rw b at (v .whole) in
             inl (omega (arith, za, db))
         begin (suc n) e =
@@ -269,9 +285,10 @@ module _ (l : Ladder) (cells : List ℤ) (w line z count : ℕ) (p : Piece l cel
             let m : 1 * outputs l ≤ (p .before + v .chunks) * outputs l = mul-le-mul-right (outputs l) (omega arith) in
             inr (omega (arith, m, both, p .begins, v .whole, p .steady .some))
 
-    pub windowed-next : (some : ℕ) → some ≡ min (outputs l) (count - done) → (next : List ℤ) → Chunked l cells w line (z + done) some out next done
-        → Windowed was next (done + outputs l)
-    windowed-next some e next c =
+    pub chunks-next : (some : ℕ) → some ≡ min (outputs l) (at .count - done) → (next : List ℤ)
+        → Chunked l cells w (record { line = at .line; first = at .first + done; count = some }) out next done
+        → InChunks was next (done + outputs l)
+    chunks-next some e next c =
         record {
           chunks = v .chunks + 1;
           whole = omega (arith, v .whole, add-mul (v .chunks) 1 (outputs l));
@@ -279,17 +296,17 @@ module _ (l : Ladder) (cells : List ℤ) (w line z count : ℕ) (p : Piece l cel
           same = c .apart .same ∙ v .same;
         }
       where
-        by : (i : ℕ) → i < done + outputs l → i < count → (t : Bool) → ltb i done ≡ t
-            → PickedAt l cells w line (z + i) (getD next i (pos 0)) (getD next (piece + i) (pos 0))
+        by : (i : ℕ) → i < done + outputs l → i < at .count → (t : Bool) → ltb i done ≡ t
+            → PickedAt l cells w (at .line) (at .first + i) (getD next i (pos 0)) (getD next (piece + i) (pos 0))
         by i h g true t =
             let k = ltb-true i done t in
             rw (c .apart .values i (omega (arith, room-for)) (inl k), c .apart .marks i (omega (arith, room-for)) (inl k)) (v .inside i k g)
         by i h g false t =
             let k = ltb-false i done t in
-            let at : done + (i - done) ≡ i = omega arith in
-            let place : z + done + (i - done) ≡ z + i = omega arith in
-            rw (place, at) at (c .inside (i - done) (omega (arith, e)))
+            let back : done + (i - done) ≡ i = omega arith in
+            let place : at .first + done + (i - done) ≡ at .first + i = omega arith in
+            rw (place, back) at (c .inside (i - done) (omega (arith, e)))
 
-  pub windowed-all : (was out : List ℤ) (done : ℕ) → count ≤ done → Windowed was out done
-      → Imaged (λ i v m. PickedAt l cells w line (z + i) v m) was out count
-  windowed-all was out done past v = record { inside = λ i h. v .inside i (omega arith) h; same = v .same }
+  pub chunks-all : (was out : List ℤ) (done : ℕ) → at .count ≤ done → InChunks was out done
+      → Imaged (λ i v m. PickedAt l cells w (at .line) (at .first + i) v m) was out (at .count)
+  chunks-all was out done past v = record { inside = λ i h. v .inside i (omega arith) h; same = v .same }

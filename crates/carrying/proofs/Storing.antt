@@ -12,6 +12,7 @@ use lib.ListN.{length, getD, set, length-set}
 use lib.Signed.{ltZ}
 use lib.Seq.{getD-set-same, getD-set-other}
 use Rattle.intervals.proofs.Stretches.{last-or-before}
+use Rattle.carrying.specs.declared.images.Slope.{Slope}
 use Rattle.carrying.specs.Images.{piece, Aside, DownPicked, Descended, Imaged}
 use Rattle.carrying.specs.Pairs.{Pairs, Joined, putPair, joinPair}
 
@@ -84,18 +85,18 @@ imaged Stands was out count a =
 
 -- ---- from the last place down
 
-module _ (cells : List ℤ) (w from count : ℕ) (gain fall : ℤ) (was : List ℤ) (to : ℕ) where
-  pub descended-none : Descended cells w from count gain fall was was to 0
+module _ (cells : List ℤ) (w : ℕ) (slope : Slope) (was : List ℤ) (to : ℕ) where
+  pub descended-none : Descended cells w slope was was to 0
   descended-none =
       record { inside = λ j lo hi. absurd (omega arith); apart = record { same = refl; values = λ j h o. refl; marks = λ j h o. refl; beyond = λ j h. refl } }
 
-  pub descended-next : (out : List ℤ) (i : ℕ) (v m : ℤ) → i < count → to + count ≤ piece → piece + piece ≤ length was
-      → Descended cells w from count gain fall was out to i → DownPicked cells w from count gain fall i v m
-      → Descended cells w from count gain fall was (joinPair piece out (to + (count - 1 - i)) v m) to (i + 1)
+  pub descended-next : (out : List ℤ) (i : ℕ) (v m : ℤ) → i < slope .count → to + slope .count ≤ piece → piece + piece ≤ length was
+      → Descended cells w slope was out to i → DownPicked cells w slope i v m
+      → Descended cells w slope was (joinPair piece out (to + (slope .count - 1 - i)) v m) to (i + 1)
   descended-next out i v m inside fits long d this =
       record {
         inside = λ k lo hi.
-            ⊎-elim (λ (e : k ≡ j). rw e (here (subst (λ (n : ℕ). DownPicked cells w from count gain fall n v m) (sym turn) this)))
+            ⊎-elim (λ (e : k ≡ j). rw e (here (subst (λ (n : ℕ). DownPicked cells w slope n v m) (sym turn) this)))
             (λ (l : j < k).
             rw (
               value-elsewhere piece out (to + j) v′ m′ at room (to + k) (omega arith) (λ e. omega arith),
@@ -113,9 +114,9 @@ module _ (cells : List ℤ) (w from count : ℕ) (gain fall : ℤ) (was : List �
       }
     where
       j : ℕ
-      j = count - 1 - i
+      j = slope .count - 1 - i
 
-      turn : count - 1 - j ≡ i
+      turn : slope .count - 1 - j ≡ i
       turn = omega arith
 
       at : to + j < piece
@@ -143,9 +144,9 @@ module _ (cells : List ℤ) (w from count : ℕ) (gain fall : ℤ) (was : List �
       old-mark : getD out (piece + (to + j)) (pos 0) ≡ getD was (piece + (to + j)) (pos 0)
       old-mark = d .apart .marks (to + j) at (inl (omega arith))
 
-      here : DownPicked cells w from count gain fall (count - 1 - j) v m
+      here : DownPicked cells w slope (slope .count - 1 - j) v m
           → Joined (getD was (to + j) (pos 0)) (getD was (piece + (to + j)) (pos 0)) (getD (joinPair piece out (to + j) v m) (to + j) (pos 0))
-          (getD (joinPair piece out (to + j) v m) (piece + (to + j)) (pos 0)) (DownPicked cells w from count gain fall (count - 1 - j))
+          (getD (joinPair piece out (to + j) v m) (piece + (to + j)) (pos 0)) (DownPicked cells w slope (slope .count - 1 - j))
       here p =
           record {
             value = v;
@@ -155,9 +156,10 @@ module _ (cells : List ℤ) (w from count : ℕ) (gain fall : ℤ) (was : List �
             marked = mark-there piece out (to + j) v′ m′ at room ∙ ap₂ (λ (x y : ℤ). cond (ltZ x v) m y) old-value old-mark;
           }
 
-      not-here : (k : ℕ) → (k < to + (count - (i + 1))) ⊎ (to + (count - (i + 1)) + (i + 1) ≤ k) → k ≡ to + j → ⊥
-      not-here k o e = ⊎-elim (λ (l : k < to + (count - (i + 1))). omega arith) (λ (l : to + (count - (i + 1)) + (i + 1) ≤ k). omega arith) o
+      not-here : (k : ℕ) → (k < to + (slope .count - (i + 1))) ⊎ (to + (slope .count - (i + 1)) + (i + 1) ≤ k) → k ≡ to + j → ⊥
+      not-here k o e = ⊎-elim (λ (l : k < to + (slope .count - (i + 1))). omega arith) (λ (l : to + (slope .count - (i + 1)) + (i + 1) ≤ k). omega arith) o
 
-      wider : (k : ℕ) → (k < to + (count - (i + 1))) ⊎ (to + (count - (i + 1)) + (i + 1) ≤ k) → (k < to + (count - i)) ⊎ (to + (count - i) + i ≤ k)
+      wider : (k : ℕ) → (k < to + (slope .count - (i + 1))) ⊎ (to + (slope .count - (i + 1)) + (i + 1) ≤ k)
+          → (k < to + (slope .count - i)) ⊎ (to + (slope .count - i) + i ≤ k)
       wider k o =
-          ⊎-elim (λ (l : k < to + (count - (i + 1))). inl (omega arith)) (λ (l : to + (count - (i + 1)) + (i + 1) ≤ k). inr (omega arith)) o
+          ⊎-elim (λ (l : k < to + (slope .count - (i + 1))). inl (omega arith)) (λ (l : to + (slope .count - (i + 1)) + (i + 1) ≤ k). inr (omega arith)) o

@@ -6,27 +6,37 @@ use intervals::rows::Ladder;
 ghost use mathlib.Core.Path.{_≡_};
 ghost use Prim.Native.Nat.{_+_, _≤_};
 ghost use lib.ListN.{length};
-ghost use Rattle.carrying.specs.Images.{piece, Sources, Aside, UpPicked, Descended, Chunk, Chunked, PickedAt, Piece, Imaged, Shift, Shifted};
+ghost use Rattle.carrying.specs.Images.{piece, Sources, Aside, UpPicked, Descended, Chunk, Chunked, PickedAt, Chunks, Imaged, Shift, Shifted};
 ghost use Rattle.geometry.specs.Layers.{infeasible};
 ghost use Rattle.intervals.specs.Ladders.{outputs};
 
 // The places that are worked out aside at a time: at least as many as there are outputs.
 pub const PIECE: usize = 512;
 
+// Sources, one after the other, with what is gained at the nearest and how much more with each that is farther.
+pub struct Slope {
+    pub from: usize,
+    pub count: usize,
+    pub gain: i64,
+    pub rise: i64,
+}
+
+// So many places of a line from one on.
+pub struct Places {
+    pub line: usize,
+    pub first: usize,
+    pub count: usize,
+}
+
 // Up the sources with the best so far, which gains the rise at every place; the later source, whose output is smaller, wins a tie.
-fn climb(
-    cells: &[i64],
-    w: usize,
-    from: usize,
-    count: usize,
-    gain: i64,
-    rise: i64,
-    out: &mut [i64],
-    to: usize,
-)
-    requires { ⌜ (Sources (now cells) w from count gain rise) × (to + count ≤ piece) × (piece + piece ≤ length (now out)) ⌝ }
-    ensures { λ _. ⌜ Aside (UpPicked (now (cells .entry)) w from gain rise) (now (out .entry)) (now (out .exit)) to count ⌝ }
+fn climb(cells: &[i64], w: usize, s: Slope, out: &mut [i64], to: usize)
+    requires { ⌜ (Sources (now cells) w s) × (to + s .count ≤ piece) × (piece + piece ≤ length (now out)) ⌝ }
+    ensures { λ _. ⌜ Aside (UpPicked (now (cells .entry)) w s) (now (out .entry)) (now (out .exit)) to (s .count) ⌝ }
 {
+    let from = s.from;
+    let count = s.count;
+    let gain = s.gain;
+    let rise = s.rise;
     let mut best = cells[from] - rise;
     let mut mark = 0;
     let mut i = 0;
@@ -41,21 +51,16 @@ fn climb(
     }
 }
 
-// Down the sources with the best so far, which gains the fall at every place; the later source, whose output is smaller, wins a tie. What comes down to
-// a place is joined with what stands there, whose outputs are smaller.
-fn descend(
-    cells: &[i64],
-    w: usize,
-    from: usize,
-    count: usize,
-    gain: i64,
-    fall: i64,
-    out: &mut [i64],
-    to: usize,
-)
-    requires { ⌜ (Sources (now cells) w from count gain fall) × (to + count ≤ piece) × (piece + piece ≤ length (now out)) ⌝ }
-    ensures { λ _. ⌜ Descended (now (cells .entry)) w from count gain fall (now (out .entry)) (now (out .exit)) to count ⌝ }
+// Down the sources with the best so far, which gains the rise at every place; the earlier source, whose output is smaller, wins a tie. What comes down
+// to a place is joined with what stands there, whose outputs are smaller.
+fn descend(cells: &[i64], w: usize, s: Slope, out: &mut [i64], to: usize)
+    requires { ⌜ (Sources (now cells) w s) × (to + s .count ≤ piece) × (piece + piece ≤ length (now out)) ⌝ }
+    ensures { λ _. ⌜ Descended (now (cells .entry)) w s (now (out .entry)) (now (out .exit)) to (s .count) ⌝ }
 {
+    let from = s.from;
+    let count = s.count;
+    let gain = s.gain;
+    let fall = s.rise;
     let last = count - 1;
     let mut best = cells[from + last] - fall;
     let mut mark = cells[w + (from + last)];
@@ -72,65 +77,49 @@ fn descend(
     }
 }
 
-// The places of a line from z on, as many as there are outputs at most. Place z + i has its smaller outputs from the sources that are climbed, up to z + i
-// less the lowest, and the larger ones from those before, which are descended; where the line begins there are none.
-fn chunk(
-    cells: &[i64],
-    w: usize,
-    line: usize,
-    z: usize,
-    count: usize,
-    l: Ladder,
-    out: &mut [i64],
-    to: usize,
-)
-    requires { ⌜ (Chunk l (now cells) w line z count) × (to + outputs l ≤ piece) × (piece + piece ≤ length (now out)) ⌝ }
-    ensures { λ _. ⌜ Chunked l (now (cells .entry)) w line z count (now (out .entry)) (now (out .exit)) to ⌝ }
+// As many places as there are outputs at most. The i-th has its smaller outputs from the sources that are climbed, up to itself less the lowest, and the
+// larger ones from those before, which are descended; where the line begins there are none.
+fn chunk(cells: &[i64], w: usize, p: Places, l: Ladder, out: &mut [i64], to: usize)
+    requires { ⌜ (Chunk l (now cells) w p) × (to + outputs l ≤ piece) × (piece + piece ≤ length (now out)) ⌝ }
+    ensures { λ _. ⌜ Chunked l (now (cells .entry)) w p (now (out .entry)) (now (out .exit)) to ⌝ }
 {
     let low = l.low;
     let high = l.high;
-    climb(
-        cells,
-        w,
-        line + (z - low),
-        count,
-        l.least,
-        l.rise,
-        &mut *out,
-        to,
-    );
-    if (high < z) & (low < high) {
-        descend(
-            cells,
-            w,
-            line + (z - high),
-            high - low,
-            rows::most(l),
-            0 - l.rise,
-            out,
-            to,
-        );
+    let up = Slope {
+        from: p.line + (p.first - low),
+        count: p.count,
+        gain: l.least,
+        rise: l.rise,
+    };
+    climb(cells, w, up, &mut *out, to);
+    if (high < p.first) & (low < high) {
+        let down = Slope {
+            from: p.line + (p.first - high),
+            count: high - low,
+            gain: rows::most(l),
+            rise: 0 - l.rise,
+        };
+        descend(cells, w, down, out, to);
     }
 }
 
-// A piece of a line, chunk by chunk.
-pub fn windows(
-    cells: &[i64],
-    w: usize,
-    line: usize,
-    z: usize,
-    count: usize,
-    l: Ladder,
-    out: &mut [i64],
-)
-    requires { ⌜ (Piece l (now cells) w line z count) × (piece + piece ≤ length (now out)) ⌝ }
-    ensures { λ _. ⌜ Imaged (λ i v m. PickedAt l (now (cells .entry)) w line (z + i) v m) (now (out .entry)) (now (out .exit)) count ⌝ }
+// Places of a line, chunk by chunk.
+pub fn chunks(cells: &[i64], w: usize, p: Places, l: Ladder, out: &mut [i64])
+    requires { ⌜ (Chunks l (now cells) w p) × (piece + piece ≤ length (now out)) ⌝ }
+    ensures { λ _. ⌜ Imaged (λ i v m. PickedAt l (now (cells .entry)) w (p .line) (p .first + i) v m) (now (out .entry)) (now (out .exit)) (p .count) ⌝ }
 {
     let size = l.high - l.low + 1;
+    let line = p.line;
+    let z = p.first;
+    let count = p.count;
     let mut done = 0;
     while done < count {
-        let some = integers::smaller(size, count - done);
-        chunk(cells, w, line, z + done, some, l, out, done);
+        let some = Places {
+            line,
+            first: z + done,
+            count: integers::smaller(size, count - done),
+        };
+        chunk(cells, w, some, l, out, done);
         done += size;
     }
 }

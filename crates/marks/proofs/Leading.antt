@@ -434,7 +434,8 @@ module _ (t : Step) (cells : List ℤ) (s : ℕ) (p : Piece) (a : OnAsked t cell
   row-fits-behind = omega (arith, row-behind .0, grouped)
 
   pub lined-piece : g .takes .blocks ≡ 1 → g .pmin ≤ p .place
-      → images.Piece (laddered t s) cells (t .width) (lineOf g s (p .starts) + (p .ons - g .takes .ons) * row g) (p .place) (p .count)
+      → images.Chunks (laddered t s) cells (t .width)
+      (record { line = lineOf g s (p .starts) + (p .ons - g .takes .ons) * row g; first = p .place; count = p .count })
   lined-piece one lo =
       ⊎-elim (λ (h : p .place + p .count ≤ g .pmin). absurd (omega (arith, a .piece-of .some)))
       (λ (c : WholeChunks g (p .place) (p .count)).

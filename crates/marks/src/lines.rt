@@ -3,6 +3,7 @@
 use crate::Piece;
 use crate::Step;
 use carrying::images;
+use carrying::images::Places;
 use intervals::rows;
 use intervals::rows::Ladder;
 use intervals::steps;
@@ -89,15 +90,12 @@ fn lined_image(cells: &[i64], t: Step, s: usize, p: Piece, l: Ladder, out: &mut 
     } else {
         let line = line_behind(t, s, p.starts);
         let row = geometry::row_cells(f);
-        images::windows(
-            cells,
-            t.width,
-            line + (p.ons - f.takes.ons) * row,
-            p.place,
-            p.count,
-            l,
-            out,
-        );
+        let places = Places {
+            line: line + (p.ons - f.takes.ons) * row,
+            first: p.place,
+            count: p.count,
+        };
+        images::chunks(cells, t.width, places, l, out);
     }
 }
 

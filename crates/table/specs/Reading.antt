@@ -12,6 +12,7 @@ use Rattle.commitment.specs.declared.BestProfit.the-variants.{Nothing}
 use Rattle.commitment.specs.Best.{scheduleOf}
 use Rattle.commitment.specs.Tries.{triesOver}
 use Rattle.geometry.specs.Layers.{Filled}
+use Rattle.table.specs.declared.reading.Row.{Row}
 use Rattle.optimality.specs.declared.Figures.{Figures}
 use Rattle.optimality.specs.declared.Cell.{Cell}
 use Rattle.optimality.specs.Machine.{Quarter}
@@ -40,10 +41,11 @@ module _ (f : Figures) (stored : Cell → ℤ) (c : Cell) where
   unfoldable pub chosen : ℤ → ℤ → ℕ
   chosen price best = cond (ltZ (offStored f stored c) best) (firstOn price best (f .pmin) (rungs f)) 0
 
--- whether the blocks left allow k, from a cell with z of them, and it reaches the best; its cells stand in the row at `row`
-abbrev pub reachesBest : Figures → List ℤ → ℕ → ℕ → ℤ → ℕ → ℤ → ℕ → Bool
-reachesBest f cells row z price pays best k =
-    leb (k * f .takes .blocks) z && not (ltZ (getD cells (row + (z - k * f .takes .blocks)) (pos 0) +ℤ net f price pays k) best)
+-- whether the blocks left allow k, and it reaches the best, by the row that an interval on leads to
+abbrev pub reachesBest : Figures → List ℤ → Row → ℤ → ℕ → ℤ → ℕ → Bool
+reachesBest f cells row price pays best k =
+    leb (k * f .takes .blocks) (row .blocks)
+    && not (ltZ (getD cells (row .at + (row .blocks - k * f .takes .blocks)) (pos 0) +ℤ net f price pays k) best)
 
 -- what an interval with so many blocks takes is left, none where it is off
 abbrev pub Allowed : Figures → Cell → ℕ → Type 0

@@ -24,6 +24,12 @@ pub struct Tried {
     pub tries: usize,
 }
 
+// The row of the cells that an interval on leads to, and the blocks left before it.
+pub struct Row {
+    pub at: usize,
+    pub blocks: usize,
+}
+
 // The plan's output in the interval of a cell that holds `best`, by the layer at `at` behind it: they are tried from 0 upwards, to the first that
 // reaches it. Off is tried even where the run may not end yet.
 pub fn choose(scratch: &[i64], at: usize, f: Figures, price: i64, c: Cell, best: i64) -> Tried
@@ -62,14 +68,16 @@ fn first_on(scratch: &[i64], at: usize, f: Figures, price: i64, c: Cell, best: i
     ensures { λ r. ⌜ r .tries ≡ triesTo (f .pmin) (r .blocks) ⌝ }
 {
     let pays = steps::start_pays(f, c.state);
-    let row = at + on_row(f, c);
-    let z = c.left.blocks;
+    let row = Row {
+        at: at + on_row(f, c),
+        blocks: c.left.blocks,
+    };
     let mut above = 0;
     let mut tries = 1;
     loop {
         let k = f.pmin + above;
         tries += 1;
-        if reaches(scratch, row, z, f, price, pays, k, best) {
+        if reaches(scratch, row, f, price, pays, k, best) {
             return Tried {
                 blocks: k,
                 tries: tries,
@@ -99,22 +107,21 @@ fn on_row(f: Figures, c: Cell) -> usize
 // Whether the blocks left allow k, and it reaches the best.
 fn reaches(
     scratch: &[i64],
-    row: usize,
-    z: usize,
+    row: Row,
     f: Figures,
     price: i64,
     pays: usize,
     k: usize,
     best: i64,
 ) -> bool
-    requires { ⌜ (Interval f price) × (pays ≤ mostPays) × (k ≤ f .pmax) × (Readable (now scratch) row (z + 1)) ⌝ }
-    ensures { λ r. ⌜ r ≡ reachesBest f (now (scratch .entry)) row z price pays best k ⌝ }
+    requires { ⌜ (Interval f price) × (pays ≤ mostPays) × (k ≤ f .pmax) × (Readable (now scratch) (row .at) (row .blocks + 1)) ⌝ }
+    ensures { λ r. ⌜ r ≡ reachesBest f (now (scratch .entry)) row price pays best k ⌝ }
 {
     let spent = k * f.takes.blocks;
-    if z < spent {
+    if row.blocks < spent {
         return false;
     }
-    let i = row + (z - spent);
+    let i = row.at + (row.blocks - spent);
     let v = scratch[i] + steps::net(f, price, pays, k);
     if v < best {
         return false;

@@ -1,6 +1,6 @@
 -- The invariant: the first i places stand aside, and what is held is the best of the sources up to the last of them. The places left fall.
 use mathlib.Core.Path.{_≡_}
-use Prim.Native.Nat.{suc, _+_, _-_, _^_, _≤_, _<_}
+use Prim.Native.Nat.{ℕ, suc, _+_, _-_, _^_, _≤_, _<_}
 use native.Mathlib.Numerals.{add-one}
 use native.Mathlib.Omega.{arith}
 use lib.Dec.{lit<}
@@ -11,6 +11,7 @@ use mir.Val.{toZ, ofZ}
 use Rattle.integers.proofs.Ranges.{Within, plain, plain-fits, within-abs, within-fits, within-weaken, within-diff}
 use Rattle.geometry.specs.Layers.{swing}
 use Rattle.intervals.specs.Ladders.{mostBrought}
+use Rattle.carrying.specs.declared.images.Slope.{Slope}
 use Rattle.carrying.specs.Images.{piece, Sources, Aside, UpPicked}
 use Rattle.carrying.proofs.Storing.{pairs-none, pairs-next}
 use Rattle.carrying.proofs.Climbing.{Held, held-next, held-risen, held-gained, heldMost}
@@ -18,95 +19,100 @@ use borrow.Author.Needs.{needs}
 use Rattle.carrying.proofs.images.climb.Statement.{statement}
 use Rattle.carrying.proofs.images.climb.Tie as tie
 
+-- as the loop has it
+abbrev sloped : ℕ → ℕ → ℕ → ℕ → Slope
+sloped from count gain rise = record { from = from; count = count; gain = toZ w64 gain; rise = toZ w64 rise }
+
 abbrev Inv-loop : tie.InvT-loop
-Inv-loop cells w from count gain rise out₀ to best₀ mark₀ i₀ out best mark i =
-    (i ≤ count) × Held cells w from (toZ w64 gain) (toZ w64 rise) i (toZ w64 best) (toZ w64 mark)
-    × Aside (UpPicked cells w from (toZ w64 gain) (toZ w64 rise)) out₀ out to i
+Inv-loop cells w out₀ to from count gain rise best₀ mark₀ i₀ out best mark i =
+    let s = sloped from count gain rise in
+    (i ≤ count) × Held cells w s i (toZ w64 best) (toZ w64 mark)
+    × Aside (UpPicked cells w s) out₀ out to i
 
 abbrev μ-loop : tie.MeasureT-loop
-μ-loop cells w from count gain rise out₀ to best₀ mark₀ i₀ out best mark i = count - i
-
--- what the arguments are
-plain-gain : (c : tie.Start Inv-loop μ-loop) → toZ w64 (ofZ w64 (c .args .gain)) ≡ c .args .gain
-plain-gain c = plain-fits (c .fits .gain)
-
-plain-rise : (c : tie.Start Inv-loop μ-loop) → toZ w64 (ofZ w64 (c .args .rise)) ≡ c .args .rise
-plain-rise c = plain-fits (c .fits .rise)
+μ-loop cells w out₀ to from count gain rise best₀ mark₀ i₀ out best mark i = count - i
 
 sources : (c : tie.Start Inv-loop μ-loop) →
     let a = c .args in
-    Sources (a .cells .now) (a .w) (a .from) (a .count) (a .gain) (a .rise)
+    Sources (a .cells .now) (a .w) (a .s)
 sources c = c .pre .0
 
-first-small : (c : tie.Start Inv-loop μ-loop) → Within (2 ^ 62) (getD (c .args .cells .now) (c .args .from) (pos 0))
+-- what the arguments are
+plain-gain : (c : tie.Start Inv-loop μ-loop) → toZ w64 (ofZ w64 (c .args .s .gain)) ≡ c .args .s .gain
+plain-gain c = plain (within-weaken (sources c .gains) (within-abs (c .args .s .gain))) (lit< tt)
+
+plain-rise : (c : tie.Start Inv-loop μ-loop) → toZ w64 (ofZ w64 (c .args .s .rise)) ≡ c .args .s .rise
+plain-rise c = plain (within-weaken (sources c .rises) (within-abs (c .args .s .rise))) (lit< tt)
+
+first-small : (c : tie.Start Inv-loop μ-loop) → Within (2 ^ 62) (getD (c .args .cells .now) (c .args .s .from) (pos 0))
 first-small c =
-    let e : c .args .from + 0 ≡ c .args .from = omega arith in
+    let e : c .args .s .from + 0 ≡ c .args .s .from = omega arith in
     within-weaken (rw e at (sources c .small 0 (omega (arith, sources c .some)))) (within-abs _)
 
 first-less : (c : tie.After-best Inv-loop μ-loop) →
-    let a = c .before .args in
-    Within (2 ^ 62 + swing) (toZ w64 (ofZ w64 (getD (a .cells .now) (a .from) (pos 0))) -ℤ toZ w64 (ofZ w64 (a .rise)))
+    let a = c .before .before .before .args in
+    Within (2 ^ 62 + swing) (toZ w64 (ofZ w64 (getD (a .cells .now) (a .s .from) (pos 0))) -ℤ toZ w64 (ofZ w64 (a .s .rise)))
 first-less c =
-    let o = c .before in
+    let o = c .before .before .before in
     rw (plain-fits (record { sfits = c .best .given }), plain-rise o)
-    (within-diff (first-small o) (within-weaken (sources o .rises) (within-abs (o .args .rise))))
+    (within-diff (first-small o) (within-weaken (sources o .rises) (within-abs (o .args .s .rise))))
 
 -- what is held, by the arguments
 held : (c : tie.At-loop Inv-loop μ-loop) →
-    let a = c .before .before .args in
+    let a = c .before .before .before .before .args in
     let l = c .loop in
-    Held (a .cells .now) (a .w) (a .from) (a .gain) (a .rise) (l .i) (toZ w64 (l .best)) (toZ w64 (l .mark))
-held c = let o = c .before .before in rw (plain-gain o, plain-rise o) at (c .loop .inv .1)
+    Held (a .cells .now) (a .w) (a .s) (l .i) (toZ w64 (l .best)) (toZ w64 (l .mark))
+held c = let o = c .before .before .before .before in rw (plain-gain o, plain-rise o) at (c .loop .inv .1)
 
 loop-holds : tie.Need-loop-holds Inv-loop μ-loop
 loop-holds c =
-    let o = c .before in
+    let o = c .before .before .before in
     let a = o .args in
-    let e : a .from + 0 ≡ a .from = omega arith in (
+    let e : a .s .from + 0 ≡ a .s .from = omega arith in (
       omega arith,
       rw (plain (first-less c) (lit< tt), plain-fits (record { sfits = c .best .given }), plain-rise o, e)
-          (-ℤ-+ℤ-cancel (getD (a .cells .now) (a .from) (pos 0)) (a .rise)),
+          (-ℤ-+ℤ-cancel (getD (a .cells .now) (a .s .from) (pos 0)) (a .s .rise)),
       pairs-none piece _ (a .out .now) (a .to),
     )
 
 -- the place of a turn
 inside : (c : tie.In-loop Inv-loop μ-loop) →
-    let a = c .before .before .before .args in
-    let at = a .from + c .before .loop .i in
+    let a = c .before .before .before .before .before .args in
+    let at = a .s .from + c .before .loop .i in
     (a .w + at < length (a .cells .now)) × (a .to + c .before .loop .i < piece)
 inside c =
-    let o = c .before .before .before in
+    let o = c .before .before .before .before .before in
     let s = sources o in
     (omega (arith, s .values, s .marks, c .loop-test .taken), omega (arith, o .pre .1, c .loop-test .taken))
 
 risen : (c : tie.In-loop Inv-loop μ-loop) →
-    let a = c .before .before .before .args in
-    Within (heldMost (a .cells .now) (a .w) (a .from) (a .gain) (a .rise) + swing) (toZ w64 (c .before .loop .best) +ℤ a .rise)
+    let a = c .before .before .before .before .before .args in
+    Within (heldMost (a .cells .now) (a .w) (a .s) + swing) (toZ w64 (c .before .loop .best) +ℤ a .s .rise)
 risen c =
     let at-loop = c .before in
-    let o = at-loop .before .before in
+    let o = at-loop .before .before .before .before in
     let a = o .args in
     let l = at-loop .loop in
-    held-risen (a .cells .now) (a .w) (a .from) (a .gain) (a .rise) (sources o) (l .i) (toZ w64 (l .best)) (toZ w64 (l .mark)) (l .inv .0) (held at-loop)
+    held-risen (a .cells .now) (a .w) (a .s) (sources o) (l .i) (toZ w64 (l .best)) (toZ w64 (l .mark)) (l .inv .0) (held at-loop)
 
 -- the number of a turn, and the best with its rise
 number-is : (c : tie.After-number Inv-loop μ-loop) →
     let turn = c .before in
-    let a = turn .before .before .before .args in
-    let n = getD (a .cells .now) (a .from + turn .before .loop .i) (pos 0) in
+    let a = turn .before .before .before .before .before .args in
+    let n = getD (a .cells .now) (a .s .from + turn .before .loop .i) (pos 0) in
     toZ w64 (ofZ w64 n) ≡ n
 number-is c = plain-fits (record { sfits = c .number .given })
 
 carried-is : (c : tie.In-loop Inv-loop μ-loop) →
-    let a = c .before .before .before .args in
-    toZ w64 (ofZ w64 (toZ w64 (c .before .loop .best) +ℤ toZ w64 (ofZ w64 (a .rise)))) ≡ toZ w64 (c .before .loop .best) +ℤ a .rise
-carried-is c = let o = c .before .before .before in rw (plain-rise o) (plain (risen c) (lit< tt))
+    let a = c .before .before .before .before .before .args in
+    toZ w64 (ofZ w64 (toZ w64 (c .before .loop .best) +ℤ toZ w64 (ofZ w64 (a .s .rise)))) ≡ toZ w64 (c .before .loop .best) +ℤ a .s .rise
+carried-is c = let o = c .before .before .before .before .before in rw (plain-rise o) (plain (risen c) (lit< tt))
 
 -- what is held after a turn
 next-held : (c : tie.After-either2 Inv-loop μ-loop) →
     let at-loop = c .before .before .before .before .before in
-    let a = at-loop .before .before .args in
-    Held (a .cells .now) (a .w) (a .from) (a .gain) (a .rise) (suc (at-loop .loop .i)) (toZ w64 (ofZ w64 (c .before .before .either .result)))
+    let a = at-loop .before .before .before .before .args in
+    Held (a .cells .now) (a .w) (a .s) (suc (at-loop .loop .i)) (toZ w64 (ofZ w64 (c .before .before .either .result)))
     (toZ w64 (ofZ w64 (c .either2 .result)))
 next-held c =
     let arg = c .before in
@@ -114,30 +120,30 @@ next-held c =
     let number = first .before in
     let turn = number .before in
     let at-loop = turn .before in
-    let a = at-loop .before .before .args in
+    let a = at-loop .before .before .before .before .args in
     let l = at-loop .loop in
     let best = rw (number-is number, carried-is turn) at (first .either .ensures) in
     let mark = rw (number-is number, carried-is turn, plain-fits (record { sfits = arg .either-arg .given })) at (c .either2 .ensures) in
     rw (plain-fits (record { sfits = first .either .ok }), plain-fits (record { sfits = c .either2 .ok }), best, mark)
-    (held-next (a .cells .now) (a .w) (a .from) (a .gain) (a .rise) (l .i) (toZ w64 (l .best)) (toZ w64 (l .mark)) (held at-loop))
+    (held-next (a .cells .now) (a .w) (a .s) (l .i) (toZ w64 (l .best)) (toZ w64 (l .mark)) (held at-loop))
 
 -- with what is gained
 gained : (c : tie.After-either2 Inv-loop μ-loop) →
     let turn = c .before .before .before .before in
-    let a = turn .before .before .before .args in
-    Within (heldMost (a .cells .now) (a .w) (a .from) (a .gain) (a .rise) + mostBrought) (toZ w64 (ofZ w64 (c .before .before .either .result)) +ℤ a .gain)
+    let a = turn .before .before .before .before .before .args in
+    Within (heldMost (a .cells .now) (a .w) (a .s) + mostBrought) (toZ w64 (ofZ w64 (c .before .before .either .result)) +ℤ a .s .gain)
 gained c =
     let turn = c .before .before .before .before in
     let at-loop = turn .before in
-    let o = at-loop .before .before in
+    let o = at-loop .before .before .before .before in
     let a = o .args in
-    held-gained (a .cells .now) (a .w) (a .from) (a .gain) (a .rise) (sources o) (suc (at-loop .loop .i))
+    held-gained (a .cells .now) (a .w) (a .s) (sources o) (suc (at-loop .loop .i))
     (toZ w64 (ofZ w64 (c .before .before .either .result))) (toZ w64 (ofZ w64 (c .either2 .result))) (omega (arith, turn .loop-test .taken)) (next-held c)
 
 put-requires : tie.Need-put-requires Inv-loop μ-loop
 put-requires c κs =
     let turn = c .before .before .before .before .before in
-    let o = turn .before .before .before in
+    let o = turn .before .before .before .before .before in
     (inside turn .1, omega (arith, turn .before .loop .inv .2 .apart .same, o .pre .2))
 
 loop-again : tie.Need-loop-again Inv-loop μ-loop
@@ -146,7 +152,7 @@ loop-again c =
     let second = put .before .before in
     let turn = second .before .before .before .before in
     let at-loop = turn .before in
-    let o = at-loop .before .before in
+    let o = at-loop .before .before .before .before in
     let a = o .args in
     let l = at-loop .loop in
     let room : piece + piece ≤ length (l .out) = omega (arith, l .inv .2 .apart .same, o .pre .2) in
@@ -160,23 +166,23 @@ loop-again c =
 
 returns : tie.Need-returns Inv-loop μ-loop
 returns c =
-    let o = c .before .before .before in
+    let o = c .before .before .before .before .before in
     let l = c .before .loop in
-    let e : l .i ≡ o .args .count = omega (arith, l .inv .0, c .loop-test .left) in
+    let e : l .i ≡ o .args .s .count = omega (arith, l .inv .0, c .loop-test .left) in
     rw (plain-gain o, plain-rise o, e) at (l .inv .2)
 
 pub climb-spec : {M : Type 1} → statement M
 climb-spec =
     tie.close
-    (tie.spec Inv-loop μ-loop (λ c. omega (arith, sources c .values, sources c .marks, sources c .some))
-    (λ c. omega (arith, sources c .values, sources c .marks, sources c .some)) (λ c. within-fits (first-less c) (lit< tt)) loop-holds
+    (tie.spec Inv-loop μ-loop (λ c. let s = sources (c .before .before) in omega (arith, s .values, s .marks, s .some))
+    (λ c. let s = sources (c .before .before) in omega (arith, s .values, s .marks, s .some)) (λ c. within-fits (first-less c) (lit< tt)) loop-holds
     (λ c. omega (arith, inside c)) (λ c. omega (arith, inside c)) (λ c. omega (arith, inside c))
-    (λ c. rw (plain-rise (c .before .before .before .before)) (within-fits (risen (c .before)) (lit< tt)))
+    (λ c. rw (plain-rise (c .before .before .before .before .before .before)) (within-fits (risen (c .before)) (lit< tt)))
     (λ c κs. search needs)
     (λ c. omega (arith, inside (c .before .before))) (λ c. omega (arith, inside (c .before .before))) (λ c. omega (arith, inside (c .before .before)))
     (λ c. omega (arith, inside (c .before .before))) (λ c κs. search needs)
     (λ c. omega (arith, inside (c .before .before .before .before .before)))
-    (λ c. rw (plain-gain (c .before .before .before .before .before .before .before .before)) (within-fits (gained (c .before)) (lit< tt)))
+    (λ c. rw (plain-gain (c .before .before .before .before .before .before .before .before .before .before)) (within-fits (gained (c .before)) (lit< tt)))
     put-requires
     (λ c. omega (arith, inside (c .before .before .before .before .before .before .before)))
     (λ c. omega (arith, c .before .before .before .before .before .before .before .loop-test .taken)) loop-again

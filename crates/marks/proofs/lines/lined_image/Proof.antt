@@ -12,7 +12,7 @@ use borrow.Author.Needs.{needs}
 use Rattle.optimality.specs.Cells.{startTakes}
 use Rattle.geometry.specs.Geometry.{row}
 use Rattle.intervals.specs.declared.rows.Ladder.{Ladder}
-use Rattle.carrying.specs.Images.{Piece, PickedAt}
+use Rattle.carrying.specs.Images.{Chunks, PickedAt}
 use Rattle.marks.specs.Lines.{OnAsked, WholeChunks, lineOf}
 use Rattle.marks.proofs.Choice.{neither, either}
 use Rattle.marks.proofs.Leading.{lined-none, lined-on, lined-piece, row-fits-behind, on-row}
@@ -109,19 +109,20 @@ row-room c =
 
 -- the same ladder, along the same row
 module _ {l l′ : Ladder} {at at′ : ℕ} (e : l ≡ l′) (g : at ≡ at′) (cells : List ℤ) (w : ℕ) where
-  piece-same : (z count : ℕ) → Piece l′ cells w at′ z count → Piece l cells w at z count
-  piece-same z count p = rw (e, g) p
+  chunks-same : (z count : ℕ) → Chunks l′ cells w (record { line = at′; first = z; count = count })
+      → Chunks l cells w (record { line = at; first = z; count = count })
+  chunks-same z count p = rw (e, g) p
 
   picked-same : (z : ℕ) {v m : ℤ} → PickedAt l cells w at z v m → PickedAt l′ cells w at′ z v m
   picked-same z p = rw (← e, ← g) p
 
-windows-requires : tie.Need-windows-requires
-windows-requires c κs =
+chunks-requires : tie.Need-chunks-requires
+chunks-requires c κs =
     let known = c .before in
     let else = known .before .before .before .before in
     let o = start (else .before) in
     let a = o .args in (
-      piece-same (o .pre .1) (at-row known) (a .cells .now) (a .t .width) (a .p .place) (a .p .count)
+      chunks-same (o .pre .1) (at-row known) (a .cells .now) (a .t .width) (a .p .place) (a .p .count)
           (lined-piece (a .t) (a .cells .now) (a .s) (a .p) (asked o) (o .pre .0 .1) (enough else .2)),
       o .pre .0 .2,
     )
@@ -133,7 +134,7 @@ returns-2 c =
     let else = known .before .before .before .before in
     let o = start (else .before) in
     let a = o .args in
-    let on = made .windows .ensures in
+    let on = made .chunks .ensures in
     record {
       inside = λ i h cell here.
           lined-on (a .t) (a .cells .now) (a .s) cell (here .state) (a .p .starts) (a .p .ons) (a .p .place + i) (o .pre .0 .1)
@@ -149,5 +150,5 @@ lined-image-spec =
     (λ c κs. let k = asked (start (c .before)) in (k .over, k .state, k .leads, k .piece-of .starts))
     (λ c κs. asked (start (c .before .before)) .over .interval .sound)
     (λ c. enough (c .before .before .before .before) .1) (λ c. omega (arith, row-room c, asked (start (c .before .before .before .before .before)) .marks))
-    (λ c. omega (arith, row-room c, asked (start (c .before .before .before .before .before)) .marks)) windows-requires (λ c. search needs) returns
+    (λ c. omega (arith, row-room c, asked (start (c .before .before .before .before .before)) .marks)) chunks-requires (λ c. search needs) returns
     (λ c. search needs) returns-2)

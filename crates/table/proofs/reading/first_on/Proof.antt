@@ -24,11 +24,11 @@ use Rattle.table.proofs.reading.first_on.Statement.{statement}
 use Rattle.table.proofs.reading.first_on.Tie as tie
 
 abbrev Inv-loop : tie.InvT-loop
-Inv-loop scratch at f price best pays row z above₀ tries₀ above tries =
-    (tries ≡ suc above) × ((j : ℕ) → f .pmin ≤ j → j < f .pmin + above → reachesBest f scratch row z (toZ w64 price) pays (toZ w64 best) j ≡ false)
+Inv-loop scratch at f price best pays row above₀ tries₀ above tries =
+    (tries ≡ suc above) × ((j : ℕ) → f .pmin ≤ j → j < f .pmin + above → reachesBest f scratch row (toZ w64 price) pays (toZ w64 best) j ≡ false)
 
 abbrev μ-loop : tie.MeasureT-loop
-μ-loop scratch at f price best pays row z above₀ tries₀ above tries = suc (f .pmax) - (f .pmin + above)
+μ-loop scratch at f price best pays row above₀ tries₀ above tries = suc (f .pmax) - (f .pmin + above)
 
 -- the cell of the row with i blocks left
 in-row : (c : tie.Start Inv-loop μ-loop) (i : ℕ) → i ≤ c .args .c .left .blocks →
@@ -59,7 +59,7 @@ met-is : (c : tie.At-loop Inv-loop μ-loop) (j : ℕ) →
     let o = c .before .before .before in
     let a = o .args in
     reachesOn (a .f) (storedAt (a .f) (a .scratch .now) (a .at)) (a .c) (a .price) (a .best) j
-    ≡ reachesBest (a .f) (a .scratch .now) (a .at + c .before .on-row .result) (a .c .left .blocks) (toZ w64 (ofZ w64 (a .price)))
+    ≡ reachesBest (a .f) (a .scratch .now) (record { at = a .at + c .before .on-row .result; blocks = a .c .left .blocks }) (toZ w64 (ofZ w64 (a .price)))
     (c .before .before .start-pays .result)
     (toZ w64 (ofZ w64 (a .best)))
     j
