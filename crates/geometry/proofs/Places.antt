@@ -126,7 +126,15 @@ module _ (f : Figures) where
       let y = digits (f .most .ons + 1) (row f) (x .low) (x .low-lt) in
       record {
         of = cell (s .high) (x .high) (y .high) (y .low);
-        inside = record { state = s .high-lt; left = record { starts = omega (arith, x .high-lt); ons = omega (arith, y .high-lt); blocks = omega (arith, y .low-lt) } };
+        inside = record {
+          state = s .high-lt;
+          left = record {
+            starts = omega (arith, x .high-lt);
+            ons = omega (arith, y .high-lt);
+            blocks = omega
+                (arith, y .low-lt);
+          };
+        };
         is = sym (s .is ∙ ap (λ (t : ℕ). s .high * section f + t) (x .is ∙ ap (λ (t : ℕ). x .high * span f + t) (y .is)));
       }
 

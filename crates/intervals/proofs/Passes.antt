@@ -49,7 +49,8 @@ module _ (f : Figures) (l : Ladder) where
   module _ (was : List ℤ) (to from : ℕ) where
     abbrev pub rowNow : ℕ → RowPlace f → ℤ
     rowNow y p =
-        cond (leb (f .takes .ons) y) (bestOver (f .takes .blocks) l was (from + (y - f .takes .ons) * row f) (p .z) (getD was (to + (y * row f + p .z)) (pos 0)))
+        cond (leb (f .takes .ons) y) (bestOver (f .takes .blocks) l was (from + (y - f .takes .ons) * row f) (p .z)
+        (getD was (to + (y * row f + p .z)) (pos 0)))
         (getD was (to + (y * row f + p .z)) (pos 0))
 
     abbrev pub RowsDone : List ℤ → ℕ → Type 0
@@ -60,7 +61,8 @@ module _ (f : Figures) (l : Ladder) where
         done-first (λ (p : RowPlace f). p .z) (row f) (λ p. in-row f (p .z) (p .z≤)) was to rowNow (f .takes .ons)
         (λ y h p. let e : leb (f .takes .ons) y ≡ false = lt-leb (f .takes .ons) y h in rw e)
 
-    pub rows-next : (s t : List ℤ) (y : ℕ) → f .takes .ons ≤ y → y ≤ f .most .ons → f .takes .blocks ≡ 1 → to + span f ≤ from → length t ≡ length s → RowsDone s y
+    pub rows-next : (s t : List ℤ) (y : ℕ) → f .takes .ons ≤ y → y ≤ f .most .ons → f .takes .blocks ≡ 1 → to + span f ≤ from → length t ≡ length s
+        → RowsDone s y
         → RowRaised l (row f) s t (to + y * row f) (from + (y - f .takes .ons) * row f) → RowsDone t (y + 1)
     rows-next s t y lo hi one behind long old new =
         done-next (λ (p : RowPlace f). p .z) (row f) (λ p. in-row f (p .z) (p .z≤)) was to rowNow s t y old long (new .apart)
@@ -83,7 +85,8 @@ module _ (f : Figures) (l : Ladder) where
         }
 
     -- all rows at once where the blocks are not limited
-    pub rows-by-ends : Sound f → Steady l → f .takes .blocks ≡ 0 → (s : List ℤ) → Raised was s (to + f .takes .ons * row f) from (span f - f .takes .ons * row f) (betterEnd l)
+    pub rows-by-ends : Sound f → Steady l → f .takes .blocks ≡ 0 → (s : List ℤ) → Raised was s (to + f .takes .ons * row f) from
+        (span f - f .takes .ons * row f) (betterEnd l)
         → SpanRaised f l was s to from
     rows-by-ends ok steady free s new =
         record {

@@ -8,7 +8,6 @@ use native.Mathlib.Omega.{arith}
 use borrow.Author.Tests.{leb-true, ltb-true}
 use lib.Dec.{leb, ltb}
 use lib.IntN.{ℤ, pos, natAbs}
-use lib.ListN.{length}
 use Rattle.commitment.specs.Bounds.{mostPrice, mostIntervals}
 use Rattle.integers.specs.Maximum.{maxℤ}
 use Rattle.integers.proofs.Ranges.{Within, within-at, within-weaken, within-diff, abs-within}

@@ -139,7 +139,8 @@ module _ (f : Figures) (l : Ladder) where
     pub inside : (x y z : ℕ) → x ≤ f .most .starts → y ≤ f .most .ons → z ≤ f .most .blocks
         → getD cells (to + (x * span f + (y * row f + z))) (pos 0)
         ≡ cond (leb takes x && leb (f .takes .ons) y)
-        (bestOver (f .takes .blocks) l was (from + (x - takes) * span f + (y - f .takes .ons) * row f) z (getD was (to + (x * span f + (y * row f + z))) (pos 0)))
+        (bestOver (f .takes .blocks) l was (from + (x - takes) * span f + (y - f .takes .ons) * row f) z
+        (getD was (to + (x * span f + (y * row f + z))) (pos 0)))
         (getD was (to + (x * span f + (y * row f + z))) (pos 0))
     pub apart : Apart was cells to (section f)
 

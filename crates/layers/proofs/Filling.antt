@@ -108,7 +108,8 @@ module _ (f : Figures) (ends : Cell → BestProfit) (quarters : List Quarter) (w
           let e : suc t * width f ≡ t * width f + width f = omega arith in
           let next : Layer f ends rest (storedAt f s (t * width f + width f)) = rw e at (old .layers (suc t) (omega arith) inside) in
           rw (drop-cons quarters t noQuarter inside)
-          (layer-earlier f ok ends q (priced t inside) rest (length rest) few (storedAt f s (t * width f + width f)) (storedAt f cells (t * width f)) next (made .inside))
+          (layer-earlier f ok ends q (priced t inside) rest (length rest) few (storedAt f s (t * width f + width f))
+          (storedAt f cells (t * width f)) next (made .inside))
 
       by : (j : ℕ) → t ≤ j → j ≤ length quarters → (b : Bool) → ltb t j ≡ b → Layer f ends (drop j quarters) (storedAt f cells (j * width f))
       by j lo hi true e = later j (ltb-true t j e) hi

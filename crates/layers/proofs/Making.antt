@@ -104,7 +104,8 @@ module _ (f : Figures) (price : ℤ) (s : ℕ) (was mid : List ℤ) (off : OffMa
               let stored = storedAt f was (width f) in
               let base : getD mid (s * section f + placeIn f x y z) (pos 0) ≡ offStored f stored c = sym (front-in f mid s x y z) ∙ off .inside x y z i j k in
               let over =
-              ap (bestOver (f .takes .blocks) (ladderOf f price (startPays f s)) mid (source + (x - startTakes f s) * span f + (y - f .takes .ons) * row f) z) base
+              ap (bestOver (f .takes .blocks) (ladderOf f price (startPays f s)) mid
+              (source + (x - startTakes f s) * span f + (y - f .takes .ons) * row f) z) base
               ∙ raised-same (roomFor f stored c)
               (λ k. getD mid (source + (x - startTakes f s) * span f + (y - f .takes .ons) * row f + (z - k * f .takes .blocks)) (pos 0) +ℤ brings
               (ladderOf f price (startPays f s)) k)
@@ -169,6 +170,7 @@ module _ (f : Figures) (q : Quarter) (was : List ℤ) where
         inside = λ c h.
             front-in f s (c .state) (c .left .starts) (c .left .ons) (c .left .blocks)
             ∙ ap (λ (i : ℕ). getD s i (pos 0)) (sym (zero-add (c .state * section f + placeIn f (c .left .starts) (c .left .ons) (c .left .blocks))))
-            ∙ old .right (c .state) (h .state) (record { x = c .left .starts; y = c .left .ons; z = c .left .blocks; x≤ = h .left .starts; y≤ = h .left .ons; z≤ = h .left .blocks });
+            ∙ old .right (c .state) (h .state)
+            (record { x = c .left .starts; y = c .left .ons; z = c .left .blocks; x≤ = h .left .starts; y≤ = h .left .ons; z≤ = h .left .blocks });
         apart = done-apart place (section f) placed was 0 sectionNow s (states f) (width f) (rw (sections-all f) (omega arith)) old;
       }

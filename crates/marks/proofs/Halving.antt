@@ -28,7 +28,8 @@ use Rattle.marks.specs.Standing.{Stands, endsIn, spent}
 -- plans end in a cell alone
 abbrev only : Cell → Cell → BestProfit
 only at z =
-    cond (eqb (z .state) (at .state) && eqb (z .left .starts) (at .left .starts) && eqb (z .left .ons) (at .left .ons) && eqb (z .left .blocks) (at .left .blocks)) (Profit (pos 0)) Nothing
+    cond (eqb (z .state) (at .state) && eqb (z .left .starts) (at .left .starts) && eqb (z .left .ons) (at .left .ons) && eqb (z .left .blocks)
+    (at .left .blocks)) (Profit (pos 0)) Nothing
 
 -- more of both changes nothing
 eqb-more : (a b : ℕ) → eqb a 0 ≡ eqb (a + b) b
@@ -43,9 +44,11 @@ lifted-ends at d = rw (eqb-more (d .left .starts) (at .left .starts), eqb-more (
 
 -- one cell
 is-only : (at y : Cell) (q : ℤ) → only at y ≡ Profit q → (y ≡ at) × (q ≡ pos 0)
-is-only at y q e = by (eqb (y .state) (at .state) && eqb (y .left .starts) (at .left .starts) && eqb (y .left .ons) (at .left .ons) && eqb (y .left .blocks) (at .left .blocks)) refl e
+is-only at y q e = by (eqb (y .state) (at .state) && eqb (y .left .starts) (at .left .starts) && eqb (y .left .ons) (at .left .ons) && eqb
+    (y .left .blocks) (at .left .blocks)) refl e
   where
-    by : (t : Bool) → (eqb (y .state) (at .state) && eqb (y .left .starts) (at .left .starts) && eqb (y .left .ons) (at .left .ons) && eqb (y .left .blocks) (at .left .blocks)) ≡ t
+    by : (t : Bool) → (eqb (y .state) (at .state) && eqb (y .left .starts) (at .left .starts) && eqb (y .left .ons) (at .left .ons) && eqb
+        (y .left .blocks) (at .left .blocks)) ≡ t
         → cond t (Profit (pos 0)) Nothing ≡ Profit q → (y ≡ at) × (q ≡ pos 0)
     by false k e = absurd (no-earning e)
     by true k e =
@@ -66,7 +69,13 @@ is-only at y q e = by (eqb (y .state) (at .state) && eqb (y .left .starts) (at .
 
 only-itself : (at : Cell) → only at at ≡ Profit (pos 0)
 only-itself at =
-    rw (eq-eqb (at .state) (at .state) refl, eq-eqb (at .left .starts) (at .left .starts) refl, eq-eqb (at .left .ons) (at .left .ons) refl, eq-eqb (at .left .blocks) (at .left .blocks) refl)
+    rw (
+      eq-eqb (at .state) (at .state) refl,
+      eq-eqb (at .left .starts) (at .left .starts) refl,
+      eq-eqb (at .left .ons) (at .left .ons) refl,
+      eq-eqb
+          (at .left .blocks) (at .left .blocks) refl,
+    )
 
 only-above : (at z : Cell) → Below at z → only at z ≡ Nothing
 only-above at z b = by (only at z) refl
@@ -142,7 +151,8 @@ module _ (f : Figures) (ok : Sound f) (ends : Cell → BestProfit) (front later 
   spends =
       let x : c .left .starts - at .left .starts + at .left .starts ≡ c .left .starts = up (c .left .starts) (at .left .starts) (λ l. not-below (inl l)) in
       let y : c .left .ons - at .left .ons + at .left .ons ≡ c .left .ons = up (c .left .ons) (at .left .ons) (λ l. not-below (inr (inl l))) in
-      let z : c .left .blocks - at .left .blocks + at .left .blocks ≡ c .left .blocks = up (c .left .blocks) (at .left .blocks) (λ l. not-below (inr (inr l))) in
+      let z : c .left .blocks - at .left .blocks + at .left .blocks ≡ c .left .blocks = up (c .left .blocks) (at .left .blocks)
+      (λ l. not-below (inr (inr l))) in
       rw (x, y, z)
     where
       up : (a b : ℕ) → (a < b → ⊥) → a - b + b ≡ a

@@ -34,7 +34,7 @@ use Rattle.carrying.proofs.Picking.{picked-same}
 use Rattle.marks.specs.declared.Step.{Step}
 use Rattle.marks.specs.declared.Piece.{Piece}
 use Rattle.marks.specs.declared.lines.Back.{Back}
-use Rattle.marks.specs.Lines.{FlatAt, FlatLine, valueOf, markOf, columnOf, OnPicked, OnOf, Here, PieceOf, WholeChunks, OnAsked}
+use Rattle.marks.specs.Lines.{FlatAt, FlatLine, valueOf, markOf, columnOf, OnPicked, Here, PieceOf, WholeChunks, OnAsked}
 use Rattle.marks.specs.Lines.{lineOf, skippedOf, laddered}
 
 -- ---- outputs that lead to the same cell: the lowest or the highest is the first of the best

@@ -1,5 +1,5 @@
 -- The cells of the year that have just so much above a month's box: entered, rolled and stored.
-use mathlib.Core.Path.{_≡_, refl, sym, ap, _∙_, subst}
+use mathlib.Core.Path.{_≡_, sym, ap, _∙_, subst}
 use mathlib.Core.List.{List, []}
 use mathlib.Core.Logic.{_⊎_, ⊎-elim, inl, inr}
 use Prim.Native.Nat.{ℕ, _+_, _-_, _≤_, _<_}
@@ -98,11 +98,13 @@ module _ (f : Figures) (prices : List ℤ) (hours : Hours) (m : Month) (at : Pla
             → (z : Cell) → InTable f z → overOf cap z ≡ above
             → Holds (n + length quarters) (valueAt f (λ x. worth (raised (overOf cap z) x)) quarters (boxOf cap z)) (storedAt f now (at .here) z)
         value worth n few layer z i over =
-            let box = rolled .rolled (λ x. worth (raised above x)) n few (ended worth n layer) .holds (boxOf cap z) (box-inside f cap above (asked .fits) z i) in
+            let box = rolled .rolled (λ x. worth (raised above x)) n few (ended worth n layer) .holds (boxOf cap z)
+            (box-inside f cap above (asked .fits) z i) in
             let here = rw (with-value f cap (λ x. worth (raised above x)) quarters (boxOf cap z)) at box in
             subst (λ (b : Budgets). Holds (n + length quarters) (valueAt f (λ x. worth (raised b x)) quarters (boxOf cap z)) (storedAt f now (at .here) z))
             (sym over)
-            (subst (λ (v : ℤ). Holds (n + length quarters) (valueAt f (λ x. worth (raised above x)) quarters (boxOf cap z)) v) (sym (stored .inside z i over)) here)
+            (subst (λ (v : ℤ). Holds (n + length quarters) (valueAt f (λ x. worth (raised above x)) quarters (boxOf cap z)) v)
+            (sym (stored .inside z i over)) here)
 
         pub class-made : ClassMade f quarters m at above was now
         class-made =

@@ -5,8 +5,8 @@ use mathlib.Core.Logic.{_⊎_, ⊎-elim, inl, inr}
 use Prim.Native.Nat.{ℕ, zero, suc, _+_, _-_, _*_, _≤_, _<_}
 use native.Mathlib.Nat.{mul-le-mul-right, zero-mul}
 use native.Mathlib.Omega.{arith}
-use lib.IntN.{ℤ, pos}
-use lib.ListN.{length, getD}
+use lib.IntN.{ℤ}
+use lib.ListN.{length}
 use Rattle.commitment.specs.declared.BestProfit.{BestProfit}
 use Rattle.commitment.specs.declared.windows.Hours.{Hours}
 use Rattle.commitment.specs.Bounds.{mostIntervals}
@@ -146,7 +146,13 @@ module _ (f : Figures) (prices : List ℤ) (hours : Hours) (m : Month) (at : Pla
               record {
                 sound = asked .sound;
                 cap = asked .cap;
-                placed = record { apart = asked .placed .apart; here = asked .placed .here; after = asked .placed .after; work = omega (arith, asked .placed .work, p .same) };
+                placed = record {
+                  apart = asked .placed .apart;
+                  here = asked .placed .here;
+                  after = asked .placed .after;
+                  work = omega
+                      (arith, asked .placed .work, p .same);
+                };
                 priced = asked .priced;
                 clocked = asked .clocked;
                 short = asked .short;

@@ -1,10 +1,9 @@
 -- A month rolled in a part of the scratch is rolled in the scratch.
 use mathlib.Core.Path.{_≡_, refl, sym, ap, _∙_, subst, fun-ext}
 use mathlib.Core.Bool.{Bool, true, false}
-use mathlib.Core.List.{List, [], _++_}
+use mathlib.Core.List.{List, _++_}
 use mathlib.Core.Logic.{_⊎_, ⊎-elim}
 use Prim.Native.Nat.{ℕ, _+_, _-_, _≤_, _<_}
-use native.Mathlib.Nat.{zero-add}
 use native.Mathlib.Omega.{arith}
 use borrow.Author.Tests.{ltb-true, ltb-false}
 use lib.Dec.{ltb}
@@ -18,7 +17,7 @@ use Rattle.optimality.specs.declared.Figures.{Figures}
 use Rattle.optimality.specs.Machine.{Quarter}
 use Rattle.optimality.specs.Cells.{valueAt}
 use Rattle.geometry.specs.Geometry.{width, index}
-use Rattle.geometry.specs.Layers.{LayerAt, LayerBefore, storedAt, inFront}
+use Rattle.geometry.specs.Layers.{LayerAt, storedAt, inFront}
 use Rattle.layers.specs.Filling.{Beyond}
 use Rattle.pair.specs.Rolling.{RollAsked, RolledBy}
 use Rattle.months.specs.Chaining.{BoxAsked, RolledAt}

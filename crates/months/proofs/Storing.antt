@@ -1,5 +1,5 @@
 -- Storing a box: each cell of the year that has so much above the box is met once, at its cell in the box.
-use mathlib.Core.Path.{_≡_, refl, sym, ap, ap₂, _∙_, subst}
+use mathlib.Core.Path.{_≡_, refl, sym, ap, ap₂, _∙_}
 use mathlib.Core.Bool.{Bool, true, false, cond, true≢false}
 use mathlib.Core.List.{List}
 use mathlib.Core.Logic.{_⊎_, ⊎-elim, inl, inr}
@@ -14,14 +14,14 @@ use Rattle.lists.proofs.Conjunctions.{both}
 use Rattle.optimality.specs.declared.Budgets.{Budgets}
 use Rattle.optimality.specs.declared.Cell.{Cell}
 use Rattle.optimality.specs.declared.Figures.{Figures}
-use Rattle.optimality.specs.Cells.{InTable, budgets, less, withMost}
+use Rattle.optimality.specs.Cells.{InTable, budgets, withMost}
 use Rattle.optimality.specs.Years.{raised}
 use Rattle.geometry.specs.Geometry.{width, index, cellOf}
 use Rattle.geometry.specs.Layers.{storedAt}
 use Rattle.geometry.proofs.Places.{index-lt, cell-there}
 use Rattle.intervals.specs.Stretches.{Apart}
 use Rattle.intervals.proofs.Stretches.{last-or-before}
-use Rattle.months.specs.Capping.{smaller, Above, highCell, boxOf, overOf, sameBudgets, StoreAsked, storedOne}
+use Rattle.months.specs.Capping.{Above, highCell, boxOf, overOf, sameBudgets, StoreAsked, storedOne}
 use Rattle.months.proofs.Raising.{numbered-there, high-inside}
 
 -- ---- budgets

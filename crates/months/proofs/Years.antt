@@ -1,5 +1,5 @@
 -- The layer that a month makes of the one after it is that of the year from the month's beginning on.
-use mathlib.Core.Path.{_≡_, ap, _∙_}
+use mathlib.Core.Path.{_≡_, ap}
 use mathlib.Core.List.{List, _∷_}
 use lib.ListN.{take, drop}
 use Rattle.commitment.specs.declared.Generator.{Generator}

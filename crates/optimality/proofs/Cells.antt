@@ -3,7 +3,7 @@
 -- left is capped by them, and what lies above the cap is not touched within the month. A case without months is one whose watch has no figures.
 use mathlib.Core.Path.{_≡_, refl, sym, ap, ap₂, _∙_, subst}
 use mathlib.Core.Bool.{Bool, true, false, cond, _&&_, _||_, false≢true, and-false}
-use mathlib.Core.List.{List, [], _∷_, map, List·Memᴰ}
+use mathlib.Core.List.{List, map, List·Memᴰ}
 use Prim.Native.Nat.{ℕ, zero, suc, _+_, _-_, _*_, _/_, _≤_, min}
 use native.Mathlib.Nat.{mul-div-cancel, zero-add}
 use native.Mathlib.Omega.{arith}
@@ -21,9 +21,9 @@ use Rattle.lists.proofs.Conjunctions.{both}
 use Rattle.optimality.specs.declared.Budgets.{Budgets}
 use Rattle.optimality.specs.declared.Figures.{Figures}
 use Rattle.optimality.specs.declared.Cell.{Cell}
-use Rattle.optimality.specs.Machine.{Step, stop, go, allow, anywhere, Quarter, inQuarter, walk, bestFrom}
+use Rattle.optimality.specs.Machine.{Step, go, allow, anywhere, Quarter, inQuarter, walk, bestFrom}
 use Rattle.optimality.specs.Watched.{beside, watched, unwatched}
-use Rattle.optimality.specs.Years.{YearQuarter, inMonth, inYear}
+use Rattle.optimality.specs.Years.{YearQuarter, inMonth}
 use Rattle.optimality.specs.Cells.{budgets, takenOf, figuresWith, states, afterOff, afterOn, startTakes, startPays, gain, mayRun}
 use Rattle.optimality.specs.Cells.{offCell, onCell, onStep, cellStep, planAt}
 use Rattle.optimality.proofs.Ranges.{Ranged}
@@ -190,7 +190,8 @@ module _ (u : UnitRecord) (ok : Ranged u) (most : Budgets) where
 
         mwh : leb (k * takenOf (u .limits .mwh)) (x .left .blocks) ≡ (affords c′ (suc m) && affords c (suc m))
         mwh =
-            capped-affords (u .generator .block) (u .generator .pmax) (ok .block) (takenOf (u .limits .mwh)) n k c c′ (above .blocks) (x .left .blocks) hk (left .2)
+            capped-affords (u .generator .block) (u .generator .pmax) (ok .block) (takenOf (u .limits .mwh)) n k c c′ (above .blocks)
+            (x .left .blocks) hk (left .2)
             ∙ ap (λ (z : ℕ). affords c′ z && affords c z) (sym i)
 
         hours-left : affords b′ 1 ≡ true → affords b 1 ≡ true

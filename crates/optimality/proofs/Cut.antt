@@ -1,15 +1,13 @@
 -- The intervals of a machine cut in two: best profits of the later ones are the ends of the earlier ones, and the best plan of all is the best plan under
 -- these ends, followed by the best plan from the state that it leads to. The first of the best plans is the first in both.
-use mathlib.Core.Path.{_≡_, refl, sym, ap, ap₂, _∙_, fun-ext}
+use mathlib.Core.Path.{_≡_, refl, sym, ap, _∙_, fun-ext}
 use mathlib.Core.Bool.{Bool, true, false, cond}
 use mathlib.Core.List.{List, [], _∷_, _++_, map}
-use mathlib.Core.Logic.{⊎-elim}
 use Prim.Native.Nat.{ℕ}
 use native.Mathlib.Omega.{arith}
 use lib.IntN.{ℤ, pos, _+ℤ_, +ℤ-idl}
-use lib.Signed.{_≤ℤ_, _<ℤ_, ltZ}
+use lib.Signed.{ltZ}
 use Rattle.integers.proofs.Linear.{zarith, zsum}
-use Rattle.integers.proofs.Order.{ltZ-dec}
 use Rattle.commitment.specs.declared.BestProfit.{BestProfit}
 use Rattle.commitment.specs.declared.BestProfit.the-variants.{Nothing, Profit}
 use Rattle.commitment.specs.Best.{Plan, nothing, plan, better, firstBest, profitOf}
@@ -114,7 +112,8 @@ module _ (State Input : Type 0) (step : State → Input → ℕ → Step State) 
             let total : Profit p ≡ Profit g = rw e at w in
             let same : p ≡ g = cc in
             (same, record { at = x; earned = pos 0; leads = refl; rest = s; profit = p; goes-on = e; sum = +ℤ-idl p ∙ same; whole = refl })
-    onward (i ∷ is) x = onward-best i is x (bestFrom State Input step worth outputs is) (bestFrom State Input step ends outputs (is ++ js)) (λ y. onward is y) outputs
+    onward (i ∷ is) x = onward-best i is x (bestFrom State Input step worth outputs is) (bestFrom State Input step ends outputs (is ++ js))
+        (λ y. onward is y) outputs
 
     -- the best plan of all intervals, by that of the earlier ones
     pub record Continued (is : List Input) (x : State) (a : List ℕ) (g : ℤ) : Type 0 where

@@ -3,7 +3,7 @@
 use mathlib.Core.Path.{_≡_, refl, sym, ap, ap₂, _∙_, subst}
 use mathlib.Core.Bool.{Bool}
 use mathlib.Core.List.{List, [], _∷_, _++_, map}
-use Prim.Native.Nat.{ℕ, _+_, _-_, _*_, _/_, _≤_, min}
+use Prim.Native.Nat.{ℕ, _+_, _-_, _*_, _/_, min}
 use native.Mathlib.Nat.{div-one, one-mul}
 use native.Mathlib.Omega.{arith}
 use lib.IntN.{ℤ}
@@ -23,9 +23,9 @@ use Rattle.optimality.specs.declared.Budgets.{Budgets}
 use Rattle.optimality.specs.declared.Cell.{Cell}
 use Rattle.optimality.specs.declared.Figures.{Figures}
 use Rattle.optimality.specs.Machine.{go, Quarter, inQuarter, walk, ended, anywhere, bestFrom, valueFrom}
-use Rattle.optimality.specs.Cells.{figuresWith, takenOf, cellStep, planAt, valueAt}
+use Rattle.optimality.specs.Cells.{figuresWith, takenOf, cellStep}
 use Rattle.optimality.specs.Watched.{unwatched}
-use Rattle.optimality.specs.Years.{YearQuarter, inMonth, monthFrom, yearQuarters, capped, cappedBy, boxIn, raised, aboveBox, yearValue}
+use Rattle.optimality.specs.Years.{YearQuarter, inMonth, monthFrom, yearQuarters, capped, boxIn, raised, aboveBox, yearValue}
 use Rattle.optimality.specs.Years.{follow, monthPlan, yearPlan}
 use Rattle.optimality.proofs.Ranges.{Ranged}
 use Rattle.optimality.proofs.Commit.{Status, status, scaled}
@@ -197,7 +197,8 @@ module _ (u : UnitRecord) (ok : Ranged u) (most : Budgets) where
       let later = yearQuarters ms back in
       cut-value (Status × Spare) YearQuarter (yearStep u) (unwatched anywhere) (outputs (u .generator)) (monthFrom (m .limits) front) later
       (s, spare (isOn s) a b c)
-      ∙ sym (value-from (Status × Spare) YearQuarter (yearStep u) (worth later) (outputs (u .generator)) (monthFrom (m .limits) front) (s, spare (isOn s) a b c))
+      ∙ sym (value-from (Status × Spare) YearQuarter (yearStep u) (worth later) (outputs (u .generator)) (monthFrom (m .limits) front)
+      (s, spare (isOn s) a b c))
       ∙ ap profitOf (month-is m ms (h .0) qs s x r (λ t a′ b′ c′ z k. year-value ms (h .1) back t a′ b′ c′ z k) a b c)
       ∙ plan-value f (λ y. yearValue (u .generator) f ms back (raised (aboveBox (u .generator) (m .limits) x) y)) front (boxIn (u .generator) (m .limits) x)
 

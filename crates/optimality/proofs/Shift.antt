@@ -83,7 +83,8 @@ module _ (f : Figures) (at : Cell) where
     abbrev may : Bool
     may = mayRun f (lifted at d) && leb (k * f .takes .blocks) (d .left .blocks + at .left .blocks)
 
-    has : may ≡ true → (takes ≤ d .left .starts + at .left .starts) × (f .takes .ons ≤ d .left .ons + at .left .ons) × (k * f .takes .blocks ≤ d .left .blocks + at .left .blocks)
+    has : may ≡ true → (takes ≤ d .left .starts + at .left .starts) × (f .takes .ons ≤ d .left .ons + at .left .ons) ×
+        (k * f .takes .blocks ≤ d .left .blocks + at .left .blocks)
         × (ltb (afterOn f (d .state)) (states f) ≡ true)
     has e =
         let all = both (mayRun f (lifted at d)) (leb (k * f .takes .blocks) (d .left .blocks + at .left .blocks)) e in
@@ -97,9 +98,11 @@ module _ (f : Figures) (at : Cell) where
 
     on-lifts : Lifts at (onStep f d price k) (onStep f (lifted at d) price k)
     on-lifts =
-        by (ltb (afterOn f (d .state)) (states f)) refl (leb takes (d .left .starts)) refl (leb (f .takes .ons) (d .left .ons)) refl (leb (k * f .takes .blocks) (d .left .blocks)) refl
+        by (ltb (afterOn f (d .state)) (states f)) refl (leb takes (d .left .starts)) refl (leb (f .takes .ons) (d .left .ons)) refl
+        (leb (k * f .takes .blocks) (d .left .blocks)) refl
       where
-        by : (t : Bool) → ltb (afterOn f (d .state)) (states f) ≡ t → (a : Bool) → leb takes (d .left .starts) ≡ a → (b : Bool) → leb (f .takes .ons) (d .left .ons) ≡ b
+        by : (t : Bool) → ltb (afterOn f (d .state)) (states f) ≡ t → (a : Bool) → leb takes (d .left .starts) ≡ a → (b : Bool) → leb (f .takes .ons)
+            (d .left .ons) ≡ b
             → (c : Bool) → leb (k * f .takes .blocks) (d .left .blocks) ≡ c
             → Lifts at (allow (t && a && b && c) (go earns (onCell f d k))) (onStep f (lifted at d) price k)
         by true t true a true b true c =

@@ -5,8 +5,8 @@ use mathlib.Core.List.{List, [], _∷_}
 use Prim.Native.Nat.{ℕ}
 use lib.IntN.{ℤ}
 use Rattle.commitment.specs.declared.BestProfit.{BestProfit}
-use Rattle.commitment.specs.Best.{Plan, nothing, plan}
-use Rattle.optimality.specs.Machine.{Step, stop, go, allow, ended, after, along, run}
+use Rattle.commitment.specs.Best.{Plan, nothing}
+use Rattle.optimality.specs.Machine.{Step, stop, go, allow, after, along, run}
 use Rattle.optimality.specs.Watched.{Watch, beside, watched, passes, unwatched}
 use Rattle.optimality.proofs.Simulate.{Match, match-allow}
 

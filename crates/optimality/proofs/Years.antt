@@ -9,7 +9,7 @@ use native.Mathlib.Omega.{arith}
 use lib.IntN.{ℤ}
 use lib.ListN.{length, take, drop, length-take, length-drop, length-map, take-append-drop}
 use Rattle.commitment.specs.declared.Limit.{Limit}
-use Rattle.commitment.specs.declared.Limit.the-variants.{None, At}
+use Rattle.commitment.specs.declared.Limit.the-variants.{None}
 use Rattle.commitment.specs.declared.Limits.{Limits}
 use Rattle.commitment.specs.declared.BestProfit.{BestProfit}
 use Rattle.commitment.specs.declared.UnitRecord.{UnitRecord}

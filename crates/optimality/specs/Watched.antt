@@ -2,7 +2,6 @@
 use mathlib.Core.Bool.{Bool, true, _&&_}
 use mathlib.Core.List.{List, [], _∷_}
 use Prim.Native.Nat.{ℕ}
-use lib.IntN.{ℤ}
 use Rattle.commitment.specs.declared.BestProfit.{BestProfit}
 use Rattle.optimality.specs.Machine.{Step, stop, go, allow}
 

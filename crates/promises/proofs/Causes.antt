@@ -112,7 +112,12 @@ module _ (k : CostInputs) (mws heats : List ℕ) where
   cost-judged = (
     refl,
     unless-so (inputsKept k && segmentsKept mws heats) (cost-range k mws heats),
-    λ _. (refl, misshapen (k .block) (k .pmin) (k .pmax), λ _. (refl, as-many (totalMw mws) (rangeMw k), λ _. (refl, as-many (length mws) (length heats), λ _. tt))),
+    λ _. (
+      refl,
+      misshapen (k .block) (k .pmin) (k .pmax),
+      λ _.
+          (refl, as-many (totalMw mws) (rangeMw k), λ _. (refl, as-many (length mws) (length heats), λ _. tt)),
+    ),
   )
 
   cost-answers : Answers (λ c. costedBy c (threeFigures k mws heats)) cost.Refused

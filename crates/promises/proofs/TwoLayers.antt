@@ -66,7 +66,8 @@ pub same-printed : (text : List ℕ) (cells : ℕ) → writtenChecked text ≡ P
 unfolding printed
 same-printed text cells passed enough also =
     ap (λ (k : Checked). printedFor k (unitIn text) (pricesIn text))
-    (found-same (unitIn text) (pricesIn text) cells cellRoom also enough (length (pricesIn text)) ∙ planned-in-room text passed (length (pricesIn text)) (omega arith))
+    (found-same (unitIn text) (pricesIn text) cells cellRoom also enough (length (pricesIn text)) ∙ planned-in-room text passed
+    (length (pricesIn text)) (omega arith))
 
 -- ---- the cells used, after planning and after valuing
 

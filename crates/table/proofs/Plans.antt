@@ -81,7 +81,8 @@ pub read-turn : (f : Figures) (ends : Cell → BestProfit) (quarters : List Quar
 read-turn f ends quarters cells t c ok priced short filled inside here some =
     let d = drop-cons quarters t noQuarter inside in
     read-layers f ends (getD quarters t noQuarter) (drop (suc t) quarters) (storedAt f cells (t * width f)) (storedAt f cells (suc t * width f)) c ok
-    (priced t inside) (length (drop (suc t) quarters)) (omega (arith, length-drop (suc t) quarters)) (rw d at (filled .layers t (omega arith))) (filled .layers (suc t) inside) here
+    (priced t inside) (length (drop (suc t) quarters)) (omega (arith, length-drop (suc t) quarters)) (rw d at (filled .layers t (omega arith)))
+    (filled .layers (suc t) inside) here
     (rw d at some)
 
 -- ---- the plan so far

@@ -16,7 +16,7 @@ use Rattle.table.specs.declared.reading.Row.{Row}
 use Rattle.optimality.specs.declared.Figures.{Figures}
 use Rattle.optimality.specs.declared.Cell.{Cell}
 use Rattle.optimality.specs.Machine.{Quarter}
-use Rattle.optimality.specs.Cells.{startTakes, mayRun, offCell, onCell, rungs, planAt, valueAt}
+use Rattle.optimality.specs.Cells.{mayRun, offCell, onCell, rungs, planAt, valueAt}
 use Rattle.intervals.specs.Turns.{Affords, net, offStored, roomFor, onStored}
 
 module _ (f : Figures) (stored : Cell → ℤ) (c : Cell) where

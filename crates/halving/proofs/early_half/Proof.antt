@@ -1,5 +1,4 @@
 -- The fields of the definition.
-use borrow.Author.Needs.{needs}
 use Rattle.halving.proofs.early_half.Statement.{statement}
 use Rattle.halving.proofs.early_half.Tie as tie
 

@@ -139,7 +139,8 @@ returns c =
     let first : l .t ≡ a .from = omega (arith, done .loop-test .left, l .inv .0) in (
       (λ ends n short last.
           let few = within (asked o) n short in
-          subst (λ (j : ℕ). LayerBefore n (a .f) ends (between (quartersIn (a .hours) (a .prices .now)) j (a .to)) (inFront (a .f) (filled .fill-layer .last .0)))
+          subst (λ (j : ℕ). LayerBefore n (a .f) ends (between (quartersIn (a .hours) (a .prices .now)) j (a .to))
+          (inFront (a .f) (filled .fill-layer .last .0)))
           first
           (one-earlier (a .f) (a .w) (a .prices .now) (a .scratch .now) (a .hours) (a .from) (a .to) (asked o) ends n few (l .t) (l .inv .0)
           (l .inv .1) _ _ (l .inv .3 ends n few last) (made .inside))),

@@ -11,7 +11,8 @@ returns c =
     let takes = c .before .before .before .before .before in
     let on = takes .before in
     let a = on .before .args in
-    ap₂ (λ (s t : ℕ). cell s (a .c .left .starts - t) (a .c .left .ons - a .f .takes .ons) (a .c .left .blocks - a .k * a .f .takes .blocks)) (on .after-on .ensures)
+    ap₂ (λ (s t : ℕ). cell s (a .c .left .starts - t) (a .c .left .ons - a .f .takes .ons) (a .c .left .blocks - a .k * a .f .takes .blocks))
+    (on .after-on .ensures)
     (takes .start-takes .ensures)
 
 pub on-cell-spec : {M : Type 1} → statement M

@@ -1,6 +1,5 @@
 -- The same for all outputs, as far back on the line that an interval on leads to.
 use mathlib.Core.Path.{_≡_, refl, ap, _∙_}
-use native.Mathlib.Omega.{arith}
 use Rattle.integers.proofs.Ranges.{plain-fits}
 use Rattle.intervals.specs.Ladders.{betterEnd, Steady}
 use Rattle.marks.specs.Lines.{OnAsked, laddered}

@@ -1,6 +1,6 @@
 -- The sum of the definition, which stays below the width.
 use mathlib.Core.Path.{_≡_, ap₂}
-use Prim.Native.Nat.{ℕ, _+_, _-_, _*_, _<_, _^_, min}
+use Prim.Native.Nat.{_+_, _-_, _*_, _<_, _^_}
 use native.Mathlib.Nat.{lt-of-le-of-lt}
 use native.Mathlib.Omega.{arith}
 use lib.Dec.{lit<}

@@ -1,16 +1,15 @@
 -- The invariant: the first i cells of the box have what the year's cells above them had, and all else is as it was. The turns left fall.
-use mathlib.Core.Path.{_≡_, sym, ap, _∙_, subst}
+use mathlib.Core.Path.{_≡_, ap, _∙_}
 use mathlib.Core.Logic.{⊎-elim}
-use Prim.Native.Nat.{ℕ, _+_, _-_, _≤_, _<_, _^_}
-use native.Mathlib.Nat.{lt-of-le-of-lt}
+use Prim.Native.Nat.{ℕ, _+_, _-_, _≤_, _<_}
 use native.Mathlib.Omega.{arith}
-use lib.IntN.{ℤ, pos}
+use lib.IntN.{pos}
 use lib.ListN.{length, getD}
 use Rattle.integers.proofs.Ranges.{plain-fits}
 use Rattle.optimality.specs.declared.Cell.{Cell}
 use Rattle.optimality.specs.Cells.{withMost}
 use Rattle.optimality.specs.Years.{raised}
-use Rattle.geometry.specs.Geometry.{width, index, cellOf}
+use Rattle.geometry.specs.Geometry.{width, index}
 use Rattle.geometry.proofs.Places.{index-lt, cell-there}
 use Rattle.intervals.proofs.Stretches.{Made, made-none, made-next, made-apart}
 use Rattle.months.specs.Capping.{highCell}

@@ -18,8 +18,11 @@ cell-of-requires c κs = let o = c .before in rw (c .with-most .ensures) (box-so
 raised-requires : tie.Need-raised-requires
 raised-requires c κs =
     let o = c .before .before in
-    let a = o .args in
-    (o .pre .0 .sound, rw (cell-is c) (raised-within (a .f) (a .cap) (a .above) (o .pre .0) _ (numbered-there (withMost (a .f) (a .cap)) (a .i) (o .pre .1) .0)))
+    let a = o .args in (
+      o .pre .0 .sound,
+      rw (cell-is c) (raised-within (a .f) (a .cap) (a .above) (o .pre .0) _
+          (numbered-there (withMost (a .f) (a .cap)) (a .i) (o .pre .1) .0)),
+    )
 
 returns : tie.Need-returns
 returns c = c .raised .ensures ∙ ap (raised (c .before .before .before .args .above)) (cell-is (c .before))

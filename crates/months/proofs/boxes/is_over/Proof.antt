@@ -1,9 +1,9 @@
 -- The smaller of each is no more than it.
-use mathlib.Core.Path.{_≡_, ap, _∙_}
+use mathlib.Core.Path.{ap}
 use native.Mathlib.Omega.{arith}
 use Rattle.optimality.specs.declared.Budgets.{Budgets}
 use Rattle.optimality.specs.Cells.{Within, less}
-use Rattle.months.specs.Capping.{smaller, sameBudgets}
+use Rattle.months.specs.Capping.{smaller}
 use borrow.Author.Needs.{needs}
 use Rattle.months.proofs.boxes.is_over.Statement.{statement}
 use Rattle.months.proofs.boxes.is_over.Tie as tie

@@ -1,10 +1,8 @@
 -- The invariant: the cells of the box before the i-th are stored, and all else is as it was. The turns left fall.
-use mathlib.Core.Path.{_≡_, sym, ap, _∙_, subst}
-use Prim.Native.Nat.{ℕ, _+_, _-_, _≤_, _<_}
+use mathlib.Core.Path.{_≡_, ap, _∙_}
+use Prim.Native.Nat.{_-_, _≤_, _<_}
 use native.Mathlib.Omega.{arith}
 use lib.ListN.{length}
-use lib.IntN.{ℤ}
-use mathlib.Core.List.{List}
 use Rattle.optimality.specs.Cells.{withMost}
 use Rattle.geometry.specs.Geometry.{width, index}
 use Rattle.geometry.proofs.Places.{index-lt}

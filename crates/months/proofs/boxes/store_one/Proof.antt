@@ -1,14 +1,14 @@
 -- Where the year's cell above has just so much above the box, its place gets the number; else nothing changes.
-use mathlib.Core.Path.{_≡_, sym, ap, _∙_}
+use mathlib.Core.Path.{_≡_, ap, _∙_}
 use Prim.Native.Nat.{_+_, _<_}
 use native.Mathlib.Omega.{arith}
-use lib.ListN.{length, set}
+use lib.ListN.{length}
 use Rattle.integers.proofs.Ranges.{plain-fits}
 use Rattle.optimality.specs.declared.Cell.{Cell}
 use Rattle.optimality.specs.Cells.{InTable}
 use Rattle.geometry.specs.Geometry.{width, index}
 use Rattle.geometry.proofs.Places.{index-lt}
-use Rattle.months.specs.Capping.{highCell, overOf, sameBudgets, storedOne}
+use Rattle.months.specs.Capping.{highCell, overOf, sameBudgets}
 use Rattle.months.proofs.Raising.{high-inside}
 use borrow.Author.Needs.{needs}
 use Rattle.months.proofs.boxes.store_one.Statement.{statement}

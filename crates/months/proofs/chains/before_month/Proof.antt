@@ -1,8 +1,7 @@
 -- The invariant: the cells whose parts above the box have smaller numbers than j are made, and all else is as it was. The parts left fall.
 use mathlib.Core.Path.{_≡_, sym, ap, _∙_, subst}
-use Prim.Native.Nat.{ℕ, _+_, _-_, _≤_, _<_}
+use Prim.Native.Nat.{ℕ, _-_, _≤_, _<_}
 use native.Mathlib.Omega.{arith}
-use Rattle.optimality.specs.declared.Budgets.{Budgets}
 use Rattle.optimality.specs.declared.Cell.{Cell}
 use Rattle.optimality.specs.declared.Figures.{Figures}
 use Rattle.optimality.specs.Cells.{less, withMost}
@@ -84,7 +83,8 @@ loop-again c =
       λ asked.
           part-made (a .f) (a .prices .now) (a .hours) (a .m) (a .at) (a .cells .now) asked (l .loop .cells) (l .loop .j) (numbered (part .before))
           (l .loop .inv .3 asked) (called .one-class .last .0)
-          (subst (λ (x : Cell). ClassMade (a .f) (between (quartersIn (a .hours) (a .prices .now)) (a .m .from) (a .m .to)) (a .m) (a .at) (x .left) (l .loop .cells) (called .one-class .last .0)) (part-is part)
+          (subst (λ (x : Cell). ClassMade (a .f) (between (quartersIn (a .hours) (a .prices .now)) (a .m .from) (a .m .to)) (a .m) (a .at) (x .left)
+          (l .loop .cells) (called .one-class .last .0)) (part-is part)
           (called .one-class .ensures)),
     )
 

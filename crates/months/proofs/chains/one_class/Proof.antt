@@ -1,6 +1,5 @@
 -- Entered, rolled and stored.
 use mathlib.Core.Path.{_≡_, ap, _∙_}
-use Prim.Native.Nat.{_+_}
 use native.Mathlib.Omega.{arith}
 use Rattle.optimality.specs.Cells.{withMost}
 use Rattle.geometry.specs.Geometry.{width}

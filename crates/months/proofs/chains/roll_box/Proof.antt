@@ -18,7 +18,8 @@ roll-requires c κs =
     let o = sized .before in
     let a = o .args in
     rw (tail-part (a .at) (a .cells .now))
-    (part-asked (a .g) (a .cells .now) (a .at) (fits o) (a .prices .now) (a .hours) (a .m .from) (a .m .to) (sized .layer-cells .result) (sized .layer-cells .ensures)
+    (part-asked (a .g) (a .cells .now) (a .at) (fits o) (a .prices .now) (a .hours) (a .m .from) (a .m .to) (sized .layer-cells .result)
+    (sized .layer-cells .ensures)
     (o .pre))
 
 returns : tie.Need-returns

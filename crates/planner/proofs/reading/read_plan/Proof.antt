@@ -116,7 +116,8 @@ returns-2 c =
     let a = s .args in
     let m = s .pre .0 .0 .model in
     let r = made .plan-from .ensures in
-    let same : planAt (a .model .figures) anywhere (quartersIn (a .model .hours) (a .prices .now)) (cell .opening-cell .result) ≡ best (a .unit) (a .prices .now) =
+    let same : planAt (a .model .figures) anywhere (quartersIn (a .model .hours) (a .prices .now)) (cell .opening-cell .result) ≡ best (a .unit)
+    (a .prices .now) =
     ap (λ (qs : List Quarter). planAt (a .model .figures) anywhere qs (cell .opening-cell .result)) (same-quarters s) ∙ best-is cell in (
       r .0 ∙ ap₂ (λ (f : Figures) (b : Plan). triesOver (f .block) (f .pmin) (scheduleOf b)) (m .figures) same,
       (
