@@ -41,7 +41,7 @@ Reachable f (In s) = s < states f
 
 -- the cells of a table that is filled aside
 abbrev pub near : ℕ
-near = 6144
+near = 2048
 
 -- all cells but the first n are as they were
 abbrev pub Untouched : ℕ → List ℤ → List ℤ → Type 0

@@ -34,8 +34,8 @@ ghost use Rattle.halving.specs.Tasks as tasks;
 // Values and marks of the cells that `marks` works out aside at a time.
 const BUFFER: usize = 1024;
 
-// The cells of a table that is filled aside, where it has no more: 48 KiB on the stack.
-const NEAR: usize = 6144;
+// The cells of a table that is filled aside, where it has no more: as many as the buffers of a pass together, so that the stack takes no more for it.
+const NEAR: usize = 2048;
 
 // Where a plan may end: in any cell, or in a state with nothing left.
 pub enum End {
