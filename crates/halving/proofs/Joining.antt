@@ -30,7 +30,7 @@ use Rattle.layers.specs.Filling.{quartersIn, between}
 use Rattle.layers.proofs.Between.{between-length, between-all}
 use Rattle.marks.specs.Lines.{markOf}
 use Rattle.marks.specs.Standing.{Stands, MarkedBy, endsIn, spent}
-use Rattle.marks.proofs.Halving.{spends, earlier-half}
+use Rattle.marks.proofs.Halving.{spends-within, earlier-half}
 use Rattle.marks.specs.declared.Frame.{Frame}
 use Rattle.halving.specs.declared.Task.{Task}
 use Rattle.halving.specs.declared.End.{End}
@@ -59,7 +59,7 @@ between-parts quarters from at to early late =
     ∙ take-append-drop (at - from) (between quarters from to)
 
 -- a plan has a profit
-planned : (f : Figures) (ends : Cell → BestProfit) (quarters : List Quarter) (c : Cell) (s : List ℕ) (p : ℤ) → planAt f ends quarters c ≡ plan s p
+pub planned : (f : Figures) (ends : Cell → BestProfit) (quarters : List Quarter) (c : Cell) (s : List ℕ) (p : ℤ) → planAt f ends quarters c ≡ plan s p
     → valueAt f ends quarters c ≡ Nothing → ⊥
 planned f ends quarters c s p e none = no-earning (sym none ∙ sym (plan-value f ends quarters c) ∙ ap profitOf e)
 
@@ -118,12 +118,7 @@ module _ (g : Frame) (prices : List ℤ) (room : ℕ) (t : Task) (cells : List �
     stands = rw there (mark .stands)
 
     pub spends-all : Within (at .left) (c .left)
-    spends-all =
-        let e = spends f (h .given .asked .sound) (endsBy end) (between quarters from mid) (between quarters mid to) c at stands in
-        let x = ap (λ (z : Cell). z .left .starts) e in
-        let y = ap (λ (z : Cell). z .left .ons) e in
-        let z = ap (λ (z : Cell). z .left .blocks) e in
-        record { starts = omega (arith, x); ons = omega (arith, y); blocks = omega (arith, z) }
+    spends-all = spends-within f (h .given .asked .sound) (endsBy end) (between quarters from mid) (between quarters mid to) c at stands
 
     -- ---- each half is a task
 

@@ -2,7 +2,9 @@
 // end. Where a table of its own budgets fits, it is filled and read off (`leaf`). Else one pass gives the best profit of every cell and, for each, the
 // cell where its plan stands at the middle (crates `pair`, `marks`); the earlier half is then solved from what the plan spends in it, to end there with
 // nothing left, and the later half from there to the task's own end. Budgets of the halves add up to those of the whole, so all passes together
-// cost about two fills of the table.
+// cost about two fills of the table. mod ahead: a plan up to a layer that stands.
+
+pub mod ahead;
 
 use commitment::windows::Hours;
 use geometry::INFEASIBLE;

@@ -17,7 +17,7 @@ use Rattle.commitment.specs.Best.{plan}
 use Rattle.optimality.specs.declared.Cell.{Cell}
 use Rattle.optimality.specs.declared.Figures.{Figures}
 use Rattle.optimality.specs.Machine.{Step, Quarter, go, inQuarter, walk, bestFrom}
-use Rattle.optimality.specs.Cells.{Sound, cell, cellStep, choices, rungs, planAt}
+use Rattle.optimality.specs.Cells.{Sound, Within, cell, cellStep, choices, rungs, planAt}
 use Rattle.optimality.proofs.Rival.{not-plan, Ascending}
 use Rattle.optimality.proofs.Outputs.{ladder-after-zero}
 use Rattle.optimality.proofs.Values.{no-earning}
@@ -147,7 +147,7 @@ module _ (f : Figures) (ok : Sound f) (ends : Cell → BestProfit) (front later 
   not-below : Below at c → ⊥
   not-below b = not-plan (sym (below-none f at (choices f) (endsIn (at .state)) (only at) (lifted-ends at) (only-above at) front c b) ∙ to-the-middle)
 
-  pub spends : lifted at (spent c at) ≡ c
+  spends : lifted at (spent c at) ≡ c
   spends =
       let x : c .left .starts - at .left .starts + at .left .starts ≡ c .left .starts = up (c .left .starts) (at .left .starts) (λ l. not-below (inl l)) in
       let y : c .left .ons - at .left .ons + at .left .ons ≡ c .left .ons = up (c .left .ons) (at .left .ons) (λ l. not-below (inr (inl l))) in
@@ -161,6 +161,13 @@ module _ (f : Figures) (ok : Sound f) (ends : Cell → BestProfit) (front later 
           by : (t : Bool) → ltb a b ≡ t → a - b + b ≡ a
           by true e = absurd (h (ltb-true a b e))
           by false e = let l = ltb-false a b e in omega arith
+
+  pub spends-within : Within (at .left) (c .left)
+  spends-within =
+      let x = ap (λ (z : Cell). z .left .starts) spends in
+      let y = ap (λ (z : Cell). z .left .ons) spends in
+      let z = ap (λ (z : Cell). z .left .blocks) spends in
+      record { starts = omega (arith, x); ons = omega (arith, y); blocks = omega (arith, z) }
 
   pub earlier-half : planAt f (endsIn (at .state)) front (spent c at) ≡ plan (s .outputs) (s .earned)
   unfolding planAt
