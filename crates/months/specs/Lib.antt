@@ -1,3 +1,4 @@
--- Capping: what a month may spend, and what lies above it. Chaining: the layer of a month by that of the next.
+-- Capping: what a month may spend, and what lies above it. Chaining: the layer of a month by that of the next. Annual: all months of a horizon.
 pub mod Capping
 pub mod Chaining
+pub mod Annual
