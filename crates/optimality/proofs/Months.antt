@@ -6,9 +6,11 @@ use mathlib.Core.List.{List, [], _∷_, _++_, map}
 use Prim.Native.Nat.{ℕ, _+_, _-_, _*_, _/_, min}
 use native.Mathlib.Nat.{div-one, one-mul}
 use native.Mathlib.Omega.{arith}
-use lib.IntN.{ℤ}
+use lib.IntN.{ℤ, _+ℤ_}
 use lib.ListN.{length, take, drop, length-append, take-append-drop}
 use Rattle.commitment.specs.declared.BestProfit.{BestProfit}
+use Rattle.commitment.specs.declared.BestProfit.the-variants.{Nothing, Profit}
+use Rattle.commitment.specs.declared.Generator.{Generator}
 use Rattle.commitment.specs.declared.Limit.{Limit}
 use Rattle.commitment.specs.declared.Limit.the-variants.{None, At}
 use Rattle.commitment.specs.declared.Limitation.{Limitation}
@@ -22,17 +24,17 @@ use Rattle.commitment.specs.Months.{Month}
 use Rattle.optimality.specs.declared.Budgets.{Budgets}
 use Rattle.optimality.specs.declared.Cell.{Cell}
 use Rattle.optimality.specs.declared.Figures.{Figures}
-use Rattle.optimality.specs.Machine.{go, Quarter, inQuarter, walk, ended, anywhere, bestFrom, valueFrom}
-use Rattle.optimality.specs.Cells.{figuresWith, takenOf, cellStep}
+use Rattle.optimality.specs.Machine.{Step, go, Quarter, inQuarter, walk, ended, anywhere, bestFrom, valueFrom}
+use Rattle.optimality.specs.Cells.{figuresWith, takenOf, cellStep, choices, planAt}
 use Rattle.optimality.specs.Watched.{unwatched}
 use Rattle.optimality.specs.Years.{YearQuarter, inMonth, monthFrom, yearQuarters, capped, boxIn, raised, aboveBox, yearValue}
 use Rattle.optimality.specs.Years.{follow, monthPlan, yearPlan}
 use Rattle.optimality.proofs.Ranges.{Ranged}
 use Rattle.optimality.proofs.Commit.{Status, status, scaled}
-use Rattle.optimality.proofs.Rival.{AllIn, attained}
+use Rattle.optimality.proofs.Rival.{not-plan, AllIn, attained}
 use Rattle.optimality.proofs.Split.{go-parts, no-step}
 use Rattle.optimality.proofs.Cut.{cut-value, continued, none-continued}
-use Rattle.optimality.proofs.Values.{value-from}
+use Rattle.optimality.proofs.Values.{no-earning, value-from}
 use Rattle.optimality.proofs.Turns.{plan-value}
 use Rattle.optimality.proofs.Years.{Spare, spare, yearStep}
 use Rattle.optimality.proofs.Left.{Left}
@@ -303,3 +305,52 @@ module _ (u : UnitRecord) (ok : Ranged u) (most : Budgets) where
           k .best
           ∙ ap₂ plan (j .whole) (sym (j .sum))
           ∙ sym (rw (l .leads, rest))
+
+-- ---- the plan earns the best profit
+
+plan-is : (f : Figures) (ends : Cell → BestProfit) (quarters : List Quarter) (c : Cell) (s : List ℕ) (p : ℤ) → planAt f ends quarters c ≡ plan s p
+    → bestFrom Cell Quarter (inQuarter (cellStep f)) ends (choices f) quarters c ≡ plan s p
+unfolding planAt
+plan-is f ends quarters c s p e = e
+
+ended-worth : (v : BestProfit) (s : List ℕ) (p : ℤ) → ended v ≡ plan s p → v ≡ Profit p
+ended-worth Nothing s p e = absurd (not-plan e)
+ended-worth (Profit q) s p e = cc
+
+module _ (g : Generator) (f : Figures) where
+  pub plan-earns : (ms : List Month) (qs : List Quarter) (c : Cell) → profitOf (yearPlan g f ms qs c) ≡ yearValue g f ms qs c
+  unfolding yearPlan yearValue
+  plan-earns [] qs c = refl
+  plan-earns (m ∷ ms) qs c =
+      by (monthPlan g f m ms qs c) refl (λ z. plan-earns ms (drop (m .long) qs) z)
+      ∙ plan-value f (λ x. yearValue g f ms (drop (m .long) qs) (raised (aboveBox g (m .limits) c) x)) (take (m .long) qs) (boxIn g (m .limits) c)
+    where
+      front : List Quarter
+      front = take (m .long) qs
+
+      rest : Cell → Plan
+      rest x = yearPlan g f ms (drop (m .long) qs) (raised (aboveBox g (m .limits) c) x)
+
+      value : Cell → BestProfit
+      value x = yearValue g f ms (drop (m .long) qs) (raised (aboveBox g (m .limits) c) x)
+
+      leads : List ℕ → Step Cell
+      leads = walk Cell Quarter (inQuarter (cellStep f)) front (boxIn g (m .limits) c)
+
+      joined : (a : List ℕ) (earned profit : ℤ) (x : Cell) (q : Plan) → rest x ≡ q → profitOf q ≡ Profit profit → leads a ≡ go earned x
+          → profitOf (follow leads rest (plan a (earned +ℤ profit))) ≡ Profit (earned +ℤ profit)
+      joined a earned profit x nothing e none l = absurd (no-earning none)
+      joined a earned profit x (plan s p) e same l = rw (l, e) (ap Profit (ap (λ (z : ℤ). earned +ℤ z) (earns same)))
+        where
+          earns : Profit p ≡ Profit profit → p ≡ profit
+          earns h = cc
+
+      by : (p : Plan) → monthPlan g f m ms qs c ≡ p → ((z : Cell) → profitOf (yearPlan g f ms (drop (m .long) qs) z) ≡ yearValue g f ms (drop (m .long) qs) z)
+          → profitOf (follow leads rest p) ≡ profitOf p
+      by nothing e earns = refl
+      by (plan a e) h earns =
+          let j = continued Cell Quarter (inQuarter (cellStep f)) value (choices f) [] front (boxIn g (m .limits) c) a e (plan-is f value front (boxIn g (m .limits) c) a e h) .joined in
+          ap (λ (z : ℤ). profitOf (follow leads rest (plan a z))) (sym (j .sum))
+          ∙ joined a (j .earned) (j .profit) (j .at) (rest (j .at)) refl
+          (earns (raised (aboveBox g (m .limits) c) (j .at)) ∙ ended-worth (value (j .at)) (j .rest) (j .profit) (j .goes-on)) (j .leads)
+          ∙ ap Profit (j .sum)
