@@ -10,7 +10,7 @@ ghost use Rattle.optimality.specs.Cells.{Sound, Within, withMost};
 ghost use Rattle.optimality.specs.Cells as cells;
 ghost use Rattle.optimality.specs.Years as years;
 ghost use Rattle.geometry.specs.Geometry.{width};
-ghost use Rattle.months.specs.Capping.{plus, smaller, highCell, overOf, sameBudgets, Above, EnterAsked, Entered, StoreAsked, Stored, storedOne};
+ghost use Rattle.months.specs.Capping.{plus, smaller, highCell, boxOf, overOf, sameBudgets, Above, EnterAsked, Entered, StoreAsked, Stored, storedOne};
 
 // The smaller of each.
 pub fn least(a: Budgets, b: Budgets) -> Budgets
@@ -43,7 +43,7 @@ pub fn with_most(f: Figures, most: Budgets) -> Figures
 }
 
 // The cell of the year above a cell of the month's box.
-fn raised(f: Figures, above: Budgets, c: Cell) -> Cell
+pub fn raised(f: Figures, above: Budgets, c: Cell) -> Cell
     requires { ⌜ (Sound f) × (Within (plus (c .left) above) (f .most)) ⌝ }
     ensures { λ r. ⌜ r ≡ years.raised above c ⌝ }
 {
@@ -100,12 +100,30 @@ fn same(a: Budgets, b: Budgets) -> bool
     (a.starts == b.starts) & (a.ons == b.ons) & (a.blocks == b.blocks)
 }
 
+// What a cell of the year has above the box.
+pub fn over_of(cap: Budgets, z: Cell) -> Budgets
+    ensures { λ r. ⌜ r ≡ overOf cap z ⌝ }
+{
+    let all = z.left;
+    less(all, least(all, cap))
+}
+
+// Its cell in the box.
+pub fn box_of(cap: Budgets, z: Cell) -> Cell
+    ensures { λ r. ⌜ r ≡ boxOf cap z ⌝ }
+{
+    let left = least(z.left, cap);
+    Cell {
+        state: z.state,
+        left,
+    }
+}
+
 // Whether a cell of the year has just so much above the box.
 fn is_over(cap: Budgets, above: Budgets, z: Cell) -> bool
     ensures { λ r. ⌜ r ≡ sameBudgets (overOf cap z) above ⌝ }
 {
-    let all = z.left;
-    same(less(all, least(all, cap)), above)
+    same(over_of(cap, z), above)
 }
 
 // The i-th cell of the box, where it is that of the year's cell above it.

@@ -1,0 +1,89 @@
+// The plan, month by month from the first. The layer of the next month says what every cell is worth at a month's end; the month's outputs are then a plan up
+// to that layer in the month's box, and the next month goes on from the cell where they lead.
+
+use crate::annual;
+use crate::annual::Year;
+use crate::boxes;
+use commitment::windows::Hours;
+use halving::ahead;
+use halving::ahead::Leg;
+use halving::ahead::Reached;
+use marks::Frame;
+use optimality::Budgets;
+use optimality::Cell;
+use optimality::Figures;
+ghost use mathlib.Core.Path.{_≡_};
+ghost use Prim.Native.Nat.{_+_, _-_, _≤_, _<_};
+ghost use lib.ListN.{length, drop};
+ghost use Rattle.optimality.specs.Cells.{Sound};
+ghost use Rattle.intervals.specs.Stretches.{Apart};
+ghost use Rattle.halving.specs.Reaching.{LegAsked, RunsTo};
+ghost use Rattle.months.specs.Annual.{cutAt};
+ghost use Rattle.months.specs.Planning.{frameOf, MonthPlanAsked, MonthPlanned};
+
+fn frame_of(figures: Figures, hours: Hours) -> Frame
+    requires { ⌜ Sound figures ⌝ }
+    ensures { λ r. ⌜ r ≡ frameOf figures hours ⌝ }
+{
+    let width = geometry::layer_cells(figures);
+    Frame {
+        figures,
+        width,
+        hours,
+    }
+}
+
+// A plan up to the layer that stands at a place of the scratch.
+fn plan_in(
+    cells: &mut [i64],
+    work: usize,
+    room: usize,
+    g: Frame,
+    prices: &[i64],
+    l: Leg,
+    schedule: &mut [u64],
+) -> Reached
+    requires { ⌜ (LegAsked g (drop work (now cells)) (now prices) room l (length (now schedule))) × (work ≤ length (now cells)) ⌝ }
+    ensures { λ r. ⌜ RunsTo g (now (prices .entry)) l (drop work (now (cells .entry))) (now (schedule .entry)) (now (schedule .exit)) r ⌝ }
+    ensures { λ _. ⌜ Apart (now (cells .entry)) (now (cells .exit)) work room ⌝ }
+{
+    ahead::plan_to(&mut cells[work..], room, g, prices, l, schedule)
+}
+
+// Month k from a cell of the year: where it leads, and how many outputs were tried.
+fn plan_month(
+    cells: &mut [i64],
+    y: Year,
+    prices: &[i64],
+    cuts: &[usize],
+    k: usize,
+    at: Cell,
+    schedule: &mut [u64],
+) -> Reached
+    requires { ⌜ MonthPlanAsked y (now cells) (now prices) (now cuts) k at (length (now schedule)) ⌝ }
+    ensures { λ r. ⌜ MonthPlanned y (now (prices .entry)) (now (cuts .entry)) k at (now (schedule .entry)) (now (schedule .exit)) r ⌝ }
+    ensures { λ _. ⌜ Apart (now (cells .entry)) (now (cells .exit)) (y .work) (y .room) ⌝ }
+{
+    let m = annual::month_at(y, cuts, k);
+    let cap = m.cap;
+    let f = y.figures;
+    let hours = y.hours;
+    let work = y.work;
+    let above = boxes::over_of(cap, at);
+    let after = annual::place_of(y, k + 1);
+    boxes::enter(&mut *cells, f, cap, above, after, work);
+    let g = frame_of(boxes::with_most(f, cap), hours);
+    let cell = boxes::box_of(cap, at);
+    let leg = Leg {
+        from: m.from,
+        to: m.to,
+        cell,
+    };
+    let end = plan_in(cells, work, y.room, g, prices, leg, schedule);
+    let c = end.cell;
+    let cell = boxes::raised(f, above, c);
+    Reached {
+        cell,
+        tries: end.tries,
+    }
+}
