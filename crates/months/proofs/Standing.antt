@@ -78,6 +78,12 @@ module _ (y : Year) (cells : ℕ) (prices : List ℤ) (cuts : List ℕ) (asked :
         put-apart was (placeOf y end) (width f) (pos 0) place-inside j
         (inr (omega (arith, out, place-fits y cells prices cuts asked end (omega (arith, asked .months .some)), asked .wide)))
 
+  -- work behind the layers leaves them as they are
+  pub unworked : (was now : List ℤ) → Apart was now (y .work) (y .room) → (k : ℕ) → k < length cuts → Stands y prices cuts was k → Stands y prices cuts now k
+  unworked was now same k h stood worth worths =
+      stays f _ (worth k) was now (placeOf y k) (λ j low high. same j (inl (omega (arith, high, place-fits y cells prices cuts asked k h, asked .wide))))
+      (stood worth worths)
+
 -- ---- one month earlier
 
 module _ (y : Year) (was prices : List ℤ) (cuts : List ℕ) (k : ℕ) (e : Earlier y was prices cuts k) where

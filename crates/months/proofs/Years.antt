@@ -3,20 +3,15 @@ use mathlib.Core.Path.{_≡_, ap}
 use mathlib.Core.List.{List, _∷_}
 use lib.ListN.{take, drop}
 use Rattle.commitment.specs.declared.Generator.{Generator}
-use Rattle.commitment.specs.declared.Limits.{Limits}
 use Rattle.commitment.specs.Months as commitment
 use Rattle.optimality.specs.declared.Budgets.{Budgets}
 use Rattle.optimality.specs.declared.Cell.{Cell}
 use Rattle.optimality.specs.declared.Figures.{Figures}
 use Rattle.optimality.specs.Machine.{Quarter}
-use Rattle.optimality.specs.Cells.{Within, InTable, less, valueAt}
-use Rattle.optimality.specs.Years.{cappedBy, raised, yearValue}
-use Rattle.months.specs.Capping.{smaller}
+use Rattle.optimality.specs.Cells.{InTable, less, valueAt}
+use Rattle.optimality.specs.Years.{raised, yearValue}
 use Rattle.months.specs.Chaining.{valueBefore}
-
--- a cap in counts comes to what the month's figures allow
-abbrev pub CapOf : Generator → Figures → Limits → Budgets → Type 0
-CapOf g f limits cap = (left : Budgets) → Within left (f .most) → cappedBy g limits left ≡ smaller left cap
+use Rattle.months.specs.Planning.{CapOf}
 
 pub month-value : (g : Generator) (f : Figures) (m : commitment.Month) (ms : List commitment.Month) (qs : List Quarter) (cap : Budgets)
     → CapOf g f (m .limits) cap → (z : Cell) → InTable f z

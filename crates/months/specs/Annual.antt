@@ -5,7 +5,7 @@ use mathlib.Core.List.{List}
 use mathlib.Core.Logic.{_⊎_}
 use Prim.Native.Nat.{ℕ, _+_, _-_, _*_, _%_, _≤_, _<_}
 use lib.Dec.{eqb}
-use lib.IntN.{ℤ, pos}
+use lib.IntN.{ℤ}
 use lib.ListN.{length, getD}
 use Rattle.commitment.specs.declared.BestProfit.{BestProfit}
 use Rattle.commitment.specs.declared.windows.Hours.{Hours}
@@ -20,6 +20,7 @@ use Rattle.optimality.specs.Cells.{Sound, Within, InTable, withMost}
 use Rattle.geometry.specs.Geometry.{width}
 use Rattle.geometry.specs.Layers.{LayerAt, storedAt}
 use Rattle.layers.specs.Filling.{quartersIn, between}
+use Rattle.halving.specs.Tasks.{Untouched}
 use Rattle.months.specs.declared.annual.Caps.{Caps}
 use Rattle.months.specs.declared.annual.Year.{Year}
 use Rattle.months.specs.declared.chains.Month.{Month}
@@ -105,4 +106,4 @@ pub record Earlier (y : Year) (cells prices : List ℤ) (cuts : List ℕ) (k : �
 -- back to a month: its layer stands, and those behind it that still have their places
 pub record Chained (y : Year) (prices : List ℤ) (cuts : List ℕ) (first : ℕ) (was now : List ℤ) : Type 0 where
   pub stands : (k : ℕ) → first ≤ k → k < length cuts → (y .all ≡ true) ⊎ (k ≤ first + 1) → Stands y prices cuts now k
-  pub beyond : (j : ℕ) → y .work + y .room ≤ j → getD now j (pos 0) ≡ getD was j (pos 0)
+  pub beyond : Untouched (y .work + y .room) was now
