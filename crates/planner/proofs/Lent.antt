@@ -4,6 +4,7 @@ use mathlib.Core.Bool.{Bool, true, false, cond, false≢true}
 use mathlib.Core.List.{List, [], _∷_, _++_}
 use Prim.Native.Nat.{ℕ, zero, suc, _+_, _*_, _≤_, _<_}
 use native.Mathlib.Omega.{arith}
+use lib.Dec.{leb}
 use lib.IntN.{ℤ, pos}
 use lib.ListN.{length, drop, replicate}
 use Rattle.commitment.specs.declared.Cause.the-variants.{Length, Scratch}
@@ -157,12 +158,12 @@ module _ (u : UnitRecord) (prices : List ℤ) (lent : ℕ) (m : Model) (of : Mod
         -- a long table no larger than two layers would be met as well
         no-larger : (n : ℕ) → cellsLong u n ≤ cellsNeeded u n → (cellsNeeded u n ≤ mostCells) × (cellsNeeded u n ≤ lent)
             → met (cellsLong u n) lent ≡ false → ⊥
-        no-larger n less fits no = false≢true (sym no ∙ met-so (cellsLong u n) lent (omega (arith, fits .0)) (omega (arith, fits .1)))
+        no-larger n less fits unmet = false≢true (sym unmet ∙ met-so (cellsLong u n) lent (omega (arith, fits .0)) (omega (arith, fits .1)))
 
         by : (n : ℕ) → (cellsNeeded u n ≤ mostCells) × (cellsNeeded u n ≤ lent) → met (cellsLong u n) lent ≡ false → 2 ≤ n
-        by zero fits no = absurd (no-larger 0 (omega arith) fits no)
-        by (suc zero) fits no = absurd (no-larger 1 (omega arith) fits no)
-        by (suc (suc n)) fits no = omega arith
+        by zero fits unmet = absurd (no-larger 0 (omega arith) fits unmet)
+        by (suc zero) fits unmet = absurd (no-larger 1 (omega arith) fits unmet)
+        by (suc (suc n)) fits unmet = omega arith
 
   pub used-fits : cellsUsed u (length prices) lent ≤ lent
   used-fits = by (m .long) refl

@@ -7,6 +7,7 @@ use Rattle.commitment.specs.Cells.{cellsLong, met}
 use Rattle.commitment.proofs.Cells.{met-given}
 use Rattle.commitment.proofs.Passing.{prices-small}
 use Rattle.planner.proofs.Lent.{Lent, lent, lent-sound, permitted}
+use borrow.Author.Needs.{needs}
 use Rattle.planner.proofs.models.model_of.Statement.{statement}
 use Rattle.planner.proofs.models.model_of.Tie as tie
 
