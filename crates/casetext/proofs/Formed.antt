@@ -52,7 +52,7 @@ formed-is text e =
 -- ---- a price has a line of its own, which is not empty: with its end it takes two bytes
 
 -- the bytes of lines, each with its end
-total : List (List ℕ) → ℕ
+abbrev total : List (List ℕ) → ℕ
 total [] = 0
 total (line ∷ lines) = suc (length line) + total lines
 
