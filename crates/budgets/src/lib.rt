@@ -11,12 +11,15 @@ ghost use mathlib.Core.Path.{_≡_};
 ghost use mathlib.Core.Bool.{true};
 ghost use Prim.Native.Nat.{_+_, _*_, _≤_};
 ghost use Rattle.commitment.specs.Bounds.{mostMwh, mostIntervals};
-ghost use Rattle.commitment.specs.Cells.{inCounts, mostCounts, layerCells, cellsNeeded, cellsLong};
+ghost use Rattle.commitment.specs.Cells.{inCounts, mostCounts, layerCells, cellsNeeded, cellsLong, cellsGiven};
 ghost use Rattle.commitment.specs.Cells as cells;
 ghost use Rattle.commitment.specs.Limits.{limitKept};
 ghost use Rattle.commitment.specs.Ranges.{generatorKept, rangesKept, InOrder};
 ghost use Rattle.commitment.specs.Valuing as valuing;
 ghost use Rattle.optimality.specs.Cells.{takenOf, countsOf, figuresOf, openingState, openingCell};
+
+// The most cells that a need can have; one above it is not met. specs/Bounds.antt of `commitment` has the same.
+const MOST_CELLS: usize = 1000000000000000000;
 
 // The figures of a case of n intervals, with the most that a cell can have left of each limitation.
 pub fn figures_of(unit: UnitRecord, n: usize) -> Figures
@@ -147,18 +150,18 @@ pub fn lowered(figure: u64) -> u64
     9 * figure / 10
 }
 
-// The cells of scratch that a case of n intervals needs: two layers.
+// The cells of scratch that a case of n intervals needs: two layers. A need above 10^18 is given as the largest number.
 pub fn cells_needed(unit: UnitRecord, n: usize) -> usize
     requires { ⌜ InOrder unit n ⌝ }
-    ensures { λ r. ⌜ r ≡ cellsNeeded unit n ⌝ }
+    ensures { λ r. ⌜ r ≡ cellsGiven (cellsNeeded unit n) ⌝ }
 {
     cells_over(unit, n, 1)
 }
 
-// The cells of its long table.
+// The cells of its long table, likewise.
 pub fn cells_long(unit: UnitRecord, n: usize) -> usize
     requires { ⌜ InOrder unit n ⌝ }
-    ensures { λ r. ⌜ r ≡ cellsLong unit n ⌝ }
+    ensures { λ r. ⌜ r ≡ cellsGiven (cellsLong unit n) ⌝ }
 {
     cells_over(unit, n, n)
 }
@@ -166,7 +169,15 @@ pub fn cells_long(unit: UnitRecord, n: usize) -> usize
 // The layers of a case of n intervals, for so many of them.
 fn cells_over(unit: UnitRecord, n: usize, intervals: usize) -> usize
     requires { ⌜ (InOrder unit n) × (intervals ≤ mostIntervals) ⌝ }
-    ensures { λ r. ⌜ r ≡ (intervals + 1) * layerCells unit n ⌝ }
+    ensures { λ r. ⌜ r ≡ cellsGiven ((intervals + 1) * layerCells unit n) ⌝ }
 {
-    geometry::table_cells(figures_of(unit, n), intervals)
+    let layer = geometry::layer_cells(figures_of(unit, n));
+    integers::capped_product(MOST_CELLS, layer, intervals + 1)
+}
+
+// Whether so many cells serve a need, as the two calls above give it.
+pub fn met(need: usize, lent: usize) -> bool
+    ensures { λ r. ⌜ r ≡ cells.met need lent ⌝ }
+{
+    (need <= MOST_CELLS) & (need <= lent)
 }

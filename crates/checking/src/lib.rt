@@ -44,17 +44,17 @@ const MOST_MLC: u64 = 1000000000;
 
 const MOST_SUC: u64 = 4000000000;
 
-const MOST_STARTS: u64 = 2976;
+const MOST_STARTS: u64 = 35136;
 
-const MOST_HOURS: u64 = 744;
+const MOST_HOURS: u64 = 8784;
 
-const MOST_MWH: u64 = 372000;
+const MOST_MWH: u64 = 4392000;
 
 const LEAST_PRICE: i64 = -200000;
 
 const MOST_PRICE: i64 = 200000;
 
-const MOST_INTERVALS: usize = 2976;
+const MOST_INTERVALS: usize = 35136;
 
 // The first cause for which a case of so many intervals cannot be worked on, whatever call it is for: 3, 4, 12 or 5. The prices are judged by whoever
 // has them, in a slice or in a text. Each test is a function with the rest behind it.

@@ -1,13 +1,15 @@
 -- The cells of scratch that a case of n intervals needs, and those that it uses (specification 14).
-use mathlib.Core.Bool.{cond}
+use mathlib.Core.Bool.{Bool, cond, _&&_}
 use Prim.Native.Nat.{ℕ, _+_, _*_, _/_, min}
 use lib.Dec.{leb}
+use Rattle.integers.specs.Capped.{capped}
 use Rattle.commitment.specs.declared.Limit.{Limit}
 use Rattle.commitment.specs.declared.Limit.the-variants.{None, At}
 use Rattle.commitment.specs.declared.Limitation.{Limitation}
 use Rattle.commitment.specs.declared.Limitation.the-variants.{Starts, Hours, Mwh}
 use Rattle.commitment.specs.declared.Generator.{Generator}
 use Rattle.commitment.specs.declared.UnitRecord.{UnitRecord}
+use Rattle.commitment.specs.Bounds.{mostCells}
 use Rattle.commitment.specs.Limits.{limitFor}
 
 -- a is the smaller of starts and n, b of 4 × hours and n, c of 4 × mwh / block rounded down and n × pmax; each is 0 where `none`
@@ -44,6 +46,14 @@ cellsNeeded u n = 2 * layerCells u n
 abbrev pub cellsLong : UnitRecord → ℕ → ℕ
 cellsLong u n = (n + 1) * layerCells u n
 
--- of a scratch of so many cells the long table is used where it fits, else two layers
+-- whether so many cells serve a need; one above 10^18 counts as not met
+unfoldable pub met : ℕ → ℕ → Bool
+met need lent = leb need mostCells && leb need lent
+
+-- of a scratch of so many cells the long table is used where its need is met, else two layers
 abbrev pub cellsUsed : UnitRecord → ℕ → ℕ → ℕ
-cellsUsed u n lent = cond (leb (cellsLong u n) lent) (cellsLong u n) (cellsNeeded u n)
+cellsUsed u n lent = cond (met (cellsLong u n) lent) (cellsLong u n) (cellsNeeded u n)
+
+-- a size as a call gives it: above 10^18 it is the largest number
+abbrev pub cellsGiven : ℕ → ℕ
+cellsGiven size = capped mostCells size

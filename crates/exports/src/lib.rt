@@ -23,7 +23,7 @@ use numbers::WrittenNumbers;
 ghost use mathlib.Core.Path.{_≡_};
 ghost use lib.ListN.{length};
 ghost use mathlib.Core.Bool.{true};
-ghost use Rattle.commitment.specs.Cells.{cellsNeeded, cellsLong};
+ghost use Rattle.commitment.specs.Cells.{cellsNeeded, cellsLong, cellsGiven};
 ghost use Rattle.calendar.specs.Dates.{date};
 ghost use Rattle.commitment.specs.Ranges.{caseChecked};
 ghost use Rattle.checking.specs.Clock.{clockHour, clockChecked, hoursLeft};
@@ -90,11 +90,13 @@ pub extern "C" fn ralwinga_assess(
     numbers::of_assessment(assessment::assess(numbers::record_of(unit), prices, schedule))
 }
 
-// The cells of two layers, which a case of so many intervals needs, and of its long table; or 3, 4, 12 or 5. Its prices are not judged.
+// The cells of two layers, which a case of so many intervals needs, and of its long table, each the largest number where it is above 10^18; or 3, 4, 12
+// or 5. Its prices are not judged.
 #[no_mangle]
 pub extern "C" fn ralwinga_cells(unit: UnitNumbers, intervals: usize) -> CellsNumbers
     ensures { λ r. ⌜ r
-        ≡ cellsNumbers (caseChecked (recordOf unit) true intervals) (cellsNeeded (recordOf unit) intervals) (cellsLong (recordOf unit) intervals) ⌝ }
+        ≡ cellsNumbers (caseChecked (recordOf unit) true intervals) (cellsGiven (cellsNeeded (recordOf unit) intervals))
+        (cellsGiven (cellsLong (recordOf unit) intervals)) ⌝ }
 {
     let record = numbers::record_of(unit);
     match checking::check_case(record, true, intervals) {

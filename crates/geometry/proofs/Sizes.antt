@@ -38,7 +38,3 @@ module _ (f : Figures) (ok : Sound f) where
   pub width-most : width f ≤ mostWidth
   unfolding width
   width-most = product (states f) (section f) (mostTime + mostTime) mostSection (omega (arith, ok .mot-most, ok .mdt-most)) section-most
-
-  -- over all layers of a table
-  pub table-most : (n : ℕ) → n ≤ mostIntervals → (n + 1) * width f ≤ (mostIntervals + 1) * mostWidth
-  table-most n h = product (n + 1) (width f) (mostIntervals + 1) mostWidth (omega arith) width-most

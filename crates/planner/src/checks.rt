@@ -27,7 +27,7 @@ pub fn check_slices(unit: UnitRecord, n: usize, long: bool, scratch: usize) -> C
     if !long {
         return Checked::Refused(Cause::Length);
     }
-    if scratch < budgets::cells_needed(unit, n) {
+    if !budgets::met(budgets::cells_needed(unit, n), scratch) {
         return Checked::Refused(Cause::Scratch);
     }
     Checked::Passed

@@ -23,7 +23,7 @@ use Rattle.commitment.specs.declared.Outcomes.{Outcomes}
 use Rattle.commitment.specs.declared.UnitRecord.{UnitRecord}
 use Rattle.commitment.specs.Best.{Plan, nothing, plan, best}
 use Rattle.commitment.specs.Causes.{Check, _else_, unless, firstOf}
-use Rattle.commitment.specs.Cells.{cellsNeeded}
+use Rattle.commitment.specs.Cells.{cellsNeeded, met}
 use Rattle.costs.specs.Figures.{totalMw}
 use Rattle.commitment.specs.Keeping.{keepsCase}
 use Rattle.commitment.specs.Profit.{profit}
@@ -60,7 +60,7 @@ use Rattle.answers.specs.Sizes.{cellRoom}
 use Rattle.promises.specs.Causes.{Reason, _when_, FirstOf, NoneOf, caseCauses, textCauses, readingCauses, costCauses, handedCauses, handInCauses}
 use Rattle.promises.specs.Causes.{NoRival, tableCauses, slicesCauses, planningCauses, valuingCauses, answeringCauses, clockCauses}
 use Rattle.promises.specs.Causes.{WordTooLarge, listingCauses, lineCauses}
-use Rattle.promises.proofs.Ranges.{unless-so, at-most, as-many, case-range, cost-range, clock-range, misshapen, no-such-day, no-such-date, horizon}
+use Rattle.promises.proofs.Ranges.{unless-so, at-most, as-many, case-range, cost-range, clock-range, misshapen, no-such-day, no-such-date, horizon, not-met}
 use Rattle.promises.proofs.FirstCause.{Judged, refused-first, passed-none, Answers, answer-refused, answer-given}
 
 -- ---- the checks of a case, and of a text, before those of a call, which may rest on what the case kept
@@ -169,10 +169,10 @@ module _ (u : UnitRecord) (prices : List ℤ) where
 
   -- 8 and 9
   abbrev tableChecks : ℕ → List Check
-  tableChecks cells = (leb (cellsNeeded u (length prices)) cells else Scratch) ∷ scheduleChecks u prices
+  tableChecks cells = (met (cellsNeeded u (length prices)) cells else Scratch) ∷ scheduleChecks u prices
 
   table-judged : (cells : ℕ) → CaseKept u prices (Judged (tableChecks cells) (tableCauses u prices cells))
-  table-judged cells ranges shape = (refl, at-most (cellsNeeded u (length prices)) cells, λ _. (refl, no-rival ranges shape, λ _. tt))
+  table-judged cells ranges shape = (refl, not-met (cellsNeeded u (length prices)) cells, λ _. (refl, no-rival ranges shape, λ _. tt))
 
   -- a list of checks that ends with the schedule's passes where there is a plan
   found : (checks : List Check) → firstOf (checks ++ scheduleChecks u prices) ≡ Passed → best u prices ≡ nothing → ⊥
@@ -284,7 +284,7 @@ module _ (text : List ℕ) where
   unfolding allFound
   answer-found passed none =
       found (unitIn text) (pricesIn text)
-      (writtenChecks text ++ ((leb (cellsNeeded (unitIn text) (length (pricesIn text))) cellRoom else Scratch) ∷ [])) passed none
+      (writtenChecks text ++ ((met (cellsNeeded (unitIn text) (length (pricesIn text))) cellRoom else Scratch) ∷ [])) passed none
 
   pub answering-refused : {cause : Cause} → (reportOn text ≡ reports.Refused cause) ↔ FirstOf (answeringCauses text) cause
   unfolding allFound

@@ -22,6 +22,7 @@ use Rattle.commitment.specs.declared.Limit.the-variants.{None, At}
 use Rattle.commitment.specs.declared.Permit.{Permit}
 use Rattle.commitment.specs.declared.Permit.the-variants.{AnyHour, Within}
 use Rattle.commitment.specs.declared.UnitRecord.{UnitRecord}
+use Rattle.commitment.specs.Cells.{met}
 use Rattle.commitment.specs.Limits.{limitKept}
 use Rattle.commitment.specs.Ranges.{rangesKept, permitKept, dateRanged, dateKept, priceKept, pricesKept, horizonKept}
 use Rattle.commitment.proofs.Passing.{prices-small}
@@ -29,7 +30,7 @@ use Rattle.costs.specs.Ranges.{oneTo, inputsKept, segmentsKept}
 use Rattle.curves.specs.declared.CurveInputs.{CurveInputs}
 use Rattle.curves.specs.Ranges.{pointsKept, risingFrom, rising}
 use Rattle.curves.specs.Ranges as curves
-use Rattle.promises.specs.Causes.{Misshapen, NoSuchDay, NoSuchDate, NotRising}
+use Rattle.promises.specs.Causes.{Misshapen, NoSuchDay, NoSuchDate, NotMet, NotRising}
 use Rattle.promises.specs.Ranges.{Figure, InRange, PricesInRange, limitFigure, permitFigures, caseFigures, costRanges, curveRanges, clockRanges}
 use Rattle.promises.specs.Ranges as ranges
 
@@ -105,9 +106,9 @@ each-in most (x ∷ xs) = simp (each-in most xs, and-assoc)
 case-in : (u : UnitRecord) → rangesKept u ≡ inRange (caseFigures u)
 unfolding rangesKept
 case-in u =
-    let starts = limitFigure 2976 (u .limits .starts) in
-    let hours = limitFigure 744 (u .limits .hours) in
-    let mwh = limitFigure 372000 (u .limits .mwh) in
+    let starts = limitFigure 35136 (u .limits .starts) in
+    let hours = limitFigure 8784 (u .limits .hours) in
+    let mwh = limitFigure 4392000 (u .limits .mwh) in
     let permit = permitFigures (u .permit) in
     simp (
       in-append starts (hours ++ (mwh ++ permit)),
@@ -115,9 +116,9 @@ case-in u =
       in-append mwh permit,
       from-zero,
       and-assoc,
-      limit-in 2976 (u .limits .starts),
-      limit-in 744 (u .limits .hours),
-      limit-in 372000 (u .limits .mwh),
+      limit-in 35136 (u .limits .starts),
+      limit-in 8784 (u .limits .hours),
+      limit-in 4392000 (u .limits .mwh),
       permit-in (u .permit),
     )
 
@@ -188,8 +189,12 @@ pub no-such-date : (p : Permit) → (dateKept p ≡ false) ↔ NoSuchDate p
 no-such-date AnyHour = (λ e. absurd (false≢true (sym e)), λ no. absurd no)
 no-such-date (Within w) = no-such-day (w .date)
 
-pub horizon : (n : ℕ) → (horizonKept n ≡ false) ↔ ((n ≡ 0) ⊎ (2976 < n))
-horizon n = either (leb 1 n) (leb n 2976) (λ e. let less = leb-false 1 n e in omega arith, λ e. lt-leb 1 n (omega arith)) (at-most n 2976)
+pub horizon : (n : ℕ) → (horizonKept n ≡ false) ↔ ((n ≡ 0) ⊎ (35136 < n))
+horizon n = either (leb 1 n) (leb n 35136) (λ e. let less = leb-false 1 n e in omega arith, λ e. lt-leb 1 n (omega arith)) (at-most n 35136)
+
+pub not-met : (need cells : ℕ) → (met need cells ≡ false) ↔ NotMet need cells
+unfolding met
+not-met need cells = either (leb need 1000000000000000000) (leb need cells) (at-most need 1000000000000000000) (at-most need cells)
 
 pub not-rising : (levels : List ℕ) → (rising levels ≡ false) ↔ NotRising levels
 not-rising [] = (λ e. absurd (false≢true (sym e)), λ w. absurd (omega (arith, w .1)))

@@ -64,7 +64,7 @@ caseCauses u prices =
     (Range when (InRange (caseFigures u) × PricesInRange prices → ⊥))
     ∷ (Shape when Misshapen (u .generator .block) (u .generator .pmin) (u .generator .pmax))
     ∷ (Date when NoSuchDate (u .permit))
-    ∷ (Horizon when ((length prices ≡ 0) ⊎ (2976 < length prices)))
+    ∷ (Horizon when ((length prices ≡ 0) ⊎ (35136 < length prices)))
     ∷ []
 
 -- ---- reading a text into a slice with room for so many prices
@@ -99,8 +99,12 @@ handInCauses u prices s = caseCauses u prices ++ handedCauses u prices s
 abbrev pub NoRival : UnitRecord → List ℤ → Type 0
 NoRival u prices = (rival : List ℕ) → Rival u prices rival → ⊥
 
+-- a need above 10^18 is not met by any cells
+abbrev pub NotMet : ℕ → ℕ → Type 0
+NotMet need cells = (1000000000000000000 < need) ⊎ (cells < need)
+
 abbrev pub tableCauses : UnitRecord → List ℤ → ℕ → List Reason
-tableCauses u prices cells = (Scratch when cells < cellsNeeded u (length prices)) ∷ (NoSchedule when NoRival u prices) ∷ []
+tableCauses u prices cells = (Scratch when NotMet (cellsNeeded u (length prices)) cells) ∷ (NoSchedule when NoRival u prices) ∷ []
 
 abbrev pub slicesCauses : UnitRecord → List ℤ → ℕ → ℕ → List Reason
 slicesCauses u prices cells entries = (Length when entries < length prices) ∷ tableCauses u prices cells

@@ -90,9 +90,9 @@ caseEnds =
     ∷ ends 7 plain (2000000 at 7 of plain)
     ∷ ends 8 plain (1000000000 at 8 of plain)
     ∷ ends 9 plain (4000000000 at 9 of plain)
-    ∷ ends 10 plain (2976 at 10 of plain)
-    ∷ ends 11 plain (744 at 11 of plain)
-    ∷ ends 12 plain (372000 at 12 of plain)
+    ∷ ends 10 plain (35136 at 10 of plain)
+    ∷ ends 11 plain (8784 at 11 of plain)
+    ∷ ends 12 plain (4392000 at 12 of plain)
     ∷ ends 13 (2007 at 13 of plain) (2099 at 13 of plain)
     ∷ ends 14 plain (12 at 14 of plain)
     ∷ ends 15 (1 at 15 of plain) plain
@@ -223,7 +223,7 @@ clockEnds =
     ends 0 (2007 at 0 of january) (2099 at 0 of january)
     ∷ ends 1 january (12 at 1 of january)
     ∷ ends 2 (1 at 2 of january) january
-    ∷ ends 3 january (2976 at 3 of january)
+    ∷ ends 3 january (35136 at 3 of january)
     ∷ []
 
 -- ---- the word of a listing

@@ -52,8 +52,8 @@ caseFigures u =
     ∷ (0 to 2000000 is u .costs .vec)
     ∷ (0 to 1000000000 is u .costs .mlc)
     ∷ (0 to 4000000000 is u .costs .suc)
-    ∷ (limitFigure 2976 (u .limits .starts)
-    ++ (limitFigure 744 (u .limits .hours) ++ (limitFigure 372000 (u .limits .mwh) ++ permitFigures (u .permit))))
+    ∷ (limitFigure 35136 (u .limits .starts)
+    ++ (limitFigure 8784 (u .limits .hours) ++ (limitFigure 4392000 (u .limits .mwh) ++ permitFigures (u .permit))))
 
 -- prices from −200,000 to 200,000
 abbrev pub PricesInRange : List ℤ → Type 0
@@ -99,4 +99,4 @@ curveRanges k levels rates =
 -- ---- the clock hour of an interval
 
 abbrev pub clockRanges : Date → ℕ → List Figure
-clockRanges d interval = dateFigures d ++ (1 to 2976 is interval) ∷ []
+clockRanges d interval = dateFigures d ++ (1 to 35136 is interval) ∷ []

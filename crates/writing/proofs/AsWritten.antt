@@ -24,7 +24,7 @@ use Rattle.tabletext.specs.declared.Class.the-variants.{Comma}
 use Rattle.tabletext.specs.declared.Value.{Value}
 use Rattle.tabletext.specs.declared.Value.the-variants.{Malformed, WordNone, Number}
 use Rattle.tabletext.specs.Bytes.{isOf, same}
-use Rattle.tabletext.specs.Pieces.{onto, linesOf, lastClosed, fieldsOf}
+use Rattle.tabletext.specs.Pieces.{onto, linesOf, fieldsOf}
 use Rattle.tabletext.specs.Tables.{nameLine, valueLine, occurs, standing, known, named, under}
 use Rattle.tabletext.specs.Values.{valueOf, isValue}
 use Rattle.tabletext.proofs.Alike.{same-eq}
@@ -33,7 +33,8 @@ use Rattle.casefile.specs.Answers.{readCase, readPrices}
 use Rattle.casetext.specs.Names.{blockName, pminName, pmaxName, motName, mdtName, wasName, heldName, vecName, mlcName, sucName}
 use Rattle.casetext.specs.Names.{startsName, hoursName, mwhName, yearName, monthName, dayName, windowName}
 use Rattle.casetext.specs.Names.{priceName, unitNames, unitGroups, priceNames}
-use Rattle.casetext.specs.Form.{mostBytes, unitHead, unitRow, emptyLine, priceHead, priceRows, isEmpty, tableFormed, formKept, namesKept}
+use Rattle.casetext.specs.Form.{unitHead, unitRow, priceHead, priceRows, formKept, namesKept}
+use Rattle.casetext.proofs.Formed.{Formed, formed-is}
 use Rattle.casefile.specs.Reading.{beyond, wholeOf, limitOf, centsOf, windowOf, permitOf, unitIn, priceOf, pricesIn, textChecked}
 use Rattle.casefile.proofs.Checking.{text-passed, read-case, answer-read}
 use Rattle.writing.specs.AsWritten.{StandsUnder, limitValue, StandsNowhere, PermitWritten, AsWritten}
@@ -82,40 +83,7 @@ one-field (b ∷ bs) h = go (isOf Comma b) refl (fieldsOf bs) (some-field bs) (o
     go false e [] some below h = absurd (omega arith)
     go false e (f ∷ fs) some below h = let k : suc (length fs) ≡ 1 = rw e at h in rw e (ap (onto b) (below k))
 
--- ---- the form and the names of a text that is not refused
-
-pub record Formed (text : List ℕ) : Type 0 where
-  pub short : length text ≤ mostBytes
-  pub closed : lastClosed text ≡ true
-  pub four : 4 ≤ length (linesOf text)
-  pub third-empty : emptyLine text ≡ []
-  pub unit-table : tableFormed (unitHead text) (unitRow text ∷ []) ≡ true
-  pub price-table : tableFormed (priceHead text) (priceRows text) ≡ true
-
-empty-is : (s : List ℕ) → isEmpty s ≡ true → s ≡ []
-empty-is [] e = refl
-empty-is (b ∷ bs) e = let z : _≡_ {A = Bool} false true = e in let n : _≡_ {A = ℕ} 0 1 = cc in absurd (omega arith)
-
-pub formed-is : (text : List ℕ) → formKept text ≡ true → Formed text
-unfolding formKept
-formed-is text e =
-    let start = leb (length text) mostBytes && lastClosed text in
-    let four = leb 4 (length (linesOf text)) in
-    let third = isEmpty (emptyLine text) in
-    let unit = tableFormed (unitHead text) (unitRow text ∷ []) in
-    let p = both (start && four && third && unit) (tableFormed (priceHead text) (priceRows text)) e in
-    let u = both (start && four && third) unit (p .0) in
-    let g = both (start && four) third (u .0) in
-    let f = both start four (g .0) in
-    let s = both (leb (length text) mostBytes) (lastClosed text) (f .0) in
-    record {
-      short = leb-true (length text) mostBytes (s .0);
-      closed = s .1;
-      four = leb-true 4 (length (linesOf text)) (f .1);
-      third-empty = empty-is (emptyLine text) (g .1);
-      unit-table = u .1;
-      price-table = p .1;
-    }
+-- ---- the lines and the names of a text that is not refused
 
 pub lines-are : (ls : List (List ℕ)) → 4 ≤ length ls → ls ≡ getD ls 0 [] ∷ getD ls 1 [] ∷ getD ls 2 [] ∷ getD ls 3 [] ∷ drop 4 ls
 lines-are [] h = absurd (omega arith)

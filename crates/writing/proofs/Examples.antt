@@ -159,10 +159,10 @@ texts =
     ∷ (closing (names ∷ bytes "500,1,2,2,2,0,2,3000,30000,5000,2,2,none" ∷ [] ∷ head ∷ prices))
     -- 5: no price
     ∷ (closing (names ∷ values ∷ [] ∷ head ∷ []))
-    -- 5: 2,977 prices
-    ∷ (closing (names ∷ values ∷ [] ∷ head ∷ replicate 2977 (bytes "0")))
-    -- 3: a price out of range beyond the 2,976th
-    ∷ (closing (names ∷ values ∷ [] ∷ head ∷ (replicate 2976 (bytes "0") ++ bytes "200001" ∷ [])))
+    -- 0: as many prices as a text can hold, and more than a month has
+    ∷ (closing (names ∷ values ∷ [] ∷ head ∷ replicate 6089 (bytes "0")))
+    -- 3: a price out of range behind as many
+    ∷ (closing (names ∷ values ∷ [] ∷ head ∷ (replicate 6000 (bytes "0") ++ bytes "200001" ∷ [])))
     -- 0: a date and its word
     ∷ (closing (dated ∷ valuesAnd "2026,3,8,16776960" ∷ [] ∷ head ∷ prices))
     -- 2: a date without its word
@@ -186,7 +186,7 @@ texts =
 
 pub numbers : map (λ text. checkedNumber (textChecked text 6144)) texts
     ≡ 0 ∷ 0 ∷ 1 ∷ 1 ∷ 1 ∷ 1 ∷ 1 ∷ 1 ∷ 1 ∷ 1 ∷ 1 ∷ 1 ∷ 1 ∷ 1 ∷ 1 ∷ 1 ∷ 1 ∷ 1 ∷ 1 ∷ 1 ∷ 1 ∷ 1 ∷ 1 ∷ 1
-    ∷ 2 ∷ 2 ∷ 2 ∷ 2 ∷ 2 ∷ 2 ∷ 3 ∷ 3 ∷ 3 ∷ 3 ∷ 3 ∷ 3 ∷ 4 ∷ 4 ∷ 5 ∷ 5 ∷ 3 ∷ 0 ∷ 2 ∷ 2 ∷ 2 ∷ 3 ∷ 3 ∷ 3
+    ∷ 2 ∷ 2 ∷ 2 ∷ 2 ∷ 2 ∷ 2 ∷ 3 ∷ 3 ∷ 3 ∷ 3 ∷ 3 ∷ 3 ∷ 4 ∷ 4 ∷ 5 ∷ 0 ∷ 3 ∷ 0 ∷ 2 ∷ 2 ∷ 2 ∷ 3 ∷ 3 ∷ 3
     ∷ 12 ∷ 12 ∷ 4 ∷ []
 unfolding isOf isName numeral valueOf isValue rangesKept pricesKept formKept namesKept unitIn pricesIn textChecked
 numbers = refl

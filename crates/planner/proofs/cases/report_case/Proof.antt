@@ -3,7 +3,7 @@ use mathlib.Core.Path.{_≡_, _∙_}
 use native.Mathlib.Omega.{arith}
 use lib.ListN.{length}
 use Rattle.commitment.specs.Cells.{cellsUsed}
-use Rattle.planner.proofs.Lent.{used-fits, used-is, model-on, cleared}
+use Rattle.planner.proofs.Lent.{used-fits, used-counted, used-is, model-on, cleared}
 use borrow.Author.Needs.{needs}
 use Rattle.planner.proofs.cases.report_case.Statement.{statement}
 use Rattle.planner.proofs.cases.report_case.Tie as tie
@@ -21,6 +21,13 @@ read-report-requires c κs =
       },
       s .pre .1,
     )
+
+cells-used-requires : tie.Need-cells-used-requires
+cells-used-requires c κs =
+    let model = c .before .before .before .before .before .before .before .before .before in
+    let a = model .before .before .args in
+    let of = model .model-of .ensures in
+    (of .order, used-counted (a .unit) (a .prices .now) (length (a .scratch .now)) (model .model-of .result) of)
 
 -- how many cells are used
 used : (c : tie.After-cells-used) →
@@ -61,7 +68,7 @@ report-case-spec =
     (tie.spec
     (λ c κs. search needs) (λ c κs. search needs)
     read-report-requires
-    (λ c κs. search needs)
+    cells-used-requires
     clear-requires
     (λ c. search needs) (λ c. search needs)
     returns)

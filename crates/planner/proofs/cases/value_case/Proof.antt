@@ -3,7 +3,7 @@ use mathlib.Core.Path.{_≡_, _∙_}
 use native.Mathlib.Omega.{arith}
 use lib.ListN.{length}
 use Rattle.commitment.specs.Cells.{cellsUsed}
-use Rattle.planner.proofs.Lent.{used-fits, used-is, model-on, told, cleared}
+use Rattle.planner.proofs.Lent.{used-fits, used-counted, used-is, model-on, told, cleared}
 use borrow.Author.Needs.{needs}
 use Rattle.planner.proofs.cases.value_case.Statement.{statement}
 use Rattle.planner.proofs.cases.value_case.Tie as tie
@@ -16,6 +16,13 @@ read-outcomes-requires c κs =
     let on =
     model-on (a .unit) (a .prices .now) (length (a .scratch .now)) (model .model-of .result) (model .model-of .ensures) (made .first-layer .kept .1 .1 .1 .0) in
     (told (a .unit) (a .prices .now) (model .model-of .result) (made .first-layer .last .1 .1 .1 .0) on (made .first-layer .ensures .0), on .figures)
+
+cells-used-requires : tie.Need-cells-used-requires
+cells-used-requires c κs =
+    let model = c .before .before .before .before .before .before in
+    let a = model .before .args in
+    let of = model .model-of .ensures in
+    (of .order, used-counted (a .unit) (a .prices .now) (length (a .scratch .now)) (model .model-of .result) of)
 
 -- how many cells are used
 used : (c : tie.After-cells-used) →
@@ -51,7 +58,7 @@ value-case-spec =
     (tie.spec
     (λ c κs. search needs) (λ c κs. search needs)
     read-outcomes-requires
-    (λ c κs. search needs)
+    cells-used-requires
     clear-requires
     (λ c. search needs)
     returns)
