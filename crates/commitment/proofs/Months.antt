@@ -89,3 +89,16 @@ module _ (d : Date) (w : Within lastYear d) (n : ℕ) (some : 1 ≤ n) where
           few = omega (arith, months-few d (w .there) (w .since) (n - 1) (omega arith));
           months = λ limits. months-are limits 0 last (omega arith) ∙ ap (monthsBetween limits cuts 0) (sym is);
         }
+
+-- ---- no cut lies behind the last
+
+grown : (at : ℕ → ℕ) (count : ℕ) → ((k : ℕ) → k < count → at k < at (suc k)) → (k j : ℕ) → k ≤ j → j ≤ count → at k ≤ at j
+grown at count grow k zero h few = let e = ap at (let z : k ≡ 0 = omega arith in z) in omega arith
+grown at count grow k (suc j) h few =
+    ⊎-elim (λ (q : k ≡ suc j). let e = ap at q in omega arith)
+    (λ (l : k < suc j). omega (arith, grow j few, grown at count grow k j (omega arith) (omega arith)))
+    (eq-or-lt-of-le h)
+
+pub cut-inside : (d : Date) (n : ℕ) (cuts : Cuts) → CutsOf d n cuts → (k : ℕ) → k ≤ cuts .count → getD (cuts .at) k 0 ≤ n
+cut-inside d n cuts c k h =
+    omega (arith, c .last, grown (λ (j : ℕ). getD (cuts .at) j 0) (cuts .count) (c .grow) k (cuts .count) h (omega arith))
