@@ -1,5 +1,6 @@
-// A schedule handed in: its profit, or why it is refused. One pass over the two slices, and one over the schedule for the permit's hours (mod hours);
-// proofs/ has their laws (Walking, Intervals, Bounds, Shut) and what it says of a schedule that it was passed (Passed).
+// A schedule handed in: its profit, or why it is refused. One pass over the two slices, and one over the schedule for the permit's hours (mod hours); one
+// for the figures of its months (mod months). proofs/ has their laws (Walking, Intervals, Bounds, Shut, Counting) and what it says of a schedule that it
+// was passed (Passed).
 
 mod hours;
 mod months;
