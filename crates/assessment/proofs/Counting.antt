@@ -14,7 +14,7 @@ use Rattle.commitment.specs.Bounds.{mostMw}
 use Rattle.commitment.specs.Keeping.{startsIn, onIntervals, outputSum}
 use Rattle.commitment.specs.Months.{Month, onAfter, keepsIn, keepsMonths}
 use Rattle.commitment.specs.Cuts.{monthsBetween}
-use Rattle.commitment.proofs.Months.{between-next}
+use Rattle.commitment.proofs.Cutting.{between-next}
 use Rattle.assessment.specs.declared.months.Counts.{Counts}
 use Rattle.assessment.specs.Counting.{counts, countsOf, counted, Room, Outputs}
 

@@ -10,7 +10,7 @@ use lib.ListN.{length, drop, getD}
 use Rattle.calendar.specs.Months.{mostMonths}
 use Rattle.commitment.specs.Months.{Month, keepsMonths, monthsOf}
 use Rattle.commitment.specs.Cuts.{monthsBetween, CutsOf}
-use Rattle.commitment.proofs.Months.{cut-inside}
+use Rattle.commitment.proofs.Cutting.{cut-inside}
 use Rattle.assessment.specs.declared.months.Counts.{Counts}
 use Rattle.assessment.specs.Walking.{spentWithin}
 use Rattle.assessment.specs.Counting.{countsOf}

@@ -9,7 +9,7 @@ use lib.Seq.{getD-set-same, getD-set-other}
 use Rattle.calendar.specs.Months.{mostMonths, monthOf}
 use Rattle.calendar.proofs.Months.{months-few}
 use Rattle.commitment.specs.Months.{monthEnds}
-use Rattle.commitment.proofs.Months.{cuts-are}
+use Rattle.commitment.proofs.Cutting.{cuts-are}
 use Rattle.commitment.proofs.cuts.cuts_of.Statement.{statement}
 use Rattle.commitment.proofs.cuts.cuts_of.Tie as tie
 
