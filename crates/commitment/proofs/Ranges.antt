@@ -22,7 +22,7 @@ use Rattle.commitment.specs.declared.UnitRecord.{UnitRecord}
 use Rattle.commitment.specs.Bounds.{mostMw, mostBlocks, mostTime, mostHeld, mostVec, mostMlc, mostSuc, mostStarts, mostHours, mostMwh}
 use Rattle.commitment.specs.Limits.{limitKept, limitFor}
 use Rattle.commitment.specs.Bounds.{mostMonth, mostDay, mostWord}
-use Rattle.commitment.specs.Ranges.{generatorKept, openingKept, costsKept, limitsKept, windowKept, permitKept, rangesKept, shapeKept}
+use Rattle.commitment.specs.Ranges.{generatorKept, openingKept, costsKept, limitsKept, windowKept, permitKept, monthsKept, rangesKept, shapeKept}
 
 pub record GeneratorRanges (g : Generator) : Type 0 where
   pub block-least : 1 ≤ g .block
@@ -135,7 +135,7 @@ limit-wider a b (At n) h e = le-leb n b (omega (arith, leb-true n a e))
 pub generator-kept : (u : UnitRecord) → rangesKept u ≡ true → generatorKept (u .generator) ≡ true
 unfolding rangesKept
 generator-kept u e =
-    let f5 = both _ (permitKept (u .permit)) e in
+    let f5 = both _ (permitKept (u .permit)) (both _ (monthsKept (u .months)) e .0) in
     both (generatorKept (u .generator)) (openingKept (u .opening)) (both _ (costsKept (u .costs)) (both _ (limitsKept (u .limits)) (f5 .0) .0) .0) .0
 
 -- every field is in its range
@@ -145,11 +145,13 @@ pub record InRange (u : UnitRecord) : Type 0 where
   pub costs : CostsRanges (u .costs)
   pub limits : LimitsRanges (u .limits)
   pub permit : permitKept (u .permit) ≡ true
+  pub months : monthsKept (u .months) ≡ true
 
 pub in-range : (u : UnitRecord) → rangesKept u ≡ true → InRange u
 unfolding rangesKept
 in-range u e =
-    let f5 = both _ (permitKept (u .permit)) e in
+    let f6 = both _ (monthsKept (u .months)) e in
+    let f5 = both _ (permitKept (u .permit)) (f6 .0) in
     let f4 = both _ (limitsKept (u .limits)) (f5 .0) in
     let f3 = both _ (costsKept (u .costs)) (f4 .0) in
     let f2 = both (generatorKept (u .generator)) (openingKept (u .opening)) (f3 .0) in
@@ -159,6 +161,7 @@ in-range u e =
       costs = costs-ranges (u .costs) (f3 .1);
       limits = limits-ranges (u .limits) (f4 .1);
       permit = f5 .1;
+      months = f6 .1;
     }
 
 pub record Shape (g : Generator) : Type 0 where
