@@ -11,8 +11,8 @@ use Rattle.lists.proofs.Fills.{drop-next}
 use Rattle.calendar.specs.Months.{yearIntervals}
 use Rattle.commitment.specs.declared.Limits.{Limits}
 use Rattle.commitment.specs.Bounds.{mostMw}
-use Rattle.commitment.specs.Keeping.{startsIn, onIntervals, outputSum}
-use Rattle.commitment.specs.Months.{Month, onAfter, keepsIn, keepsMonths}
+use Rattle.commitment.specs.Counting.{startsIn, onIntervals, outputSum, onAfter}
+use Rattle.commitment.specs.Months.{Month, keepsIn, keepsMonths}
 use Rattle.commitment.specs.Cuts.{monthsBetween}
 use Rattle.commitment.proofs.Cutting.{between-next}
 use Rattle.assessment.specs.declared.months.Counts.{Counts}

@@ -4,8 +4,7 @@ use mathlib.Core.List.{List}
 use Prim.Native.Nat.{ℕ, zero, suc, _+_, _^_, _≤_, _<_}
 use lib.ListN.{length, getD}
 use Rattle.commitment.specs.Bounds.{mostMw}
-use Rattle.commitment.specs.Keeping.{startsIn, onIntervals, outputSum}
-use Rattle.commitment.specs.Months.{onAfter}
+use Rattle.commitment.specs.Counting.{startsIn, onIntervals, outputSum, onAfter}
 use Rattle.assessment.specs.declared.months.Counts.{Counts}
 
 abbrev pub counts : Bool → ℕ → ℕ → ℕ → Counts

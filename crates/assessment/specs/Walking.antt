@@ -11,7 +11,7 @@ use Rattle.commitment.specs.declared.Limits.{Limits}
 use Rattle.commitment.specs.declared.Limitation.{Limitation}
 use Rattle.commitment.specs.declared.Cause.the-variants.{NotKept}
 use Rattle.commitment.specs.declared.UnitRecord.{UnitRecord}
-use Rattle.commitment.specs.Keeping.{wasOn}
+use Rattle.commitment.specs.Counting.{wasOn}
 use Rattle.commitment.specs.Bounds.{mostMwh}
 use Rattle.commitment.specs.Limits.{within, limitKept, limitFor}
 use Rattle.commitment.specs.Profit.{earned, startCost}
@@ -72,6 +72,11 @@ settled limits starts running output p = cond (spentWithin limits starts running
 abbrev pub concluded : UnitRecord → Walked → Assessed
 concluded u (Whole at) = settled (u .limits) (at .starts) (at .running) (at .output) (at .profit)
 concluded u Broken = Refused NotKept
+
+-- what the months say of a schedule that keeps all else
+abbrev pub monthsAlso : Bool → Assessed → Assessed
+monthsAlso kept (Profit p) = cond kept (Profit p) (Refused NotKept)
+monthsAlso kept (Refused cause) = Refused cause
 
 -- limitations whose counts are small numbers
 abbrev pub SmallLimits : Limits → Type 0

@@ -2,15 +2,25 @@
 
 use calendar::Date;
 use commitment::Limits;
+use commitment::Monthly;
+use commitment::Months;
+use commitment::Opening;
+use commitment::Permit;
+use commitment::UnitRecord;
+use commitment::Window;
 use commitment::cuts;
 ghost use mathlib.Core.Path.{_≡_};
-ghost use mathlib.Core.Bool.{cond};
+ghost use mathlib.Core.Bool.{true, cond};
 ghost use Prim.Native.Nat.{_≤_, _<_};
 ghost use lib.ListN.{length};
-ghost use Rattle.calendar.specs.Dates.{lastYear, Within};
+ghost use Rattle.calendar.specs.Dates.{lastYear, exists, Within};
 ghost use Rattle.calendar.specs.Months.{yearIntervals};
 ghost use Rattle.commitment.specs.Bounds.{mostMw};
+ghost use Rattle.commitment.specs.declared.Months.the-variants.{Limited};
+ghost use Rattle.commitment.specs.Counting.{wasOn};
+ghost use Rattle.commitment.specs.Keeping.{monthsUnder, keepsMonthly};
 ghost use Rattle.commitment.specs.Months.{monthsOf, keepsMonths};
+ghost use Rattle.commitment.specs.Ranges.{windowKept, monthlyKept, InOrder};
 ghost use Rattle.assessment.specs.Walking.{SmallLimits};
 ghost use Rattle.assessment.specs.Counting.{countsOf, Room, Outputs};
 ghost use Rattle.assessment.specs.Counting as counting;
@@ -23,8 +33,44 @@ pub struct Counts {
     pub output: u64,
 }
 
+// Without month figures, or a date that they need, there is nothing to keep.
+pub fn keeps_monthly(unit: UnitRecord, schedule: &[u64]) -> bool
+    requires { ⌜ (InOrder unit (length (now schedule))) × (1 ≤ length (now schedule)) × (Outputs (now schedule)) ⌝ }
+    ensures { λ r. ⌜ r ≡ keepsMonthly unit (now (schedule .entry)) ⌝ }
+{
+    let months = unit.months;
+    match months {
+        Months::Unlimited => true,
+        Months::Limited(monthly) => figures_kept(unit, monthly, schedule),
+    }
+}
+
+fn figures_kept(unit: UnitRecord, monthly: Monthly, schedule: &[u64]) -> bool
+    requires { ⌜ (InOrder unit (length (now schedule))) × (1 ≤ length (now schedule)) × (Outputs (now schedule)) ⌝ }
+    requires { ⌜ monthlyKept monthly ≡ true ⌝ }
+    ensures { λ r. ⌜ r ≡ keepsMonths (monthsUnder (Limited monthly) (unit .permit) (length (now (schedule .entry))))
+        (wasOn (unit .opening)) (now (schedule .entry)) ⌝ }
+{
+    let opening = unit.opening;
+    let permit = unit.permit;
+    match permit {
+        Permit::AnyHour => true,
+        Permit::Within(window) => dated_kept(window, monthly, opening, schedule),
+    }
+}
+
+fn dated_kept(window: Window, monthly: Monthly, opening: Opening, schedule: &[u64]) -> bool
+    requires { ⌜ (windowKept window ≡ true) × (exists (window .date) ≡ true) × (monthlyKept monthly ≡ true) ⌝ }
+    requires { ⌜ (1 ≤ length (now schedule)) × (length (now schedule) ≤ yearIntervals) × (Outputs (now schedule)) ⌝ }
+    ensures { λ r. ⌜ r ≡ keepsMonths (monthsOf (window .date) (monthly .limits) (length (now (schedule .entry)))) (wasOn opening) (now (schedule .entry)) ⌝ }
+{
+    let date = window.date;
+    let limits = monthly.limits;
+    months_kept(date, limits, opening.was == 1, schedule)
+}
+
 // Month by month from a date on, to the first that does not keep its figures. Every month counts anew, from the state that the one before left.
-pub fn months_kept(date: Date, limits: Limits, was: bool, schedule: &[u64]) -> bool
+fn months_kept(date: Date, limits: Limits, was: bool, schedule: &[u64]) -> bool
     requires { ⌜ (Within lastYear date) × (1 ≤ length (now schedule)) × (length (now schedule) ≤ yearIntervals) ⌝ }
     requires { ⌜ (SmallLimits limits) × (Outputs (now schedule)) ⌝ }
     ensures { λ r. ⌜ r ≡ keepsMonths (monthsOf date limits (length (now (schedule .entry)))) was (now (schedule .entry)) ⌝ }
