@@ -1,26 +1,33 @@
-// A schedule handed in: its profit, or why it is refused. One pass over the two slices, and one over the schedule for the permit's hours (mod hours);
-// proofs/ has their laws (Walking, Intervals, Bounds, Shut) and what it says of a schedule that it was passed (Passed).
+// A schedule handed in: its profit, or why it is refused. One pass over the two slices, and one over the schedule for the permit's hours (mod hours); one
+// for the figures of its months (mod months). proofs/ has their laws (Walking, Intervals, Bounds, Shut, Counting) and what it says of a schedule that it
+// was passed (Passed).
 
 mod hours;
+mod months;
 
 use commitment::Cause;
 use commitment::Checked;
 use commitment::Generator;
 use commitment::Limit;
+use commitment::Limits;
 use commitment::UnitRecord;
 ghost use mathlib.Core.Path.{_≡_};
 ghost use mathlib.Core.Bool.{true};
 ghost use Prim.Native.Nat.{_^_, _≤_, _<_};
-ghost use lib.IntN.{natAbs};
+ghost use lib.IntN.{ℤ, natAbs};
 ghost use lib.ListN.{length};
 ghost use Rattle.commitment.specs.declared.Checked.the-variants as checked;
 ghost use Rattle.commitment.specs.Limits.{within, limitKept};
 ghost use Rattle.commitment.specs.Profit as profits;
 ghost use Rattle.commitment.specs.Bounds.{mostMw, mostMwh, mostPrice};
-ghost use Rattle.commitment.specs.Ranges.{generatorKept, rangesKept, shapeKept, pricesKept, caseChecked};
+ghost use Rattle.commitment.specs.Keeping.{keepsMonthly};
+ghost use Rattle.commitment.specs.Ranges.{generatorKept, rangesKept, shapeKept, pricesKept, caseChecked, InOrder};
 ghost use Rattle.commitment.specs.Schedule.{isOutput};
 ghost use Rattle.assessment.specs.Assessed.{assessed, assessedBy, handedIn, assessedNumber, assessedProfit};
-ghost use Rattle.assessment.specs.Walking.{openingWalk, spellKept, mayFollow, stepped, walkFrom, settled, concluded, Small};
+ghost use Rattle.assessment.specs.Walking.{openingWalk, spellKept, mayFollow, stepped, walkFrom};
+ghost use Rattle.assessment.specs.declared.Assessed.the-variants as answers;
+ghost use Rattle.assessment.specs.Counting.{Outputs};
+ghost use Rattle.assessment.specs.Walking.{spentWithin, settled, concluded, monthsAlso, SmallLimits, Small};
 ghost use Rattle.assessment.specs.Walking as walking;
 
 pub enum Assessed {
@@ -43,7 +50,7 @@ pub enum Walked {
     Broken,
 }
 
-// The profit of a schedule handed in; or 3, 4, 12, 5, 7 (another length than the prices) or 10 (it does not keep the case).
+// The profit of a schedule handed in; or 3, 4, 12, 13, 5, 7 (another length than the prices) or 10 (it does not keep the case).
 pub fn assess(unit: UnitRecord, prices: &[i64], schedule: &[u64]) -> Assessed
     ensures { λ r. ⌜ r ≡ assessed unit (now (prices .entry)) (now (schedule .entry)) ⌝ }
 {
@@ -87,7 +94,30 @@ fn of_case(unit: UnitRecord, prices: &[i64], schedule: &[u64]) -> Assessed
     if !hours::hours_kept(unit, schedule) {
         return Assessed::Refused(Cause::NotKept);
     }
-    conclude(unit, walk_whole(unit, prices, schedule))
+    let answer = conclude(unit, walk_whole(unit, prices, schedule));
+    with_months(unit, schedule, answer)
+}
+
+// The months come last: a schedule that was refused may have outputs of any size.
+fn with_months(unit: UnitRecord, schedule: &[u64], answer: Assessed) -> Assessed
+    requires { ⌜ (InOrder unit (length (now schedule))) × (1 ≤ length (now schedule)) ⌝ }
+    requires { ⌜ ((p : ℤ) → answer ≡ answers.Profit p → Outputs (now schedule)) ⌝ }
+    ensures { λ r. ⌜ r ≡ monthsAlso (keepsMonthly unit (now (schedule .entry))) answer ⌝ }
+{
+    match answer {
+        Assessed::Profit(profit) => if_monthly(unit, schedule, profit),
+        Assessed::Refused(cause) => Assessed::Refused(cause),
+    }
+}
+
+fn if_monthly(unit: UnitRecord, schedule: &[u64], profit: i64) -> Assessed
+    requires { ⌜ (InOrder unit (length (now schedule))) × (1 ≤ length (now schedule)) × (Outputs (now schedule)) ⌝ }
+    ensures { λ r. ⌜ r ≡ monthsAlso (keepsMonthly unit (now (schedule .entry))) (answers.Profit profit) ⌝ }
+{
+    if months::keeps_monthly(unit, schedule) {
+        return Assessed::Profit(profit);
+    }
+    Assessed::Refused(Cause::NotKept)
 }
 
 // What the limitations say of the totals.
@@ -101,22 +131,29 @@ fn conclude(unit: UnitRecord, walked: Walked) -> Assessed
     }
 }
 
-// Hours and MWh are counted in quarter-hours, so that a unit of them is 4.
+// A walk to the end is refused for its totals alone.
 fn settle(unit: UnitRecord, at: Walk) -> Assessed
     requires { ⌜ rangesKept unit ≡ true ⌝ }
     ensures { λ r. ⌜ r ≡ settled (unit .limits) (at .starts) (at .running) (at .output) (at .profit) ⌝ }
 {
     let limits = unit.limits;
-    let starts = limits.starts;
-    let hours = limits.hours;
-    let mwh = limits.mwh;
-    if within_limit(1, at.starts, starts)
-        & within_limit(4, at.running, hours)
-        & within_limit(4, at.output, mwh)
-    {
+    if spent_within(limits, at.starts, at.running, at.output) {
         return Assessed::Profit(at.profit);
     }
     Assessed::Refused(Cause::NotKept)
+}
+
+// Hours and MWh are counted in quarter-hours, so that a unit of them is 4.
+fn spent_within(limits: Limits, starts: u64, running: u64, output: u64) -> bool
+    requires { ⌜ SmallLimits limits ⌝ }
+    ensures { λ r. ⌜ r ≡ spentWithin limits starts running output ⌝ }
+{
+    let of_starts = limits.starts;
+    let of_hours = limits.hours;
+    let of_mwh = limits.mwh;
+    within_limit(1, starts, of_starts)
+        & within_limit(4, running, of_hours)
+        & within_limit(4, output, of_mwh)
 }
 
 // The number of a limitation in range is small, so its product with a unit of 1 or 4 fits.

@@ -1,6 +1,7 @@
 // The check of a case, the first thing that every call does with one; and the clock hour of an interval, whose figures are judged in the same way.
 
 pub mod clock;
+mod months;
 
 use calendar::Date;
 use calendar::FIRST_YEAR;
@@ -22,7 +23,7 @@ ghost use mathlib.Core.Bool.{true};
 ghost use Rattle.calendar.specs.Dates.{exists};
 ghost use Rattle.commitment.specs.Causes.{firstOf};
 ghost use Rattle.commitment.specs.Limits.{limitKept};
-ghost use Rattle.commitment.specs.Ranges.{shapeChecks, dateChecks, horizonChecks, caseChecked, generatorKept, openingKept, costsKept, limitsKept};
+ghost use Rattle.commitment.specs.Ranges.{shapeChecks, dateChecks, monthsChecks, horizonChecks, caseChecked, generatorKept, openingKept, costsKept, limitsKept};
 ghost use Rattle.commitment.specs.Ranges.{rangesKept, dateRanged, windowKept, permitKept, shapeKept, dateKept, priceKept, pricesKept, horizonKept};
 
 // The ends of the ranges that a case alone has. specs/Bounds.antt of `commitment` has the same.
@@ -56,7 +57,7 @@ const MOST_PRICE: i64 = 200000;
 
 const MOST_INTERVALS: usize = 35136;
 
-// The first cause for which a case of so many intervals cannot be worked on, whatever call it is for: 3, 4, 12 or 5. The prices are judged by whoever
+// The first cause for which a case of so many intervals cannot be worked on, whatever call it is for: 3, 4, 12, 13 or 5. The prices are judged by whoever
 // has them, in a slice or in a text. Each test is a function with the rest behind it.
 pub fn check_case(unit: UnitRecord, priced: bool, intervals: usize) -> Checked
     ensures { λ r. ⌜ r ≡ caseChecked unit priced intervals ⌝ }
@@ -80,11 +81,23 @@ fn check_shape(unit: UnitRecord, intervals: usize) -> Checked
 
 // A date in its ranges may still be none of its month.
 fn check_date(unit: UnitRecord, intervals: usize) -> Checked
+    requires { ⌜ rangesKept unit ≡ true ⌝ }
     ensures { λ r. ⌜ r ≡ firstOf (dateChecks unit intervals) ⌝ }
 {
     let permit = unit.permit;
     if !date_kept(permit) {
         return Checked::Refused(Cause::Date);
+    }
+    check_months(unit, intervals)
+}
+
+// Where months begin is asked of a date that exists.
+fn check_months(unit: UnitRecord, intervals: usize) -> Checked
+    requires { ⌜ (rangesKept unit ≡ true) × (dateKept (unit .permit) ≡ true) ⌝ }
+    ensures { λ r. ⌜ r ≡ firstOf (monthsChecks unit intervals) ⌝ }
+{
+    if !months::months_fit(unit, intervals) {
+        return Checked::Refused(Cause::Months);
     }
     check_horizon(intervals)
 }
@@ -115,7 +128,13 @@ fn ranges_kept(unit: UnitRecord) -> bool
     let k = unit.costs;
     let limits = unit.limits;
     let permit = unit.permit;
-    generator_kept(g) & opening_kept(o) & costs_kept(k) & limits_kept(limits) & permit_kept(permit)
+    let figures = unit.months;
+    generator_kept(g)
+        & opening_kept(o)
+        & costs_kept(k)
+        & limits_kept(limits)
+        & permit_kept(permit)
+        & months::months_kept(figures)
 }
 
 fn generator_kept(g: Generator) -> bool

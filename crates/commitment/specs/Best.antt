@@ -1,5 +1,5 @@
 -- The best plan, by trying every list of outputs in order; of several that earn the most the first wins (specification 8).
-use mathlib.Core.Bool.{cond}
+use mathlib.Core.Bool.{cond, _&&_}
 use mathlib.Core.List.{List, [], _∷_, _++_, map}
 use Prim.Native.Nat.{ℕ, zero, suc, _+_, _-_, _*_}
 use lib.IntN.{ℤ}
@@ -9,7 +9,9 @@ use Rattle.commitment.specs.declared.BestProfit.{BestProfit}
 use Rattle.commitment.specs.declared.BestProfit.the-variants.{Nothing, Profit}
 use Rattle.commitment.specs.declared.Generator.{Generator}
 use Rattle.commitment.specs.declared.UnitRecord.{UnitRecord}
-use Rattle.commitment.specs.Keeping.{keepsCase}
+use Rattle.commitment.specs.Counting.{wasOn}
+use Rattle.commitment.specs.Months.{Month, keepsMonths}
+use Rattle.commitment.specs.Keeping.{keepsYear, keepsCase}
 use Rattle.commitment.specs.Profit.{profit}
 
 -- no schedule, or a schedule and what it earns
@@ -62,3 +64,11 @@ candidate u prices s = cond (keepsCase u s) (plan s (profit u prices s)) nothing
 
 abbrev pub best : UnitRecord → List ℤ → Plan
 best u prices = firstBest (map (candidate u prices) (lists (outputs (u .generator)) (length prices)))
+
+-- ---- the same for the year's rules and some months: a run of valuing has figures of its own for each month
+
+abbrev pub candidateIn : UnitRecord → List Month → List ℤ → List ℕ → Plan
+candidateIn u months prices s = cond (keepsYear u s && keepsMonths months (wasOn (u .opening)) s) (plan s (profit u prices s)) nothing
+
+abbrev pub bestIn : UnitRecord → List Month → List ℤ → Plan
+bestIn u months prices = firstBest (map (candidateIn u months prices) (lists (outputs (u .generator)) (length prices)))

@@ -1,5 +1,5 @@
 -- A limitation, what is at most as much, and one limitation of the three (specification 2).
-use mathlib.Core.Bool.{Bool, true}
+use mathlib.Core.Bool.{Bool, true, false}
 use Prim.Native.Nat.{ℕ, _*_}
 use lib.Dec.{leb}
 use Rattle.commitment.specs.declared.Limit.{Limit}
@@ -19,6 +19,11 @@ abbrev pub limitKept : ℕ → Limit → Bool
 limitKept most None = true
 limitKept most (At limit) = leb limit most
 
+-- whether there is a figure
+abbrev pub isLimited : Limit → Bool
+isLimited None = false
+isLimited (At limit) = true
+
 -- ---- one of the three
 
 abbrev pub limitFor : Limits → Limitation → Limit
@@ -34,4 +39,5 @@ withLimit limits Mwh limit = record { starts = limits .starts; hours = limits .h
 
 -- the unit under other limitations
 abbrev pub limited : UnitRecord → Limits → UnitRecord
-limited u limits = record { generator = u .generator; costs = u .costs; opening = u .opening; limits = limits; permit = u .permit }
+limited u limits =
+    record { generator = u .generator; costs = u .costs; opening = u .opening; limits = limits; permit = u .permit; months = u .months }

@@ -9,6 +9,7 @@ ghost use Rattle.commitment.specs.Causes.{numberOf};
 ghost use Rattle.commitment.specs.Limits.{limitFor, withLimit, limited};
 ghost use Rattle.commitment.specs.Bounds.{mostMw, mostVec, mostMlc, mostPrice};
 
+pub mod cuts;
 pub mod windows;
 
 use calendar::Date;
@@ -63,6 +64,18 @@ pub enum Permit {
     Within(Window),
 }
 
+// The figures of every calendar month, and the month to value: 1 for that of interval 1, and counted on.
+pub struct Monthly {
+    pub limits: Limits,
+    pub valued: u64,
+}
+
+// Whether the permit limits its months.
+pub enum Months {
+    Unlimited,
+    Limited(Monthly),
+}
+
 // The unit record (specification 2), in its groups.
 pub struct UnitRecord {
     pub generator: Generator,
@@ -70,6 +83,7 @@ pub struct UnitRecord {
     pub opening: Opening,
     pub limits: Limits,
     pub permit: Permit,
+    pub months: Months,
 }
 
 // Which of the three limitations.
@@ -87,6 +101,7 @@ pub enum Cause {
     Levels,
     Shape,
     Date,
+    Months,
     Horizon,
     Segments,
     Length,
@@ -167,12 +182,14 @@ pub fn under_limits(unit: UnitRecord, limits: Limits) -> UnitRecord
     let costs = unit.costs;
     let opening = unit.opening;
     let permit = unit.permit;
+    let months = unit.months;
     UnitRecord {
         generator,
         costs,
         opening,
         limits,
         permit,
+        months,
     }
 }
 
@@ -198,6 +215,7 @@ pub fn number_of(cause: Cause) -> u64
         Cause::Levels => 11,
         Cause::Shape => 4,
         Cause::Date => 12,
+        Cause::Months => 13,
         Cause::Horizon => 5,
         Cause::Segments => 6,
         Cause::Length => 7,
