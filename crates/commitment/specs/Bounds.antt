@@ -50,17 +50,6 @@ mostMonthHours = 744
 abbrev pub mostMonthMwh : ℕ
 mostMonthMwh = 372000
 
--- ---- the figures of a month
-
-abbrev pub mostMonthStarts : ℕ
-mostMonthStarts = 2976
-
-abbrev pub mostMonthHours : ℕ
-mostMonthHours = 744
-
-abbrev pub mostMonthMwh : ℕ
-mostMonthMwh = 372000
-
 -- ---- the date whose midnight opens interval 1, and the word of permitted hours
 
 abbrev pub mostMonth : ℕ

@@ -76,9 +76,13 @@ monthsUnder Unlimited permit n = []
 monthsUnder (Limited monthly) AnyHour n = []
 monthsUnder (Limited monthly) (Within w) n = monthsOf (w .date) (monthly .limits) n
 
--- in every calendar month each month figure
-abbrev pub keepsMonthly : UnitRecord → List ℕ → Bool
-keepsMonthly u s = keepsMonths (monthsUnder (u .months) (u .permit) (length s)) (wasOn (u .opening)) s
+abbrev pub monthsFor : UnitRecord → ℕ → List Month
+monthsFor u n = monthsUnder (u .months) (u .permit) n
 
+-- the horizon as a whole, and some months with their figures
+abbrev pub keepsIn : UnitRecord → List Month → List ℕ → Bool
+keepsIn u months s = keepsYear u s && keepsMonths months (wasOn (u .opening)) s
+
+-- in every calendar month each month figure
 abbrev pub keepsCase : UnitRecord → List ℕ → Bool
-keepsCase u s = keepsYear u s && keepsMonthly u s
+keepsCase u s = keepsIn u (monthsFor u (length s)) s

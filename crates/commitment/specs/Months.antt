@@ -15,15 +15,15 @@ pub record Month : Type 0 where
   pub limits : Limits
 
 -- the part of a schedule in one month; a start belongs to the month of its first interval
-abbrev pub keepsIn : Limits → Bool → List ℕ → Bool
-keepsIn limits on part =
+abbrev pub keepsMonth : Limits → Bool → List ℕ → Bool
+keepsMonth limits on part =
     within 1 (startsIn on part) (limits .starts) && within 4 (onIntervals part) (limits .hours) && within 4 (outputSum part) (limits .mwh)
 
 -- month by month, from the state before the first of them
 abbrev pub keepsMonths : List Month → Bool → List ℕ → Bool
 keepsMonths [] on s = true
 keepsMonths (m ∷ ms) on s =
-    keepsIn (m .limits) on (take (m .long) s) && keepsMonths ms (onAfter on (take (m .long) s)) (drop (m .long) s)
+    keepsMonth (m .limits) on (take (m .long) s) && keepsMonths ms (onAfter on (take (m .long) s)) (drop (m .long) s)
 
 -- the intervals of some months
 abbrev pub intervalsOf : List Month → ℕ

@@ -2,7 +2,7 @@
 -- reads the budgets' tops. What makes one table serve the plan and all six runs of valuing.
 use mathlib.Core.Path.{_≡_, refl, ap, ap₂, _∙_}
 use mathlib.Core.Bool.{Bool, true, false, cond, _&&_}
-use mathlib.Core.List.{List}
+use mathlib.Core.List.{List, []}
 use Prim.Native.Nat.{ℕ, _+_, _-_, _*_, _≤_, _<_, min}
 use native.Mathlib.Nat.{div-one, mul-one, one-mul, mul-le-mul, div-mul-le-self, le-div-iff-mul-le}
 use native.Mathlib.Omega.{arith}
@@ -18,11 +18,12 @@ use Rattle.commitment.specs.declared.Generator.{Generator}
 use Rattle.commitment.specs.declared.UnitRecord.{UnitRecord}
 use Rattle.commitment.specs.Bounds.{mostStarts, mostHours, mostMwh, mostIntervals}
 use Rattle.lists.proofs.Conjunctions.{both}
-use Rattle.commitment.specs.Ranges.{generatorKept, openingKept, costsKept, limitsKept, permitKept, rangesKept, InOrder}
-use Rattle.commitment.specs.Keeping.{wasOn, opensIn}
-use Rattle.commitment.specs.Best.{best}
+use Rattle.commitment.specs.Ranges.{generatorKept, openingKept, costsKept, limitsKept, permitKept, monthsKept, rangesKept, InOrder}
+use Rattle.commitment.specs.Counting.{wasOn}
+use Rattle.commitment.specs.Keeping.{opensIn}
 use Rattle.commitment.specs.Cells.{inCounts, mostCounts, counted}
-use Rattle.commitment.specs.Months.{Month, intervalsOf, bestIn}
+use Rattle.commitment.specs.Best.{bestIn}
+use Rattle.commitment.specs.Months.{Month, intervalsOf}
 use Rattle.commitment.specs.Limits.{limitKept, limitFor, withLimit, limited}
 use Rattle.optimality.specs.declared.Budgets.{Budgets}
 use Rattle.optimality.specs.declared.Figures.{Figures}
@@ -114,7 +115,8 @@ pub order-under : (u : UnitRecord) (n : ℕ) (limits : Limits) → Under limits 
 unfolding rangesKept
 order-under u n limits h o =
     let groups = generatorKept (u .generator) && openingKept (u .opening) && costsKept (u .costs) in
-    let permitted = both (groups && limitsKept (u .limits)) (permitKept (u .permit)) (o .ranges) in
+    let monthly = both (groups && limitsKept (u .limits) && permitKept (u .permit)) (monthsKept (u .months)) (o .ranges) in
+    let permitted = both (groups && limitsKept (u .limits)) (permitKept (u .permit)) (monthly .0) in
     let all = both groups (limitsKept (u .limits)) (permitted .0) in
     let two = both (limitKept mostStarts (u .limits .starts) && limitKept mostHours (u .limits .hours)) (limitKept mostMwh (u .limits .mwh)) (all .1) in
     let one = both (limitKept mostStarts (u .limits .starts)) (limitKept mostHours (u .limits .hours)) (two .0) in
@@ -122,7 +124,7 @@ order-under u n limits h o =
     let hours = kept-less mostHours (limits .hours) (u .limits .hours) (h Hours) (one .1) in
     let mwh = kept-less mostMwh (limits .mwh) (u .limits .mwh) (h Mwh) (two .1) in
     record {
-      ranges = ap₂ _&&_ (ap₂ _&&_ (all .0) (ap₂ _&&_ (ap₂ _&&_ starts hours) mwh)) (permitted .1);
+      ranges = ap₂ _&&_ (ap₂ _&&_ (ap₂ _&&_ (all .0) (ap₂ _&&_ (ap₂ _&&_ starts hours) mwh)) (permitted .1)) (monthly .1);
       shape = o .shape;
       dated = o .dated;
       short = o .short;
@@ -211,7 +213,7 @@ same-figures u n limits h =
     )
 
 pub best-under : (u : UnitRecord) → Ranged u → (prices : List ℤ) (limits : Limits) → Under limits (u .limits)
-    → best (limited u limits) prices ≡ planAt (figuresOf u (length prices)) anywhere (quartersOf u prices) (openingCell (limited u limits) (length prices))
+    → bestIn (limited u limits) [] prices ≡ planAt (figuresOf u (length prices)) anywhere (quartersOf u prices) (openingCell (limited u limits) (length prices))
 best-under u ok prices limits h =
     let n = length prices in
     let v : UnitRecord = limited u limits in
@@ -233,7 +235,7 @@ best-in-months u ok prices limits h months beside whole =
     (rw (quarters-length (opensIn (u .permit)) 0 prices) (opening-alike v ok (countsOf u n) n))
     ∙ ap (λ (f : Figures). yearPlan (u .generator) f months (quartersOf u prices) (openingCell v n)) (same-figures u n limits h)
 
--- the best plan is that of the opening cell
+-- the best plan is that of the opening cell, where no month is limited
 pub best-cell : (u : UnitRecord) → Ranged u → (prices : List ℤ)
-    → best u prices ≡ planAt (figuresOf u (length prices)) anywhere (quartersOf u prices) (openingCell u (length prices))
+    → bestIn u [] prices ≡ planAt (figuresOf u (length prices)) anywhere (quartersOf u prices) (openingCell u (length prices))
 best-cell u ok prices = best-under u ok prices (u .limits) (under-itself (u .limits))

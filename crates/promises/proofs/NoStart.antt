@@ -15,7 +15,8 @@ use Rattle.commitment.specs.declared.Limit.{Limit}
 use Rattle.commitment.specs.declared.Limit.the-variants.{None, At}
 use Rattle.commitment.specs.declared.Limitation.the-variants.{Starts}
 use Rattle.commitment.specs.declared.UnitRecord.{UnitRecord}
-use Rattle.commitment.specs.Keeping.{wasOn, startsIn, runsLast, spellsLast, onIntervals, outputSum, keepsStarts, keepsRuns, keepsSpells}
+use Rattle.commitment.specs.Counting.{wasOn, startsIn, onIntervals, outputSum}
+use Rattle.commitment.specs.Keeping.{runsLast, spellsLast, keepsStarts, keepsRuns, keepsSpells}
 use Rattle.commitment.specs.Keeping.{keepsHours, keepsMwh, opensIn, offWhereShut, keepsWindow}
 use Rattle.commitment.specs.Limits.{within}
 use Rattle.commitment.specs.Rivals.{Rival}

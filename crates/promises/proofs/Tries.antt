@@ -14,7 +14,8 @@ use Rattle.lists.proofs.Conjunctions.{both}
 use Rattle.commitment.specs.declared.Limit.the-variants.{At}
 use Rattle.commitment.specs.declared.UnitRecord.{UnitRecord}
 use Rattle.commitment.specs.Best.{Plan, plan, scheduleOf, best}
-use Rattle.commitment.specs.Keeping.{outputSum, keepsStarts, keepsRuns, keepsSpells, keepsHours, keepsMwh, keepsWindow}
+use Rattle.commitment.specs.Counting.{outputSum}
+use Rattle.commitment.specs.Keeping.{keepsStarts, keepsRuns, keepsSpells, keepsHours, keepsMwh, keepsWindow}
 use Rattle.commitment.specs.Ranges.{pricesKept}
 use Rattle.commitment.specs.Rivals.{Rival}
 use Rattle.commitment.specs.Schedule.{isOutput}
