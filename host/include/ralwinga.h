@@ -122,7 +122,8 @@ struct ralwinga_curve ralwinga_curve(struct ralwinga_curve_inputs inputs, const 
 struct ralwinga_assessment ralwinga_assess(struct ralwinga_unit unit, const int64_t *prices, size_t prices_len,
                                            const uint64_t *schedule, size_t schedule_len);
 
-/* The cells of scratch of a case of so many intervals: `needed`, in two layers, and `table`, in the long table.
+/* The cells of scratch of a case of so many intervals: `needed`, in two layers, and `table`, in the long table; each SIZE_MAX where it is above 10^18,
+ * which no scratch meets.
  * A call lent `table` cells or more uses the long table, else two layers, and refuses with 8 where it is lent fewer than `needed`. The long table is
  * somewhat faster on memory that is there already. The cells used are 0 afterwards and those past them as they were. */
 struct ralwinga_cells ralwinga_cells(struct ralwinga_unit unit, size_t intervals);
@@ -142,7 +143,7 @@ struct ralwinga_report ralwinga_report(struct ralwinga_unit unit, const int64_t 
 /* The clock hour of an interval, counted from 1, where interval 1 begins at midnight of the date. */
 struct ralwinga_clock ralwinga_clock_hour(uint64_t year, uint64_t month, uint64_t day, uint64_t interval);
 
-/* The clock hours of the first hours_len intervals, 1 to 2,976 of them, where interval 1 begins at midnight of the date. */
+/* The clock hours of the first hours_len intervals, 1 to 35,136 of them, where interval 1 begins at midnight of the date. */
 struct ralwinga_hours ralwinga_clock_hours(uint64_t year, uint64_t month, uint64_t day, uint64_t *hours, size_t hours_len);
 
 /* The listing of a plan into the front of `out`. `window` is its unit's, RALWINGA_NONE where that has none. */

@@ -128,7 +128,7 @@ pub struct Segment {
 }
 
 /// The two sizes of scratch that a case is planned in. Scratch between them is used as two layers; the cells used are 0 afterwards, those past them
-/// as they were.
+/// as they were. A size above 10^18 is given as the largest number, and no scratch meets it.
 #[derive(Clone, Copy, Debug, PartialEq, Eq)]
 pub struct Cells {
     /// Two layers; fewer are refused.

@@ -5,7 +5,7 @@ mod support;
 use ralwinga::{clock_hour, clock_hours};
 use support::calendar::{changes, days_after, exists, shown, Date};
 
-const MOST_INTERVALS: u64 = 2976;
+const MOST_INTERVALS: u64 = 35_136;
 
 /// Every date from 2007 to 2099.
 fn every_date() -> impl Iterator<Item = Date> {
@@ -102,7 +102,7 @@ fn three_days_from_every_date() {
 
 /// Into January of 2100 too.
 #[test]
-fn a_month_across_every_new_year() {
+fn a_year_across_every_new_year() {
     for year in 2007..=2099 {
         (1..=31).for_each(|day| agrees((year, 12, day), MOST_INTERVALS));
     }

@@ -128,7 +128,7 @@ const SAID: [(&str, &str, u64, &str); 17] = [
     ("mot", "wind", 2, "'wind' is unknown, 'mot' is missing ("),
     ("10,1,2,2", "10,1,2,97", 3, "line 2, column 8: mot '97' is outside its range, 1 to 96 ("),
     ("3000,", "2000001,", 3, "vec '2000001' is outside its range, 0 to 2000000 ("),
-    (",2,2,none", ",2977,2,none", 3, "starts '2977' is outside its range, 0 to 2976, or none ("),
+    (",2,2,none", ",35137,2,none", 3, "starts '35137' is outside its range, 0 to 35136, or none ("),
 ];
 
 #[test]
@@ -147,7 +147,7 @@ fn what_is_said_of_a_case() {
         5,
     );
     assert!(
-        line.contains("line 5: no price is here; a case has 1 to 2,976 prices"),
+        line.contains("line 5: no price is here; a case has 1 to 35,136 prices"),
         "{line}"
     );
 }

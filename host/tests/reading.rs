@@ -258,7 +258,7 @@ const FAULTS: [(&str, &str, u64, &str); 18] = [
     ("10,1,2,2", "10,1,2,97", 3, "line 2, column 8: mot '97' is outside its range, 1 to 96 ("),
     ("10,1,2,2", "10,2,2,97", 3, "line 2, column 8: mot '97' is outside its range, 1 to 96 ("),
     ("10,1,2", "10,none,2", 3, "line 2, column 4: pmin 'none' is outside its range, 1 to 500 ("),
-    ("2,none", "2,-1", 3, "line 2, column 36: mwh '-1' is outside its range, 0 to 372000, or none ("),
+    ("2,none", "2,-1", 3, "line 2, column 36: mwh '-1' is outside its range, 0 to 4392000, or none ("),
     ("8000", "200001", 3, "line 7, column 1: price '200001' is outside its range, -200000 to 200000 ("),
     ("8000", "none", 3, "line 7, column 1: price 'none' is outside its range, -200000 to 200000 ("),
 ];

@@ -13,7 +13,11 @@ use Rattle.commitment.specs.declared.Checked.{Checked}
 use Rattle.commitment.specs.declared.Checked.the-variants.{Passed}
 use Rattle.commitment.specs.declared.UnitRecord.{UnitRecord}
 use Rattle.commitment.specs.Best.{best}
-use Rattle.commitment.specs.Cells.{cellsNeeded, cellsLong, cellsUsed, met}
+use Rattle.commitment.specs.declared.Limit.the-variants.{At}
+use Rattle.commitment.specs.declared.Limits.{Limits}
+use Rattle.commitment.specs.Cells.{cellsNeeded, cellsLong, cellsUsed, cellsGiven, met}
+use Rattle.commitment.specs.Limits.{limited}
+use Rattle.integers.specs.Capped.{largest, capped}
 use Rattle.commitment.specs.Ranges.{rangesKept, pricesKept}
 use Rattle.commitment.specs.PlanCases.{c1, c7, c1-prices}
 use Rattle.commitment.specs.Valuing.{outcomesOf}
@@ -115,3 +119,37 @@ c1-planned = (same-plan c1 c1-prices 587 cellRoom refl refl 6, same-plan c1 c1-p
 pub c7-valued : (cellsNeeded c7 6 ≡ 336) × (valued c7 c1-prices 336 ≡ valued c7 c1-prices cellRoom)
 unfolding met
 c7-valued = (refl, same-value c7 c1-prices 336 cellRoom refl refl)
+
+-- ---- above 10^18: the long table of a year for C1's unit at the ends of its limitations, which no scratch holds; and both sizes for the widest unit, 8
+
+abbrev endLimits : Limits
+endLimits = record { starts = At 35136; hours = At 8784; mwh = At 4392000 }
+
+abbrev c1-year : UnitRecord
+c1-year = limited c1 endLimits
+
+abbrev widest : UnitRecord
+widest =
+    record {
+      generator = record { block = 1; pmin = 1; pmax = 500; mot = 96; mdt = 96 };
+      opening = c1 .opening;
+      costs = c1 .costs;
+      limits = endLimits;
+      permit = c1 .permit;
+    }
+
+pub year-cells : (cellsGiven (cellsNeeded c1-year 35136) ≡ 694077296191496) × (cellsGiven (cellsLong c1-year 35136) ≡ largest)
+unfolding capped
+year-cells = (refl, refl)
+
+pub year-used : (lent : ℕ) → cellsUsed c1-year 35136 lent ≡ cellsNeeded c1-year 35136
+unfolding met
+year-used lent = refl
+
+pub widest-cells : (cellsGiven (cellsNeeded widest 35136) ≡ largest) × (cellsGiven (cellsLong widest 35136) ≡ largest)
+unfolding capped
+widest-cells = (refl, refl)
+
+pub widest-never : (lent : ℕ) → met (cellsNeeded widest 35136) lent ≡ false
+unfolding met
+widest-never lent = refl

@@ -166,9 +166,9 @@ pub fn damage(random: &mut Random, unit: &mut Unit, prices: &mut Vec<i64>) {
         7 => unit.vec = random.from(&[2_000_001, u64::MAX]),
         8 => unit.mlc = random.from(&[1_000_000_001, u64::MAX]),
         9 => unit.suc = random.from(&[4_000_000_001, u64::MAX]),
-        10 => unit.starts = Some(random.from(&[2977, u64::MAX - 1, u64::MAX])),
-        11 => unit.hours = Some(random.from(&[745, u64::MAX - 1, u64::MAX])),
-        12 => unit.mwh = Some(random.from(&[372_001, u64::MAX - 1, u64::MAX])),
+        10 => unit.starts = Some(random.from(&[35_137, u64::MAX - 1, u64::MAX])),
+        11 => unit.hours = Some(random.from(&[8785, u64::MAX - 1, u64::MAX])),
+        12 => unit.mwh = Some(random.from(&[4_392_001, u64::MAX - 1, u64::MAX])),
         13 | 14 if !prices.is_empty() => {
             let at = random.below(prices.len() as u64) as usize;
             prices[at] = random.from(&[200_001, -200_001, i64::MAX, i64::MIN]);
@@ -176,7 +176,7 @@ pub fn damage(random: &mut Random, unit: &mut Unit, prices: &mut Vec<i64>) {
         15 => std::mem::swap(&mut unit.pmin, &mut unit.pmax),
         16 => unit.pmax = 500 / unit.block + 1,
         17 => prices.clear(),
-        18 => prices.resize(2977, 0),
+        18 => prices.resize(35_137, 0),
         19..=23 => damage_window(random, unit),
         // two causes
         24 => {

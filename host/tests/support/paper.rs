@@ -34,9 +34,9 @@ pub fn judge_case(u: &Unit, prices: &[i64]) -> Result<(), Refused> {
         && u.vec <= 2_000_000
         && u.mlc <= 1_000_000_000
         && u.suc <= 4_000_000_000
-        && in_range(u.starts, 2976)
-        && in_range(u.hours, 744)
-        && in_range(u.mwh, 372_000)
+        && in_range(u.starts, 35_136)
+        && in_range(u.hours, 8784)
+        && in_range(u.mwh, 4_392_000)
         && u.window.is_none_or(|w| window_in_range(&w));
     if !ranges || prices.iter().any(|p| !(-200_000..=200_000).contains(p)) {
         return Err(3);
@@ -47,7 +47,7 @@ pub fn judge_case(u: &Unit, prices: &[i64]) -> Result<(), Refused> {
     if u.window.is_some_and(|w| !calendar::exists(date_of(&w))) {
         return Err(12);
     }
-    if prices.is_empty() || prices.len() > 2976 {
+    if prices.is_empty() || prices.len() > 35_136 {
         return Err(5);
     }
     Ok(())
@@ -281,31 +281,40 @@ pub fn printed(u: &Unit, answer: &Result<(Report, Vec<u64>), Refused>) -> String
     }
 }
 
-/// The cells of two layers and of a layer to each interval and one more.
+/// The cells that a need can have.
+const MOST_CELLS: u128 = 1_000_000_000_000_000_000;
+
+/// The cells of two layers and of a layer to each interval and one more; the largest number where there are too many.
 pub fn cells(u: &Unit, n: usize) -> Cells {
     let layer = layer(u, n as u64);
+    let given = |size: u128| match size {
+        size if size > MOST_CELLS => usize::MAX,
+        size => size as usize,
+    };
     Cells {
-        needed: 2 * layer,
-        table: (n + 1) * layer,
+        needed: given(2 * layer),
+        table: given((n as u128 + 1) * layer),
     }
 }
 
 /// The cells that are used of so many lent, or 8.
 pub fn used(u: &Unit, n: usize, lent: usize) -> Result<usize, Refused> {
     let Cells { needed, table } = cells(u, n);
+    let met = |need: usize| need as u128 <= MOST_CELLS && need <= lent;
     match lent {
-        _ if lent >= table => Ok(table),
-        _ if lent >= needed => Ok(needed),
+        _ if met(table) => Ok(table),
+        _ if met(needed) => Ok(needed),
         _ => Err(8),
     }
 }
 
-fn layer(u: &Unit, n: u64) -> usize {
+fn layer(u: &Unit, n: u64) -> u128 {
     let count = |limit: Option<u64>, most: u64| limit.map_or(0, |figure| figure.min(most));
     let a = count(u.starts, n);
     let b = count(u.hours.map(|h| 4 * h), n);
     let c = count(u.mwh.map(|m| 4 * m / u.block), n * u.pmax);
-    ((u.mot + u.mdt) * (a + 1) * (b + 1) * (c + 1)) as usize
+    let factors = [u.mot + u.mdt, a + 1, b + 1, c + 1];
+    factors.iter().map(|factor| u128::from(*factor)).product()
 }
 
 /// What is over the line and what is under it.

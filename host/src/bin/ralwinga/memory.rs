@@ -7,6 +7,9 @@ use std::time::{Duration, Instant};
 
 const CELL_BYTES: usize = 8;
 
+/// What the library gives for a size above 10^18, which no scratch meets.
+const UNCOUNTED: usize = usize::MAX;
+
 /// At most so many cells, and by whose word.
 #[derive(Clone, Copy)]
 pub struct Cap {
@@ -107,8 +110,19 @@ pub fn at_once(needs: &[usize], jobs: usize) -> usize {
     largest.iter().take(jobs).fold(0, add)
 }
 
+/// A number of cells; the library counts them no further than 10^18.
+fn counted(cells: usize) -> String {
+    match cells {
+        UNCOUNTED => "more than 10^18".to_string(),
+        cells => cells.to_string(),
+    }
+}
+
 /// Cells, and their size.
 pub fn scratch_of(cells: usize) -> String {
+    if cells == UNCOUNTED {
+        return format!("{} cells of scratch", counted(cells));
+    }
     let kib = cells as f64 * CELL_BYTES as f64 / 1024.0;
     match kib {
         small if small < 1024.0 => format!("{cells} cells, {small:.1} KiB of scratch"),
@@ -118,8 +132,8 @@ pub fn scratch_of(cells: usize) -> String {
 
 /// Two layers of a case that may have so many cells, and why not the long table.
 pub fn two_layers_of(cells: Cells, most: usize) -> String {
-    let (scratch, table) = (scratch_of(cells.needed), cells.table);
-    if table <= most {
+    let (scratch, table) = (scratch_of(cells.needed), counted(cells.table));
+    if cells.table <= most {
         format!("{scratch}: two layers, which are faster than the long table of {table} cells")
     } else {
         format!("{scratch}: two layers, since the long table of {table} cells does not fit")
@@ -129,7 +143,10 @@ pub fn two_layers_of(cells: Cells, most: usize) -> String {
 /// The need, what there is, and what would make the case fit.
 pub fn too_large(unit: Unit, intervals: usize, needed: usize, cap: Cap) -> String {
     let fits = |unit, n| cells(unit, n).is_ok_and(|cells| cells.needed <= cap.cells);
-    let mut ways = vec![format!("{needed} cells")];
+    let mut ways = Vec::new();
+    if needed != UNCOUNTED {
+        ways.push(format!("{needed} cells"));
+    }
     if let Some(n) = (1..intervals).rev().find(|n| fits(unit, *n)) {
         ways.push(format!("the first {n} of the {intervals} prices"));
     }
