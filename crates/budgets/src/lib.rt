@@ -11,7 +11,7 @@ ghost use mathlib.Core.Path.{_≡_};
 ghost use mathlib.Core.Bool.{true};
 ghost use Prim.Native.Nat.{_+_, _*_, _≤_};
 ghost use Rattle.commitment.specs.Bounds.{mostMwh, mostIntervals};
-ghost use Rattle.commitment.specs.Cells.{inCounts, mostCounts, layerCells, cellsNeeded, cellsLong, cellsGiven};
+ghost use Rattle.commitment.specs.Cells.{inCounts, mostCounts, layerCells, monthCountFor, monthCells, cellsNeeded, cellsLong, cellsGiven};
 ghost use Rattle.commitment.specs.Cells as cells;
 ghost use Rattle.commitment.specs.Limits.{limitKept};
 ghost use Rattle.commitment.specs.Ranges.{generatorKept, rangesKept, InOrder};
@@ -166,13 +166,37 @@ pub fn cells_long(unit: UnitRecord, n: usize) -> usize
     cells_over(unit, n, n)
 }
 
-// The layers of a case of n intervals, for so many of them.
+// The layers of a case of n intervals, for so many of them, times what the month figures ask for.
 fn cells_over(unit: UnitRecord, n: usize, intervals: usize) -> usize
     requires { ⌜ (InOrder unit n) × (intervals ≤ mostIntervals) ⌝ }
-    ensures { λ r. ⌜ r ≡ cellsGiven ((intervals + 1) * layerCells unit n) ⌝ }
+    ensures { λ r. ⌜ r ≡ cellsGiven ((intervals + 1) * layerCells unit n * monthCells unit n) ⌝ }
 {
     let layer = geometry::layer_cells(figures_of(unit, n));
-    integers::capped_product(MOST_CELLS, layer, intervals + 1)
+    let table = integers::capped_product(MOST_CELLS, layer, intervals + 1);
+    times_months(unit, n, table)
+}
+
+// A product on the way may not fit, so each is given up beyond the most that a need can have.
+fn times_months(unit: UnitRecord, n: usize, cells: usize) -> usize
+    requires { ⌜ InOrder unit n ⌝ }
+    ensures { λ r. ⌜ r ≡ cellsGiven (cells * monthCells unit n) ⌝ }
+{
+    let starts = month_count(unit, n, Limitation::Starts) + 1;
+    let hours = month_count(unit, n, Limitation::Hours) + 1;
+    let mwh = month_count(unit, n, Limitation::Mwh) + 1;
+    let first = integers::capped_product(MOST_CELLS, cells, starts);
+    let second = integers::capped_product(MOST_CELLS, first, hours);
+    integers::capped_product(MOST_CELLS, second, mwh)
+}
+
+// What a month figure comes to, as the table counts.
+pub fn month_count(unit: UnitRecord, n: usize, which: Limitation) -> usize
+    requires { ⌜ InOrder unit n ⌝ }
+    ensures { λ r. ⌜ r ≡ monthCountFor unit n which ⌝ }
+{
+    let months = unit.months;
+    let limit = commitment::month_limit(months, which);
+    counted(unit.generator, n, which, limit)
 }
 
 // Whether so many cells serve a need, as the two calls above give it.

@@ -10,7 +10,7 @@ use Rattle.commitment.specs.declared.Limitation.the-variants.{Starts, Ho
 use Rattle.commitment.specs.declared.Generator.{Generator}
 use Rattle.commitment.specs.declared.UnitRecord.{UnitRecord}
 use Rattle.commitment.specs.Bounds.{mostCells}
-use Rattle.commitment.specs.Limits.{limitFor}
+use Rattle.commitment.specs.Limits.{limitFor, monthLimit}
 
 -- a is the smaller of starts and n, b of 4 × hours and n, c of 4 × mwh / block rounded down and n × pmax; each is 0 where `none`
 
@@ -38,13 +38,20 @@ abbrev pub layerCells : UnitRecord → ℕ → ℕ
 layerCells u n =
     (u .generator .mot + u .generator .mdt) * (countFor u n Starts + 1) * (countFor u n Hours + 1) * (countFor u n Mwh + 1)
 
--- two layers: 2 × (mot+mdt) × (a+1) × (b+1) × (c+1)
-abbrev pub cellsNeeded : UnitRecord → ℕ → ℕ
-cellsNeeded u n = 2 * layerCells u n
+-- one more than each month figure, counted as a, b and c are, multiplied; 1 without month figures
+abbrev pub monthCountFor : UnitRecord → ℕ → Limitation → ℕ
+monthCountFor u n which = counted (u .generator) n which (monthLimit (u .months) which)
 
--- the long table, a layer for each interval and one more: (n+1) × (mot+mdt) × (a+1) × (b+1) × (c+1)
+unfoldable pub monthCells : UnitRecord → ℕ → ℕ
+monthCells u n = (monthCountFor u n Starts + 1) * (monthCountFor u n Hours + 1) * (monthCountFor u n Mwh + 1)
+
+-- two layers: 2 × (mot+mdt) × (a+1) × (b+1) × (c+1), times what the month figures ask for
+abbrev pub cellsNeeded : UnitRecord → ℕ → ℕ
+cellsNeeded u n = 2 * layerCells u n * monthCells u n
+
+-- the long table, a layer for each interval and one more: (n+1) × (mot+mdt) × (a+1) × (b+1) × (c+1), times the same
 abbrev pub cellsLong : UnitRecord → ℕ → ℕ
-cellsLong u n = (n + 1) * layerCells u n
+cellsLong u n = (n + 1) * layerCells u n * monthCells u n
 
 -- whether so many cells serve a need; one above 10^18 counts as not met
 unfoldable pub met : ℕ → ℕ → Bool

@@ -7,6 +7,8 @@ use Rattle.commitment.specs.declared.Limit.the-variants.{None, At}
 use Rattle.commitment.specs.declared.Limits.{Limits}
 use Rattle.commitment.specs.declared.Limitation.{Limitation}
 use Rattle.commitment.specs.declared.Limitation.the-variants.{Starts, Hours, Mwh}
+use Rattle.commitment.specs.declared.Months.{Months}
+use Rattle.commitment.specs.declared.Months.the-variants.{Unlimited, Limited}
 use Rattle.commitment.specs.declared.UnitRecord.{UnitRecord}
 
 -- a count is at most the limitation, a unit of which is worth so many counts
@@ -36,6 +38,11 @@ abbrev pub withLimit : Limits → Limitation → Limit → Limits
 withLimit limits Starts limit = record { starts = limit; hours = limits .hours; mwh = limits .mwh }
 withLimit limits Hours limit = record { starts = limits .starts; hours = limit; mwh = limits .mwh }
 withLimit limits Mwh limit = record { starts = limits .starts; hours = limits .hours; mwh = limit }
+
+-- the month figure of one of them
+abbrev pub monthLimit : Months → Limitation → Limit
+monthLimit Unlimited which = None
+monthLimit (Limited monthly) which = limitFor (monthly .limits) which
 
 -- the unit under other limitations
 abbrev pub limited : UnitRecord → Limits → UnitRecord

@@ -15,7 +15,7 @@ use Rattle.commitment.specs.declared.Outcome.{Outcome}
 use Rattle.commitment.specs.declared.Outcome.the-variants as outcome
 use Rattle.commitment.specs.declared.Outcomes.{Outcomes}
 use Rattle.commitment.specs.declared.UnitRecord.{UnitRecord}
-use Rattle.commitment.specs.Limits.{limitFor, withLimit, limited}
+use Rattle.commitment.specs.Limits.{limitFor, withLimit, limited, monthLimit}
 use Rattle.commitment.specs.Months.{Month}
 use Rattle.commitment.specs.Keeping.{monthsFor}
 use Rattle.commitment.specs.Best.{bestIn, profitOf}
@@ -66,11 +66,7 @@ module _ (u : UnitRecord) (months : List Month) (which : Limitation) where
   runsUnder valued (limit.At figure) limit.None = runsAt (lowered figure)
   runsUnder valued (limit.At figure) (limit.At month) = runsBoth valued (lowered figure) (lowered month)
 
--- the month figure of a limitation, and the valued month
-abbrev pub monthLimit : Months → Limitation → Limit
-monthLimit Unlimited which = limit.None
-monthLimit (Limited monthly) which = limitFor (monthly .limits) which
-
+-- the month to value
 abbrev pub valuedMonth : Months → ℕ
 valuedMonth Unlimited = 0
 valuedMonth (Limited monthly) = monthly .valued

@@ -6,7 +6,7 @@ ghost use Prim.Native.Nat.{_≤_};
 ghost use lib.IntN.{natAbs};
 ghost use Rattle.commitment.specs.Profit as profits;
 ghost use Rattle.commitment.specs.Causes.{numberOf};
-ghost use Rattle.commitment.specs.Limits.{limitFor, withLimit, limited};
+ghost use Rattle.commitment.specs.Limits.{limitFor, withLimit, monthLimit, limited};
 ghost use Rattle.commitment.specs.Bounds.{mostMw, mostVec, mostMlc, mostPrice};
 
 pub mod cuts;
@@ -145,6 +145,16 @@ pub fn limit_for(limits: Limits, which: Limitation) -> Limit
         Limitation::Starts => limits.starts,
         Limitation::Hours => limits.hours,
         Limitation::Mwh => limits.mwh,
+    }
+}
+
+// The month figure of one of them.
+pub fn month_limit(months: Months, which: Limitation) -> Limit
+    ensures { λ r. ⌜ r ≡ monthLimit months which ⌝ }
+{
+    match months {
+        Months::Unlimited => Limit::None,
+        Months::Limited(monthly) => limit_for(monthly.limits, which),
     }
 }
 

@@ -22,14 +22,14 @@ use Rattle.commitment.specs.declared.Limitation.the-variants.{Starts, Hours, Mw
 use Rattle.commitment.specs.declared.Outcome.{Outcome}
 use Rattle.commitment.specs.declared.Outcome.the-variants as outcome
 use Rattle.commitment.specs.declared.UnitRecord.{UnitRecord}
-use Rattle.commitment.specs.Limits.{within, limitFor, withLimit, limited}
+use Rattle.commitment.specs.Limits.{within, limitFor, withLimit, limited, monthLimit}
 use Rattle.commitment.specs.Counting.{wasOn, startsIn, onIntervals, outputSum, onAfter}
 use Rattle.commitment.specs.Keeping.{keepsRuns, keepsSpells, keepsWindow, monthsFor}
 use Rattle.commitment.specs.Months.{Month, keepsMonth, keepsMonths}
 use Rattle.commitment.specs.Profit.{profit}
 use Rattle.commitment.specs.Best.{Plan, nothing, plan, bestIn, profitOf}
 use Rattle.commitment.specs.Rivals.{RivalIn, IsBestIn}
-use Rattle.commitment.specs.Valuing.{lowered, monthAt, inMonth, Runs, unlimited, empty, two, runsAt, runsBoth, runsUnder, monthLimit, valuedMonth, runsOf}
+use Rattle.commitment.specs.Valuing.{lowered, monthAt, inMonth, Runs, unlimited, empty, two, runsAt, runsBoth, runsUnder, valuedMonth, runsOf}
 use Rattle.commitment.specs.Valuing.{gapBetween, gapOver, outcomeOf}
 use Rattle.optimality.specs.Runs.{AtMost, Under}
 use Rattle.optimality.specs.Outcomes.{MonthEmpty, EmptyAt, Says}

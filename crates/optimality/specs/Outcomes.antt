@@ -11,10 +11,10 @@ use Rattle.commitment.specs.declared.Limitation.{Limitation}
 use Rattle.commitment.specs.declared.Outcome.{Outcome}
 use Rattle.commitment.specs.declared.Outcome.the-variants as outcome
 use Rattle.commitment.specs.declared.UnitRecord.{UnitRecord}
-use Rattle.commitment.specs.Limits.{limitFor}
+use Rattle.commitment.specs.Limits.{limitFor, monthLimit}
 use Rattle.commitment.specs.Months.{Month}
 use Rattle.commitment.specs.Rivals.{RivalIn, IsBestIn}
-use Rattle.commitment.specs.Valuing.{lowered, monthLimit, runsOf, two}
+use Rattle.commitment.specs.Valuing.{lowered, runsOf, two}
 
 -- a month figure whose nine tenths round to 0
 pub record MonthEmpty (u : UnitRecord) (which : Limitation) : Type 0 where
