@@ -7,6 +7,8 @@ use Rattle.commitment.specs.declared.Limit.the-variants.{None, At}
 use Rattle.commitment.specs.declared.Limits.{Limits}
 use Rattle.commitment.specs.declared.Limitation.{Limitation}
 use Rattle.commitment.specs.declared.Limitation.the-variants.{Starts, Hours, Mwh}
+use Rattle.commitment.specs.declared.Months.{Months}
+use Rattle.commitment.specs.declared.Months.the-variants.{Unlimited, Limited}
 use Rattle.commitment.specs.declared.UnitRecord.{UnitRecord}
 
 -- a count is at most the limitation, a unit of which is worth so many counts
@@ -23,6 +25,11 @@ limitKept most (At limit) = leb limit most
 abbrev pub isLimited : Limit → Bool
 isLimited None = false
 isLimited (At limit) = true
+
+-- the figures of every month, none of them where months are not limited
+abbrev pub figuresIn : Months → Limits
+figuresIn Unlimited = record { starts = None; hours = None; mwh = None }
+figuresIn (Limited m) = m .limits
 
 -- ---- one of the three
 

@@ -24,7 +24,7 @@ use Rattle.commitment.specs.declared.Permit.{Permit}
 use Rattle.commitment.specs.declared.Permit.the-variants.{AnyHour, Within}
 use Rattle.commitment.specs.declared.Window.{Window}
 use Rattle.commitment.specs.declared.UnitRecord.{UnitRecord}
-use Rattle.commitment.specs.Limits.{limitKept, isLimited}
+use Rattle.commitment.specs.Limits.{limitKept, isLimited, figuresIn}
 use Rattle.commitment.specs.Ranges.{permitKept, someFigure, monthsKept, pricesKept, caseChecked}
 use Rattle.lists.specs.Every.{every}
 use Rattle.commitment.proofs.Passing.{Passing, passing, prices-small}
@@ -53,7 +53,7 @@ use Rattle.casefile.specs.Reading.{figureOf, monthlyOf, monthsGiven}
 use Rattle.casefile.specs.Reading.{wholeOf, limitOf, centsOf, windowOf, permitOf, unitOf, unitIn, priceOf, pricesIn, caseIn, roomChecks, textChecked}
 use Rattle.casefile.proofs.Checking.{case-decides, text-in-turn, answer-read}
 use Rattle.writing.specs.Writing.{joined, shownWhole, shownPrice, shownLimit, shownMonthly, shownDated, shownField}
-use Rattle.writing.specs.Writing.{isDated, figuresIn, areLimited, marked, marksFor, namesFor, written}
+use Rattle.writing.specs.Writing.{isDated, areLimited, marked, marksFor, namesFor, written}
 use Rattle.writing.specs.AsWritten.{limitValue}
 use Rattle.writing.proofs.Numbers.{whole-back, price-back, limit-back, whole-unparted, price-unparted, limit-unparted}
 use Rattle.writing.proofs.Sequences.{Named, names-are, some-name, of-names}

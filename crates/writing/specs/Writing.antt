@@ -6,13 +6,12 @@ use lib.Dec.{ltb}
 use lib.IntN.{ℤ, pos, negsuc}
 use Rattle.commitment.specs.declared.Limit.{Limit}
 use Rattle.commitment.specs.declared.Limit.the-variants.{None, At}
-use Rattle.commitment.specs.declared.Limits.{Limits}
 use Rattle.commitment.specs.declared.Months.{Months}
 use Rattle.commitment.specs.declared.Months.the-variants.{Unlimited, Limited}
 use Rattle.commitment.specs.declared.Permit.{Permit}
 use Rattle.commitment.specs.declared.Permit.the-variants.{AnyHour, Within}
 use Rattle.commitment.specs.declared.UnitRecord.{UnitRecord}
-use Rattle.commitment.specs.Limits.{isLimited}
+use Rattle.commitment.specs.Limits.{isLimited, figuresIn}
 use Rattle.tabletext.specs.Bytes.{same}
 use Rattle.tabletext.specs.Values.{noneWord}
 use Rattle.casetext.specs.Names.{blockName, pminName, pmaxName, motName, mdtName, wasName, heldName, vecName, mlcName, sucName}
@@ -95,10 +94,6 @@ marked (stands ∷ marks) (group ∷ groups) = cond stands group [] ++ marked ma
 abbrev pub isDated : Permit → Bool
 isDated AnyHour = false
 isDated (Within w) = true
-
-abbrev pub figuresIn : Months → Limits
-figuresIn Unlimited = record { starts = None; hours = None; mwh = None }
-figuresIn (Limited m) = m .limits
 
 abbrev pub areLimited : Months → Bool
 areLimited Unlimited = false
