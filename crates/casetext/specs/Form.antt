@@ -55,7 +55,7 @@ abbrev pub someMonthly : List (List ℕ) → Bool
 someMonthly fields = standing 1 fields mstartsName || standing 1 fields mhoursName || standing 1 fields mmwhName
 
 -- the month to value stands exactly where one does
-unfoldable pub valuedKept : List (List ℕ) → Bool
+abbrev pub valuedKept : List (List ℕ) → Bool
 valuedKept fields = cond (standing 1 fields valuedName) (someMonthly fields) (not (someMonthly fields))
 
 -- the thirteen alone, or with the four of a date, all of them; the month figures, and with them the month to value; and the price's

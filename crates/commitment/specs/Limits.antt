@@ -26,6 +26,11 @@ abbrev pub isLimited : Limit → Bool
 isLimited None = false
 isLimited (At limit) = true
 
+-- the figures of every month, none of them where months are not limited
+abbrev pub figuresIn : Months → Limits
+figuresIn Unlimited = record { starts = None; hours = None; mwh = None }
+figuresIn (Limited m) = m .limits
+
 -- ---- one of the three
 
 abbrev pub limitFor : Limits → Limitation → Limit

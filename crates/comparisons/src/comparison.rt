@@ -6,6 +6,7 @@ use commitment::Costs;
 use commitment::Generator;
 use commitment::Limit;
 use commitment::Limits;
+use commitment::Months;
 use commitment::Opening;
 use commitment::Outcome;
 use commitment::Outcomes;
@@ -164,6 +165,7 @@ fn unit_of(case: Case) -> UnitRecord {
             mwh: limit_of(mwh),
         },
         permit: permit_of(allowed),
+        months: Months::Unlimited,
     }
 }
 

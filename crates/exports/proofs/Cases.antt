@@ -7,6 +7,7 @@ use Rattle.commitment.specs.declared.Limit.the-variants.{None, At}
 use Rattle.commitment.specs.declared.Outcome.{Outcome}
 use Rattle.commitment.specs.declared.Outcome.the-variants as outcome
 use Rattle.commitment.specs.declared.Outcomes.{Outcomes}
+use Rattle.commitment.specs.declared.Months.the-variants.{Limited}
 use Rattle.commitment.specs.declared.Permit.the-variants.{Within}
 use Rattle.commitment.specs.declared.UnitRecord.{UnitRecord}
 use Rattle.exports.specs.declared.numbers.OutcomeNumbers.{OutcomeNumbers}
@@ -14,7 +15,7 @@ use Rattle.exports.specs.declared.numbers.OutcomesNumbers.{OutcomesNumbe
 use Rattle.exports.specs.declared.numbers.UnitNumbers.{UnitNumbers}
 use Rattle.exports.specs.Records.{none, recordOf, unitNumbers, outcomeNumbers, outcomeFrom, outcomesFrom, outcomesNumbers}
 
--- the figures of a case with a date, 1 to 17 in the order of the C struct
+-- the figures of a case with a date and month figures, 1 to 21 in the order of the C struct
 abbrev dated : UnitNumbers
 dated =
     record {
@@ -35,6 +36,10 @@ dated =
       month = 15;
       day = 16;
       window = 17;
+      mstarts = 18;
+      mhours = 19;
+      mmwh = 20;
+      valued = 21;
     }
 
 abbrev unit : UnitRecord
@@ -45,6 +50,7 @@ unit =
       opening = record { was = 6; held = 7 };
       limits = record { starts = At 11; hours = At 12; mwh = At 13 };
       permit = Within (record { date = date 14 15 16; word = 17 });
+      months = Limited (record { limits = record { starts = At 18; hours = At 19; mwh = At 20 }; valued = 21 });
     }
 
 record-there-and-back : (recordOf dated ≡ unit) × (unitNumbers unit ≡ dated)

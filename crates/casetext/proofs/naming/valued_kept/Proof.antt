@@ -3,7 +3,7 @@ use mathlib.Core.Path.{_≡_, sym, ap, ap₂, _∙_}
 use mathlib.Core.Bool.{Bool, not, cond, _||_}
 use borrow.Author.Needs.{needs}
 use Rattle.tabletext.specs.Pieces.{fieldsOf}
-use Rattle.casetext.specs.Form.{someMonthly, valuedKept}
+use Rattle.casetext.specs.Form.{someMonthly}
 use Rattle.casetext.proofs.naming.valued_kept.Statement.{statement}
 use Rattle.casetext.proofs.naming.valued_kept.Tie as tie
 
@@ -22,11 +22,9 @@ valued : {t b : Bool} (some : Bool) → t ≡ b → cond b some (not some) ≡ c
 valued some e = ap (λ (b : Bool). cond b some (not some)) (sym e)
 
 returns : tie.Need-returns
-unfolding valuedKept
 returns c = monthly (c .before) ∙ valued _ (sym (c .before .stands4 .ensures) ∙ c .if1 .taken)
 
 returns-2 : tie.Need-returns-2
-unfolding valuedKept
 returns-2 c = ap not (monthly (c .before)) ∙ valued _ (sym (c .before .stands4 .ensures) ∙ c .if1 .left)
 
 pub valued-kept-spec : {M : Type 1} → statement M
