@@ -103,7 +103,7 @@ fn counted(g: Generator, n: usize, which: Limitation, limit: Limit) -> usize
 }
 
 // A figure in starts, in on-intervals, in whole blocks of one interval.
-fn in_counts(g: Generator, which: Limitation, figure: u64) -> usize
+pub fn in_counts(g: Generator, which: Limitation, figure: u64) -> usize
     requires { ⌜ (generatorKept g ≡ true) × (figure ≤ mostMwh) ⌝ }
     ensures { λ r. ⌜ r ≡ inCounts g which figure ⌝ }
 {

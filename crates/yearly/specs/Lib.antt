@@ -1,0 +1,2 @@
+-- Models: what a case with month figures is worked out with.
+pub mod Models
