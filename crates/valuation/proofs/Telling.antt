@@ -28,7 +28,7 @@ use Rattle.geometry.specs.Layers.{told, inFront, Holds, Layer}
 use Rattle.geometry.proofs.Telling.{front-told}
 use Rattle.valuation.specs.Telling.{amount, mostAmount, Told}
 
-stored-small : (n : ℕ) (v : BestProfit) (r : ℤ) → n ≤ mostIntervals → Holds n v r → natAbs (amount v) < mostAmount
+pub stored-small : (n : ℕ) (v : BestProfit) (r : ℤ) → n ≤ mostIntervals → Holds n v r → natAbs (amount v) < mostAmount
 stored-small n Nothing r h k = omega arith
 stored-small n (Profit p) r h k = omega (arith, k .1)
 

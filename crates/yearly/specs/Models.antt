@@ -6,6 +6,8 @@ use Prim.Native.Nat.{ℕ, zero, suc, _+_, _-_, _*_, _≤_}
 use lib.Dec.{eqb}
 use lib.IntN.{ℤ}
 use lib.ListN.{length, getD}
+use Rattle.commitment.specs.declared.BestProfit.{BestProfit}
+use Rattle.commitment.specs.declared.Generator.{Generator}
 use Rattle.commitment.specs.declared.Limitation.{Limitation}
 use Rattle.commitment.specs.declared.Limits.{Limits}
 use Rattle.commitment.specs.declared.Monthly.{Monthly}
@@ -15,16 +17,21 @@ use Rattle.commitment.specs.Bounds.{mostMwh}
 use Rattle.commitment.specs.Keeping.{monthsFor}
 use Rattle.commitment.specs.Limits.{limitKept, limitFor}
 use Rattle.commitment.specs.Months.{Month}
-use Rattle.commitment.specs.Ranges.{InOrder, Priced, monthsFit}
+use Rattle.commitment.specs.Ranges.{generatorKept, InOrder, Priced, monthsFit}
 use Rattle.commitment.specs.Windows.{HoursOf}
 use Rattle.optimality.specs.declared.Budgets.{Budgets}
-use Rattle.optimality.specs.Cells.{figuresOf, withMost}
-use Rattle.optimality.specs.Years.{cappedBy}
+use Rattle.optimality.specs.declared.Cell.{Cell}
+use Rattle.optimality.specs.Cells.{InTable, figuresOf, withMost}
+use Rattle.optimality.specs.Runs.{Under}
+use Rattle.optimality.specs.Years.{cappedBy, yearValue}
 use Rattle.geometry.specs.Geometry.{width}
+use Rattle.layers.specs.Filling.{quartersIn}
 use Rattle.months.specs.declared.annual.Caps.{Caps}
 use Rattle.months.specs.declared.annual.Year.{Year}
 use Rattle.months.specs.Annual.{cutAt, slots}
 use Rattle.months.specs.Annual as annual
+use Rattle.months.specs.Planning.{YearOf}
+use Rattle.yearly.specs.declared.runs.Run.{Run}
 
 abbrev pub LimitsSmall : Limits → Type 0
 LimitsSmall limits = (which : Limitation) → limitKept mostMwh (limitFor limits which) ≡ true
@@ -61,3 +68,37 @@ pub record InYear (u : UnitRecord) (monthly : Monthly) (y : Year) (prices : List
   pub layers : slots (y .all) cuts * y .width ≤ y .work
   pub boxes : let box = width (withMost (y .figures) (capBy u (length prices) (monthly .limits))) in box + box ≤ y .room
   pub fits : y .work + y .room ≤ cells
+
+-- ---- a run: limitations of the year at most the case's, and of the months at most the case's, one month apart
+
+abbrev pub figuresIn : Run → ℕ → Limits
+figuresIn run k = cond (eqb k (run .apart)) (run .other) (run .each)
+
+abbrev pub capsIn : UnitRecord → ℕ → Run → Caps
+capsIn u n run = record { each = capBy u n (run .each); apart = run .apart; other = capBy u n (run .other) }
+
+pub record RunOf (u : UnitRecord) (monthly : Monthly) (run : Run) : Type 0 where
+  pub year : Under (run .limits) (u .limits)
+  pub each : Under (run .each) (monthly .limits)
+  pub other : Under (run .other) (monthly .limits)
+
+abbrev pub monthsIn : Run → List ℕ → List Month
+monthsIn run cuts = monthsBy (figuresIn run) cuts 0 (length cuts - 1)
+
+-- ---- what one run asks and gives
+
+pub record WorthAsked (y : Year) (cells prices : List ℤ) (cuts : List ℕ) (from : Cell) : Type 0 where
+  pub chain : annual.ChainAsked y (length cells) prices cuts
+  pub here : InTable (y .figures) from
+
+-- what the year is worth from the cell on, whatever months the cuts and the caps are
+abbrev pub WorthIs : Year → List ℤ → List ℕ → Cell → BestProfit → Type 0
+WorthIs y prices cuts from r =
+    (g : Generator) (months : List Month) → YearOf g y cuts months → r ≡ yearValue g (y .figures) months (quartersIn (y .hours) prices) from
+
+-- the caps of a run's months, by figures in range
+pub record CapsAsked (u : UnitRecord) (monthly : Monthly) (y : Year) (n : ℕ) (run : Run) : Type 0 where
+  pub kept : generatorKept (u .generator) ≡ true
+  pub each : LimitsSmall (run .each)
+  pub other : LimitsSmall (run .other)
+  pub figures : y .figures ≡ figuresOf u n
