@@ -19,7 +19,7 @@ use Rattle.commitment.specs.declared.UnitRecord.{UnitRecord}
 use Rattle.commitment.specs.Causes.{unless}
 use Rattle.commitment.specs.Counting.{wasOn, startsIn, onIntervals, outputSum}
 use Rattle.commitment.specs.Keeping.{runsLast, spellsLast, keepsStarts, keepsRuns, keepsSpells, keepsHours, keepsMwh, keepsWindow}
-use Rattle.commitment.specs.Keeping.{keepsYear, keepsMonthly, keepsCase}
+use Rattle.commitment.specs.Keeping.{keepsYear, keepsCase}
 use Rattle.commitment.specs.Profit.{earned, earnedIn, startCost, profit}
 use Rattle.lists.specs.Every.{every}
 use Rattle.commitment.specs.Schedule.{isOutput, isSchedule}
@@ -29,7 +29,7 @@ use Rattle.assessment.specs.declared.Walk.{Walk}
 use Rattle.assessment.specs.declared.Walked.{Walked}
 use Rattle.assessment.specs.declared.Walked.the-variants.{Whole, Broken}
 use Rattle.assessment.specs.Assessed.{assessedBy}
-use Rattle.assessment.specs.Walking.{openingWalk, mayFollow, stepped, walkFrom, settled, concluded, monthsAlso}
+use Rattle.assessment.specs.Walking.{openingWalk, mayFollow, stepped, walkFrom, settled, concluded, keepsMonthly, monthsAlso}
 
 abbrev standing : Bool → ℕ → ℕ → ℕ → ℕ → ℤ → Walk
 standing on spent starts running output p =

@@ -20,14 +20,13 @@ ghost use Rattle.commitment.specs.declared.Checked.the-variants as checked;
 ghost use Rattle.commitment.specs.Limits.{within, limitKept};
 ghost use Rattle.commitment.specs.Profit as profits;
 ghost use Rattle.commitment.specs.Bounds.{mostMw, mostMwh, mostPrice};
-ghost use Rattle.commitment.specs.Keeping.{keepsMonthly};
 ghost use Rattle.commitment.specs.Ranges.{generatorKept, rangesKept, shapeKept, pricesKept, caseChecked, InOrder};
 ghost use Rattle.commitment.specs.Schedule.{isOutput};
 ghost use Rattle.assessment.specs.Assessed.{assessed, assessedBy, handedIn, assessedNumber, assessedProfit};
 ghost use Rattle.assessment.specs.Walking.{openingWalk, spellKept, mayFollow, stepped, walkFrom};
 ghost use Rattle.assessment.specs.declared.Assessed.the-variants as answers;
 ghost use Rattle.assessment.specs.Counting.{Outputs};
-ghost use Rattle.assessment.specs.Walking.{spentWithin, settled, concluded, monthsAlso, SmallLimits, Small};
+ghost use Rattle.assessment.specs.Walking.{spentWithin, settled, concluded, keepsMonthly, monthsAlso, SmallLimits, Small};
 ghost use Rattle.assessment.specs.Walking as walking;
 
 pub enum Assessed {

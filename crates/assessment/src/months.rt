@@ -18,10 +18,10 @@ ghost use Rattle.calendar.specs.Months.{yearIntervals};
 ghost use Rattle.commitment.specs.Bounds.{mostMw};
 ghost use Rattle.commitment.specs.declared.Months.the-variants.{Limited};
 ghost use Rattle.commitment.specs.Counting.{wasOn};
-ghost use Rattle.commitment.specs.Keeping.{monthsUnder, keepsMonthly};
+ghost use Rattle.commitment.specs.Keeping.{monthsUnder};
 ghost use Rattle.commitment.specs.Months.{monthsOf, keepsMonths};
 ghost use Rattle.commitment.specs.Ranges.{windowKept, monthlyKept, InOrder};
-ghost use Rattle.assessment.specs.Walking.{SmallLimits};
+ghost use Rattle.assessment.specs.Walking.{keepsMonthly, SmallLimits};
 ghost use Rattle.assessment.specs.Counting.{countsOf, Room, Outputs};
 ghost use Rattle.assessment.specs.Counting as counting;
 

@@ -3,6 +3,7 @@ use mathlib.Core.Path.{_≡_, refl, sym, ap, _∙_}
 use mathlib.Core.Bool.{Bool, true, false, cond, false≢true}
 use mathlib.Core.List.{List, [], _∷_, _++_}
 use Prim.Native.Nat.{ℕ, zero, suc, _+_, _*_, _≤_, _<_}
+use native.Mathlib.Nat.{mul-le-mul-right}
 use native.Mathlib.Omega.{arith}
 use lib.Dec.{leb}
 use lib.IntN.{ℤ, pos}
@@ -12,12 +13,12 @@ use Rattle.commitment.specs.declared.Checked.the-variants.{Passed}
 use Rattle.commitment.specs.declared.UnitRecord.{UnitRecord}
 use Rattle.commitment.specs.Causes.{_else_, firstOf}
 use Rattle.commitment.specs.Bounds.{mostIntervals, mostCells}
-use Rattle.commitment.specs.Cells.{layerCells, cellsNeeded, cellsLong, cellsUsed, met}
+use Rattle.commitment.specs.Cells.{layerCells, monthCells, cellsNeeded, cellsLong, cellsUsed, met}
 use Rattle.commitment.specs.Keeping.{opensIn}
 use Rattle.commitment.specs.Ranges.{pricesKept, permitKept, dateKept, caseChecks, caseChecked}
 use Rattle.commitment.specs.declared.windows.Hours.{Hours}
 use Rattle.commitment.specs.Windows.{opens, HoursOf}
-use Rattle.commitment.proofs.Cells.{met-so, met-both}
+use Rattle.commitment.proofs.Cells.{met-so, met-both, needed-alone, long-alone}
 use Rattle.commitment.proofs.Causes.{checkedThen, in-turn, unless-passed, then-passed}
 use Rattle.commitment.proofs.Passing.{Passing, passing}
 use Rattle.commitment.proofs.Ranges.{in-range}
@@ -118,6 +119,13 @@ module _ (u : UnitRecord) (prices : List ℤ) (lent : ℕ) (m : Model) (of : Mod
   layer-is : m .width ≡ layerCells u (length prices)
   layer-is = of .wide ∙ ap width (of .figures) ∙ width-is u (length prices)
 
+  -- what is needed, and what the long table takes, in layers: no month asks for more
+  needed-is : cellsNeeded u (length prices) ≡ 2 * layerCells u (length prices)
+  needed-is = needed-alone u (length prices) (of .alone)
+
+  long-is : cellsLong u (length prices) ≡ (length prices + 1) * layerCells u (length prices)
+  long-is = long-alone u (length prices) (of .alone)
+
   pub quarters : quartersIn (m .hours) prices ≡ quartersOf u prices
   quarters = quarters-are u prices (of .order .short) (m .hours) (of .opened)
 
@@ -130,17 +138,17 @@ module _ (u : UnitRecord) (prices : List ℤ) (lent : ℕ) (m : Model) (of : Mod
     long-both = met-both (cellsLong u (length prices)) lent long-met
 
     pub long-room : Room (m .figures) (length prices) lent
-    long-room = record { sound = sound; short = of .order .short; fits = rw (of .figures, width-is u (length prices)) (long-both .1) }
+    long-room = record { sound = sound; short = of .order .short; fits = rw (of .figures, width-is u (length prices)) (rw long-is at (long-both .1)) }
 
     pub table-used : (length prices + 1) * m .width ≡ cellsUsed u (length prices) lent
-    table-used = ap (λ (n : ℕ). (length prices + 1) * n) layer-is ∙ long-used u (length prices) lent long-met
+    table-used = ap (λ (n : ℕ). (length prices + 1) * n) layer-is ∙ sym long-is ∙ long-used u (length prices) lent long-met
 
   -- two layers, which are lent in any case
   two-both : (cellsNeeded u (length prices) ≤ mostCells) × (cellsNeeded u (length prices) ≤ lent)
   two-both = met-both (cellsNeeded u (length prices)) lent (of .needed)
 
   pub two-fit : m .width + m .width ≤ lent
-  two-fit = omega (arith, layer-is, two-both .1)
+  two-fit = omega (arith, layer-is, needed-is, two-both .1)
 
   module _ (short : m .long ≡ false) where
     too-long : met (cellsLong u (length prices)) lent ≡ false
@@ -149,7 +157,7 @@ module _ (u : UnitRecord) (prices : List ℤ) (lent : ℕ) (m : Model) (of : Mod
     pub layers-used : m .width + m .width ≡ cellsUsed u (length prices) lent
     layers-used =
         let twice : m .width + m .width ≡ 2 * m .width = omega arith in
-        twice ∙ ap (λ (k : ℕ). 2 * k) layer-is ∙ two-used u (length prices) lent too-long
+        twice ∙ ap (λ (k : ℕ). 2 * k) layer-is ∙ sym needed-is ∙ two-used u (length prices) lent too-long
 
     -- where the long table does not fit and two layers do, there are two intervals
     pub two-intervals : 2 ≤ length prices
@@ -160,9 +168,12 @@ module _ (u : UnitRecord) (prices : List ℤ) (lent : ℕ) (m : Model) (of : Mod
             → met (cellsLong u n) lent ≡ false → ⊥
         no-larger n less fits unmet = false≢true (sym unmet ∙ met-so (cellsLong u n) lent (omega (arith, fits .0)) (omega (arith, fits .1)))
 
+        few : (n : ℕ) → n + 1 ≤ 2 → cellsLong u n ≤ cellsNeeded u n
+        few n h = mul-le-mul-right (monthCells u n) (mul-le-mul-right (layerCells u n) h)
+
         by : (n : ℕ) → (cellsNeeded u n ≤ mostCells) × (cellsNeeded u n ≤ lent) → met (cellsLong u n) lent ≡ false → 2 ≤ n
-        by zero fits unmet = absurd (no-larger 0 (omega arith) fits unmet)
-        by (suc zero) fits unmet = absurd (no-larger 1 (omega arith) fits unmet)
+        by zero fits unmet = absurd (no-larger 0 (few 0 (omega arith)) fits unmet)
+        by (suc zero) fits unmet = absurd (no-larger 1 (few 1 (omega arith)) fits unmet)
         by (suc (suc n)) fits unmet = omega arith
 
   pub used-fits : cellsUsed u (length prices) lent ≤ lent
@@ -215,7 +226,7 @@ module _ (u : UnitRecord) (prices : List ℤ) (m : Model) (cells : List ℤ) (of
             record {
               sound = sound u prices (length cells) m of;
               short = omega arith;
-              fits = rw (of .figures, width-is u (length prices)) (two-both u prices (length cells) m of .1);
+              fits = rw (of .figures, width-is u (length prices)) (rw (needed-is u prices (length cells) m of) at (two-both u prices (length cells) m of .1));
             };
         wide = of .wide;
         short = of .order .short;
@@ -226,7 +237,7 @@ module _ (u : UnitRecord) (prices : List ℤ) (m : Model) (cells : List ℤ) (of
   -- the first layer, brought to the front, tells
   pub told : {planning : Bool} → Begun m prices planning cells → Told u prices cells
   told begun =
-      told-in u prices cells (of .order) (omega (arith, two-fit u prices (length cells) m of, ap width (of .figures), of .wide))
+      told-in u prices cells (of .alone) (of .order) (omega (arith, two-fit u prices (length cells) m of, ap width (of .figures), of .wide))
       (rw (of .figures, quarters u prices (length cells) m of) at (begun .layer))
 
 -- ---- the scratch after the cells used are cleared, of which the work left what lies behind them

@@ -5,6 +5,7 @@ use mathlib.Core.List.{List}
 use Prim.Native.Nat.{ℕ, _≤_}
 use lib.IntN.{ℤ}
 use lib.ListN.{length}
+use Rattle.commitment.specs.declared.Months.the-variants.{Unlimited}
 use Rattle.commitment.specs.declared.UnitRecord.{UnitRecord}
 use Rattle.commitment.specs.Cells.{cellsNeeded, cellsLong, met}
 use Rattle.commitment.specs.Ranges.{InOrder, Priced}
@@ -17,8 +18,9 @@ use Rattle.layers.specs.Filling.{quartersIn}
 use Rattle.halving.specs.Tasks.{FirstPass}
 use Rattle.planner.specs.declared.models.Model.{Model}
 
--- the model of a case in order, to which so many cells are lent
+-- the model of a case in order without month figures, to which so many cells are lent
 pub record ModelOf (u : UnitRecord) (prices : List ℤ) (lent : ℕ) (m : Model) : Type 0 where
+  pub alone : u .months ≡ Unlimited
   pub order : InOrder u (length prices)
   pub some : 1 ≤ length prices
   pub priced : Priced prices

@@ -1,10 +1,10 @@
 // Planning and valuing: the calls of the outside, none of which has a `requires`. Below them: what an answer holds (contents), what is
 // found before any work (checks), a case that passed (cases), its first layer in the scratch that is used (models), and what is read from it (reading).
 
-mod cases;
 mod checks;
 pub mod contents;
 mod models;
+mod plain;
 mod reading;
 
 use commitment::Cause;
@@ -63,7 +63,7 @@ pub fn value(unit: UnitRecord, prices: &[i64], scratch: &mut [i64]) -> Valued
 {
     match checks::check_lent(unit, prices, true, scratch.len()) {
         Checked::Refused(cause) => Valued::Refused(cause),
-        Checked::Passed => cases::value_case(unit, prices, scratch),
+        Checked::Passed => plain::value(unit, prices, scratch),
     }
 }
 
@@ -81,7 +81,7 @@ pub fn report_into(
     let long = prices.len() <= schedule.len();
     match checks::check_lent(unit, prices, long, scratch.len()) {
         Checked::Refused(cause) => Reported::Refused(cause),
-        Checked::Passed => cases::report_case(unit, prices, scratch, schedule),
+        Checked::Passed => plain::report(unit, prices, scratch, schedule),
     }
 }
 

@@ -1,4 +1,4 @@
-// What a case is worked out with, and its first layer: in the long table where that was lent, else in two layers.
+// What a case without month figures is worked out with, and its first layer: in the long table where that was lent, else in two layers.
 
 use commitment::UnitRecord;
 use commitment::windows;
@@ -9,6 +9,7 @@ ghost use mathlib.Core.Bool.{true, cond};
 ghost use Prim.Native.Nat.{_≤_};
 ghost use lib.ListN.{length};
 ghost use Rattle.commitment.specs.declared.Checked.the-variants.{Passed};
+ghost use Rattle.commitment.specs.declared.Months.the-variants.{Unlimited};
 ghost use Rattle.commitment.specs.Bounds.{mostCells};
 ghost use Rattle.commitment.specs.Cells.{cellsNeeded, cellsLong, cellsUsed};
 ghost use Rattle.commitment.specs.Ranges.{InOrder};
@@ -27,6 +28,7 @@ pub struct Model {
 // Worked out once for a call; every step after it takes the model.
 pub fn model_of(unit: UnitRecord, prices: &[i64], lent: usize) -> Model
     requires { ⌜ lentChecked unit (now prices) true lent ≡ Passed ⌝ }
+    requires { ⌜ unit .months ≡ Unlimited ⌝ }
     ensures { λ r. ⌜ ModelOf unit (now (prices .entry)) lent r ⌝ }
 {
     let n = prices.len();

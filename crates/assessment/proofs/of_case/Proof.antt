@@ -7,13 +7,13 @@ use lib.ListN.{length}
 use Rattle.commitment.specs.declared.Cause.the-variants.{NotKept}
 use Rattle.commitment.specs.declared.Checked.the-variants.{Passed}
 use Rattle.commitment.specs.Causes.{unless}
-use Rattle.commitment.specs.Keeping.{keepsYear, keepsMonthly}
+use Rattle.commitment.specs.Keeping.{keepsYear}
 use Rattle.commitment.specs.Profit.{profit}
 use Rattle.commitment.specs.Schedule.{isSchedule}
 use Rattle.commitment.specs.Ranges.{InOrder, pricesKept}
 use Rattle.commitment.proofs.Passing.{passing}
 use Rattle.assessment.specs.Assessed.{assessedBy}
-use Rattle.assessment.specs.Walking.{concluded, monthsAlso}
+use Rattle.assessment.specs.Walking.{concluded, keepsMonthly, monthsAlso}
 use Rattle.assessment.proofs.Bounds.{outputs-small}
 use Rattle.assessment.proofs.Walking.{walk-is, hours-also, hours-broken, months-also, outputs-of}
 use Rattle.assessment.proofs.of_case.Statement.{statement}

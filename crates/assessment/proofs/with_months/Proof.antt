@@ -1,10 +1,9 @@
 -- By cases on the answer.
 use mathlib.Core.Path.{ap, sym, _∙_}
 use lib.IntN.{ℤ}
-use Rattle.commitment.specs.Keeping.{keepsMonthly}
 use Rattle.integers.proofs.Ranges.{plain-fits}
 use Rattle.assessment.specs.declared.Assessed.the-variants.{Profit}
-use Rattle.assessment.specs.Walking.{monthsAlso}
+use Rattle.assessment.specs.Walking.{keepsMonthly, monthsAlso}
 use borrow.Author.Needs.{needs}
 use Rattle.assessment.proofs.with_months.Statement.{statement}
 use Rattle.assessment.proofs.with_months.Tie as tie

@@ -12,7 +12,7 @@ use Rattle.planner.proofs.models.model_of.Statement.{statement}
 use Rattle.planner.proofs.models.model_of.Tie as tie
 
 passed : (c : tie.Start) → Lent (c .args .unit) (c .args .prices .now) true (c .args .lent)
-passed c = lent (c .args .unit) (c .args .prices .now) true (c .args .lent) (c .pre)
+passed c = lent (c .args .unit) (c .args .prices .now) true (c .args .lent) (c .pre .0)
 
 layer-cells-requires : tie.Need-layer-cells-requires
 layer-cells-requires c κs =
@@ -31,6 +31,7 @@ returns c =
     let s = f .before in
     let p = passed s in
     record {
+      alone = s .pre .1;
       order = p .case .order;
       some = p .case .some;
       priced = prices-small (s .args .prices .now) (p .case .prices);

@@ -5,8 +5,8 @@ use lib.ListN.{length}
 use Rattle.commitment.specs.Cells.{cellsUsed}
 use Rattle.planner.proofs.Lent.{used-fits, used-counted, used-is, model-on, cleared}
 use borrow.Author.Needs.{needs}
-use Rattle.planner.proofs.cases.report_case.Statement.{statement}
-use Rattle.planner.proofs.cases.report_case.Tie as tie
+use Rattle.planner.proofs.plain.report.Statement.{statement}
+use Rattle.planner.proofs.plain.report.Tie as tie
 
 read-report-requires : tie.Need-read-report-requires
 read-report-requires c κs =
@@ -19,7 +19,7 @@ read-report-requires c κs =
             (made .first-layer .kept .1 .1 .1 .0);
         begun = made .first-layer .ensures .0;
       },
-      s .pre .1,
+      s .pre .0 .1,
     )
 
 cells-used-requires : tie.Need-cells-used-requires
@@ -62,8 +62,8 @@ returns c =
     rw (made .first-layer .kept .1 .1 .1 .0) at (r .1 .1) ∙ made .first-layer .ensures .1 in
     (r .0, (r .1 .0, clear .clear .ensures ∙ cleared _ _ (a .scratch .now) (read .read-report .last .1 .1 .1 .0) (used u) (rw (used u) behind)))
 
-pub report-case-spec : {M : Type 1} → statement M
-report-case-spec =
+pub report-spec : {M : Type 1} → statement M
+report-spec =
     tie.close
     (tie.spec
     (λ c κs. search needs) (λ c κs. search needs)

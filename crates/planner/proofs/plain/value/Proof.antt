@@ -5,8 +5,8 @@ use lib.ListN.{length}
 use Rattle.commitment.specs.Cells.{cellsUsed}
 use Rattle.planner.proofs.Lent.{used-fits, used-counted, used-is, model-on, told, cleared}
 use borrow.Author.Needs.{needs}
-use Rattle.planner.proofs.cases.value_case.Statement.{statement}
-use Rattle.planner.proofs.cases.value_case.Tie as tie
+use Rattle.planner.proofs.plain.value.Statement.{statement}
+use Rattle.planner.proofs.plain.value.Tie as tie
 
 read-outcomes-requires : tie.Need-read-outcomes-requires
 read-outcomes-requires c κs =
@@ -15,7 +15,7 @@ read-outcomes-requires c κs =
     let a = model .before .args in
     let on =
     model-on (a .unit) (a .prices .now) (length (a .scratch .now)) (model .model-of .result) (model .model-of .ensures) (made .first-layer .kept .1 .1 .1 .0) in
-    (told (a .unit) (a .prices .now) (model .model-of .result) (made .first-layer .last .1 .1 .1 .0) on (made .first-layer .ensures .0), on .figures)
+    ((told (a .unit) (a .prices .now) (model .model-of .result) (made .first-layer .last .1 .1 .1 .0) on (made .first-layer .ensures .0), on .figures), on .alone)
 
 cells-used-requires : tie.Need-cells-used-requires
 cells-used-requires c κs =
@@ -52,8 +52,8 @@ returns c =
     let scratch = cleared _ _ (a .scratch .now) (made .first-layer .last .1 .1 .1 .0) (used u) (rw (used u) (made .first-layer .ensures .1)) in
     (read .read-outcomes .ensures, clear .clear .ensures ∙ scratch)
 
-pub value-case-spec : {M : Type 1} → statement M
-value-case-spec =
+pub value-spec : {M : Type 1} → statement M
+value-spec =
     tie.close
     (tie.spec
     (λ c κs. search needs) (λ c κs. search needs)
