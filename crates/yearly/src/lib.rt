@@ -2,4 +2,5 @@
 
 pub mod models;
 pub mod outcomes;
+pub mod plans;
 pub mod runs;

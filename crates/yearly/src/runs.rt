@@ -16,6 +16,7 @@ ghost use lib.ListN.{length};
 ghost use Rattle.commitment.specs.Best.{bestIn, profitOf};
 ghost use Rattle.commitment.specs.Limits.{limited};
 ghost use Rattle.halving.specs.Tasks.{Untouched};
+ghost use Rattle.months.specs.Planning.{Stood};
 ghost use Rattle.valuation.specs.Telling.{amount, mostAmount};
 ghost use Rattle.yearly.specs.Models.{InYear, RunOf, CapsAsked, capsIn, monthsIn, WorthAsked, WorthIs};
 
@@ -35,10 +36,11 @@ pub struct Run {
 }
 
 // What the year is worth from a cell on: the chain back to the first month, whose layer tells it.
-fn worth(cells: &mut [i64], y: Year, prices: &[i64], cuts: &[usize], from: Cell) -> BestProfit
+pub fn worth(cells: &mut [i64], y: Year, prices: &[i64], cuts: &[usize], from: Cell) -> BestProfit
     requires { ⌜ WorthAsked y (now cells) (now prices) (now cuts) from ⌝ }
     ensures { λ r. ⌜ WorthIs y (now (prices .entry)) (now (cuts .entry)) from r ⌝ }
     ensures { λ r. ⌜ natAbs (amount r) < mostAmount ⌝ }
+    ensures { λ _. ⌜ Stood y (now (prices .entry)) (now (cuts .entry)) (now (cells .exit)) 0 ⌝ }
     ensures { λ _. ⌜ Untouched (y .work + y .room) (now (cells .entry)) (now (cells .exit)) ⌝ }
 {
     annual::chain(&mut *cells, y, prices, cuts, 0);

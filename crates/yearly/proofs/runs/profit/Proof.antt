@@ -82,7 +82,7 @@ returns c =
           ∙ sym (profit-is (a .c .unit) (a .c .monthly) (a .c .year) (a .prices .now) (a .cuts .now) (length (a .cells .now)) (o .pre .0) (a .run) (o .pre .1)),
       (
         told .worth .ensures .1 .0,
-        subst (λ (z : Year). Untouched (z .work + z .room) (a .cells .now) (told .worth .last .0)) (year-is made) (told .worth .ensures .1 .1),
+        subst (λ (z : Year). Untouched (z .work + z .room) (a .cells .now) (told .worth .last .0)) (year-is made) (told .worth .ensures .1 .1 .1),
       ),
     )
 

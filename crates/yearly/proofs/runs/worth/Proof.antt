@@ -1,5 +1,6 @@
 -- The chain, and what its first layer tells.
 use mathlib.Core.Path.{_≡_, sym, subst}
+use mathlib.Core.Logic.{inl}
 use native.Mathlib.Omega.{arith}
 use lib.IntN.{natAbs}
 use lib.ListN.{length}
@@ -37,7 +38,10 @@ returns c =
       (
         subst (λ (r : BestProfit). natAbs (amount r) < mostAmount) (sym (c .best-at .ensures))
             (worth-small (a .y) (a .prices .now) (a .cuts .now) (a .cells .now) now (o .pre .chain) (made .chain .ensures) (a .from) (o .pre .here)),
-        made .chain .ensures .beyond,
+        (
+          λ all j low high. made .chain .ensures .stands j (omega arith) high (inl all),
+          made .chain .ensures .beyond,
+        ),
       ),
     )
 
