@@ -1,11 +1,12 @@
 -- What a case with month figures is worked out with.
 use mathlib.Core.Path.{_≡_}
-use mathlib.Core.Bool.{Bool, true, cond}
+use mathlib.Core.Bool.{Bool, true, false, cond}
 use mathlib.Core.List.{List, [], _∷_}
 use Prim.Native.Nat.{ℕ, zero, suc, _+_, _-_, _*_, _≤_}
 use lib.Dec.{eqb}
 use lib.IntN.{ℤ}
-use lib.ListN.{length, getD}
+use lib.ListN.{length}
+use Rattle.calendar.specs.Months.{mostMonths}
 use Rattle.commitment.specs.declared.BestProfit.{BestProfit}
 use Rattle.commitment.specs.declared.Generator.{Generator}
 use Rattle.commitment.specs.declared.Limitation.{Limitation}
@@ -13,11 +14,12 @@ use Rattle.commitment.specs.declared.Limits.{Limits}
 use Rattle.commitment.specs.declared.Monthly.{Monthly}
 use Rattle.commitment.specs.declared.Months.the-variants.{Limited}
 use Rattle.commitment.specs.declared.UnitRecord.{UnitRecord}
-use Rattle.commitment.specs.Bounds.{mostMwh}
+use Rattle.commitment.specs.declared.windows.Hours.{Hours}
+use Rattle.commitment.specs.Bounds.{mostMwh, mostCells}
 use Rattle.commitment.specs.Keeping.{monthsFor}
 use Rattle.commitment.specs.Limits.{limitKept, limitFor}
 use Rattle.commitment.specs.Months.{Month}
-use Rattle.commitment.specs.Ranges.{generatorKept, InOrder, Priced, monthsFit}
+use Rattle.commitment.specs.Ranges.{generatorKept, monthlyKept, InOrder, Priced, monthsFit}
 use Rattle.commitment.specs.Windows.{HoursOf}
 use Rattle.optimality.specs.declared.Budgets.{Budgets}
 use Rattle.optimality.specs.declared.Cell.{Cell}
@@ -102,3 +104,30 @@ pub record CapsAsked (u : UnitRecord) (monthly : Monthly) (y : Year) (n : ℕ) (
   pub each : LimitsSmall (run .each)
   pub other : LimitsSmall (run .other)
   pub figures : y .figures ≡ figuresOf u n
+
+-- ---- the year of a case
+
+-- a layer for each month and one more
+abbrev pub mostPlaces : ℕ
+mostPlaces = mostMonths + 1
+
+abbrev pub placesIn : Bool → ℕ → ℕ
+placesIn true places = places
+placesIn false places = 2
+
+-- cells for four layers, two of the year and two of a month
+pub record Fitting (u : UnitRecord) (monthly : Monthly) (n places cells : ℕ) : Type 0 where
+  pub order : InOrder u n
+  pub kept : monthlyKept monthly ≡ true
+  pub few : places ≤ mostPlaces
+  pub four : 4 * width (figuresOf u n) ≤ cells
+  pub counted : cells ≤ mostCells
+
+pub record YearMade (u : UnitRecord) (monthly : Monthly) (hours : Hours) (n places cells : ℕ) (y : Year) : Type 0 where
+  pub figures : y .figures ≡ figuresOf u n
+  pub clock : y .hours ≡ hours
+  pub wide : y .width ≡ width (y .figures)
+  pub caps : y .caps ≡ evenCaps (capBy u n (monthly .limits))
+  pub layers : placesIn (y .all) places * y .width ≤ y .work
+  pub boxes : let box = width (withMost (y .figures) (capBy u n (monthly .limits))) in box + box ≤ y .room
+  pub fits : y .work + y .room ≤ cells

@@ -4,21 +4,21 @@ use commitment::Generator;
 use commitment::Limit;
 use commitment::Limitation;
 use commitment::Limits;
+use commitment::Monthly;
 use commitment::UnitRecord;
 use commitment::windows::Hours;
 use months::annual::Caps;
 use months::annual::Year;
 use months::boxes;
 use optimality::Budgets;
-use optimality::Figures;
 ghost use mathlib.Core.Path.{_≡_};
 ghost use mathlib.Core.Bool.{true};
-ghost use Prim.Native.Nat.{_≤_};
-ghost use Rattle.commitment.specs.Bounds.{mostMwh};
+ghost use Prim.Native.Nat.{_*_, _≤_};
+ghost use Rattle.commitment.specs.Bounds.{mostMwh, mostCells};
 ghost use Rattle.commitment.specs.Limits.{limitKept};
 ghost use Rattle.commitment.specs.Ranges.{generatorKept};
 ghost use Rattle.optimality.specs.Years as years;
-ghost use Rattle.yearly.specs.Models.{LimitsSmall, evenCaps, withCaps};
+ghost use Rattle.yearly.specs.Models.{LimitsSmall, evenCaps, withCaps, mostPlaces, placesIn, Fitting, YearMade};
 
 // What is left of one limitation, no more than the month's figure comes to.
 fn capped(g: Generator, which: Limitation, limit: Limit, left: usize) -> usize
@@ -72,5 +72,48 @@ pub fn with_caps(y: Year, caps: Caps) -> Year
         all: y.all,
         work: y.work,
         room: y.room,
+    }
+}
+
+// The cells in front of the work: a place for each layer, or two that take turns.
+fn layers_cells(all: bool, places: usize, width: usize) -> usize
+    requires { ⌜ (places ≤ mostPlaces) × (width ≤ mostCells) ⌝ }
+    ensures { λ r. ⌜ r ≡ placesIn all places * width ⌝ }
+{
+    if all {
+        return places * width;
+    }
+    2 * width
+}
+
+// The year of a case, in so many cells: each layer has a place of its own where they suffice.
+pub fn year_of(
+    unit: UnitRecord,
+    monthly: Monthly,
+    hours: Hours,
+    n: usize,
+    places: usize,
+    cells: usize,
+) -> Year
+    requires { ⌜ Fitting unit monthly n places cells ⌝ }
+    ensures { λ r. ⌜ YearMade unit monthly hours n places cells r ⌝ }
+{
+    let figures = budgets::figures_of(unit, n);
+    let width = geometry::layer_cells(figures);
+    let most = figures.most;
+    let limits = monthly.limits;
+    let cap = capped_by(unit.generator, limits, most);
+    let room = 2 * geometry::layer_cells(boxes::with_most(figures, cap));
+    let all = places * width + room <= cells;
+    let work = layers_cells(all, places, width);
+    let caps = even_caps(cap);
+    Year {
+        figures,
+        hours,
+        caps,
+        width,
+        all,
+        work,
+        room,
     }
 }
