@@ -6,6 +6,7 @@ pub mod contents;
 mod models;
 mod plain;
 mod reading;
+mod years;
 
 use commitment::Cause;
 use commitment::Checked;

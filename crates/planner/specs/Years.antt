@@ -1,0 +1,43 @@
+-- A case with month figures, in the cells that are used.
+use mathlib.Core.Path.{_≡_}
+use mathlib.Core.Bool.{true}
+use mathlib.Core.List.{List}
+use Prim.Native.Nat.{ℕ, _+_, _≤_}
+use lib.IntN.{ℤ}
+use lib.ListN.{length, take}
+use Rattle.calendar.specs.Dates.{lastYear}
+use Rattle.calendar.specs.Dates as dates
+use Rattle.calendar.specs.Months.{yearIntervals}
+use Rattle.commitment.specs.declared.Monthly.{Monthly}
+use Rattle.commitment.specs.declared.Months.the-variants.{Limited}
+use Rattle.commitment.specs.declared.Permit.{Permit}
+use Rattle.commitment.specs.declared.Permit.the-variants.{Within}
+use Rattle.commitment.specs.declared.Window.{Window}
+use Rattle.commitment.specs.declared.UnitRecord.{UnitRecord}
+use Rattle.commitment.specs.declared.cuts.Cuts.{Cuts}
+use Rattle.commitment.specs.Cuts.{CutsOf}
+use Rattle.commitment.specs.Ranges.{permitKept, dateKept}
+use Rattle.commitment.specs.Windows.{HoursOf}
+use Rattle.yearly.specs.declared.runs.Case.{Case}
+use Rattle.yearly.specs.Models.{Fitting, YearMade}
+
+-- a permit with a date, for so many intervals
+pub record Dated (permit : Permit) (n : ℕ) : Type 0 where
+  pub window : Window
+  pub is : permit ≡ Within window
+  pub date : dates.Within lastYear (window .date)
+  pub some : 1 ≤ n
+  pub short : n ≤ yearIntervals
+
+abbrev pub CutsFor : Permit → ℕ → Cuts → Type 0
+CutsFor permit n cuts = (w : Window) → permit ≡ Within w → CutsOf (w .date) n cuts
+
+pub record CaseAsked (u : UnitRecord) (monthly : Monthly) (n places cells : ℕ) : Type 0 where
+  pub fitting : Fitting u monthly n places cells
+  pub permitted : (permitKept (u .permit) ≡ true) × (dateKept (u .permit) ≡ true)
+
+pub record CaseOf (u : UnitRecord) (monthly : Monthly) (n places cells : ℕ) (c : Case) : Type 0 where
+  pub unit : c .unit ≡ u
+  pub monthly-is : c .monthly ≡ monthly
+  pub hours : HoursOf (u .permit) (c .year .hours)
+  pub year : YearMade u monthly (c .year .hours) n places cells (c .year)
