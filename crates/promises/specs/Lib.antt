@@ -2,6 +2,7 @@
 -- call and its range; Ends: both ends of each, through the calls. Outcomes: that of a limitation, and its lower run. Scratch: the cells after the work.
 -- Tables: a text as a writer of two tables makes it. Sequences: names in some sequence. Twelve: the worked cases. Appendix: a formula as printed.
 pub mod Ranges
+pub mod Months
 pub mod Causes
 pub mod Outcomes
 pub mod Printed
