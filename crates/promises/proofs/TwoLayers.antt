@@ -13,9 +13,9 @@ use Rattle.commitment.specs.declared.Checked.{Checked}
 use Rattle.commitment.specs.declared.Checked.the-variants.{Passed}
 use Rattle.commitment.specs.declared.UnitRecord.{UnitRecord}
 use Rattle.commitment.specs.Best.{best}
-use Rattle.commitment.specs.declared.Limit.the-variants.{At}
+use Rattle.commitment.specs.declared.Limit.the-variants.{None, At}
 use Rattle.commitment.specs.declared.Limits.{Limits}
-use Rattle.commitment.specs.declared.Months.the-variants.{Unlimited}
+use Rattle.commitment.specs.declared.Months.the-variants.{Unlimited, Limited}
 use Rattle.commitment.specs.Cells.{monthCells, cellsNeeded, cellsLong, cellsUsed, cellsGiven, met}
 use Rattle.commitment.specs.Limits.{limited}
 use Rattle.integers.specs.Capped.{largest, capped}
@@ -143,6 +143,22 @@ widest =
 pub year-cells : (cellsGiven (cellsNeeded c1-year 35136) ≡ 694077296191496) × (cellsGiven (cellsLong c1-year 35136) ≡ largest)
 unfolding monthCells capped
 year-cells = (refl, refl)
+
+-- the same unit without MWh limited, and starts and hours limited in every month too
+abbrev c1-months : UnitRecord
+c1-months =
+    record {
+      generator = c1 .generator;
+      opening = c1 .opening;
+      costs = c1 .costs;
+      limits = record { starts = At 35136; hours = At 8784; mwh = None };
+      permit = c1 .permit;
+      months = Limited (record { limits = record { starts = At 2976; hours = At 744; mwh = None }; valued = 1 });
+    }
+
+pub months-cells : cellsGiven (cellsNeeded c1-months 35136) ≡ 87534048151334408
+unfolding monthCells capped
+months-cells = refl
 
 pub year-used : (lent : ℕ) → cellsUsed c1-year 35136 lent ≡ cellsNeeded c1-year 35136
 unfolding monthCells met

@@ -60,12 +60,18 @@ abbrev pub NoSuchDate : Permit → Type 0
 NoSuchDate AnyHour = ⊥
 NoSuchDate (Within w) = NoSuchDay (w .date)
 
-abbrev pub caseCauses : UnitRecord → List ℤ → List Reason
-caseCauses u prices =
+-- what is said of the record and the prices, figure by figure; then month figures, and the horizon
+abbrev pub figureCauses : UnitRecord → List ℤ → List Reason
+figureCauses u prices =
     (Range when ((InRange (caseFigures u) × MonthGiven (u .months)) × PricesInRange prices → ⊥))
     ∷ (Shape when Misshapen (u .generator .block) (u .generator .pmin) (u .generator .pmax))
     ∷ (Date when NoSuchDate (u .permit))
-    ∷ (Months when MonthsUnfit (u .months) (u .limits) (u .permit) (length prices))
+    ∷ []
+
+abbrev pub caseCauses : UnitRecord → List ℤ → List Reason
+caseCauses u prices =
+    figureCauses u prices
+    ++ (Months when MonthsUnfit (u .months) (u .limits) (u .permit) (length prices))
     ∷ (Horizon when ((length prices ≡ 0) ⊎ (35136 < length prices)))
     ∷ []
 
