@@ -40,6 +40,7 @@ use Rattle.costs.specs.Ranges.{rangeMw, inputsKept, segmentsKept, inputsChecks,
 use Rattle.costs.specs.declared.Costed.the-variants as cost
 use Rattle.costs.specs.Answers.{threeFigures, costedBy, costed}
 use Rattle.assessment.specs.declared.Assessed.the-variants as hand
+use Rattle.assessment.proofs.Passed.{rival-exactly}
 use Rattle.assessment.specs.Assessed.{handedChecks, handInChecks, handInChecked, assessedBy, assessed}
 use Rattle.planner.specs.declared.Planned.the-variants as plans
 use Rattle.planner.specs.declared.Report.{Report}
@@ -60,7 +61,7 @@ use Rattle.answers.specs.Sizes.{cellRoom}
 use Rattle.promises.specs.Causes.{Reason, _when_, FirstOf, NoneOf, caseCauses, textCauses, readingCauses, costCauses, handedCauses, handInCauses}
 use Rattle.promises.specs.Causes.{NoRival, tableCauses, slicesCauses, planningCauses, valuingCauses, answeringCauses, clockCauses}
 use Rattle.promises.specs.Causes.{WordTooLarge, listingCauses, lineCauses}
-use Rattle.promises.proofs.Ranges.{unless-so, at-most, as-many, case-range, cost-range, clock-range, misshapen, no-such-day, no-such-date, horizon, not-met}
+use Rattle.promises.proofs.Ranges.{unless-so, at-most, as-many, case-range, cost-range, clock-range, misshapen, no-such-day, no-such-date, months-unfit, horizon, not-met}
 use Rattle.promises.proofs.FirstCause.{Judged, refused-first, passed-none, Answers, answer-refused, answer-given}
 
 -- ---- the checks of a case, and of a text, before those of a call, which may rest on what the case kept
@@ -78,7 +79,11 @@ module _ (u : UnitRecord) (prices : List ℤ) where
         λ ranges. (
           refl,
           misshapen (g .block) (g .pmin) (g .pmax),
-          λ shape. (refl, no-such-date (u .permit), λ _. (refl, horizon (length prices), λ _. next ranges shape)),
+          λ shape. (
+            refl,
+            no-such-date (u .permit),
+            λ _. (refl, months-unfit (u .months) (u .limits) (u .permit) (length prices), λ _. (refl, horizon (length prices), λ _. next ranges shape)),
+          ),
         ),
       )
 
@@ -140,10 +145,7 @@ module _ (u : UnitRecord) (prices : List ℤ) (s : List ℕ) where
       (λ _ _. (refl, as-many (length s) (length prices), λ _. (refl, no-rival-handed, λ _. tt)))
     where
       no-rival-handed : ((isSchedule (u .generator) (length prices) s && keepsCase u s) ≡ false) ↔ (Rival u prices s → ⊥)
-      no-rival-handed = unless-so (isSchedule (u .generator) (length prices) s && keepsCase u s) (kept, λ r. rw (r .schedule, r .kept) refl)
-        where
-          kept : (isSchedule (u .generator) (length prices) s && keepsCase u s) ≡ true → Rival u prices s
-          kept e = let k = both (isSchedule (u .generator) (length prices) s) (keepsCase u s) e in record { schedule = k .0; kept = k .1 }
+      no-rival-handed = unless-so (isSchedule (u .generator) (length prices) s && keepsCase u s) (rival-exactly u prices s)
 
   hand-answers : Answers (λ k. assessedBy k (profit u prices s)) hand.Refused
   hand-answers = record { is = λ _. refl; alike = λ _ _ e. cc; other = λ _ e. let z : _≡_ {A = ℕ} 0 1 = cc in absurd (omega arith) }

@@ -13,9 +13,10 @@ use Rattle.commitment.specs.declared.Checked.{Checked}
 use Rattle.commitment.specs.declared.Checked.the-variants.{Passed}
 use Rattle.commitment.specs.declared.UnitRecord.{UnitRecord}
 use Rattle.commitment.specs.Best.{best}
-use Rattle.commitment.specs.declared.Limit.the-variants.{At}
+use Rattle.commitment.specs.declared.Limit.the-variants.{None, At}
 use Rattle.commitment.specs.declared.Limits.{Limits}
-use Rattle.commitment.specs.Cells.{cellsNeeded, cellsLong, cellsUsed, cellsGiven, met}
+use Rattle.commitment.specs.declared.Months.the-variants.{Unlimited, Limited}
+use Rattle.commitment.specs.Cells.{monthCells, cellsNeeded, cellsLong, cellsUsed, cellsGiven, met}
 use Rattle.commitment.specs.Limits.{limited}
 use Rattle.integers.specs.Capped.{largest, capped}
 use Rattle.commitment.specs.Ranges.{rangesKept, pricesKept}
@@ -104,20 +105,20 @@ one-price u = refl
 -- ---- C1: 588 cells for the long table, 168 for two layers
 
 pub c1-cells : (cellsLong c1 6 ≡ 588) × (cellsNeeded c1 6 ≡ 168) × (cellsUsed c1 6 588 ≡ 588) × (cellsUsed c1 6 587 ≡ 168) × (cellsUsed c1 6 168 ≡ 168)
-unfolding met
+unfolding monthCells met
 c1-cells = (refl, refl, refl, refl, refl)
 
 pub c1-eight : (planned c1 c1-prices 167 6 ≡ planning.Refused Scratch) × (valued c1 c1-prices 167 ≡ valuing.Refused Scratch)
-unfolding met planChecked valueChecked rangesKept pricesKept
+unfolding monthCells met planChecked valueChecked rangesKept pricesKept
 c1-eight = (refl, refl)
 
 -- from 587 and from 168 of them it is planned as from the program's, and C7 is valued from its 336
 pub c1-planned : (planned c1 c1-prices 587 6 ≡ planned c1 c1-prices cellRoom 6) × (planned c1 c1-prices 168 6 ≡ planned c1 c1-prices cellRoom 6)
-unfolding met
+unfolding monthCells met
 c1-planned = (same-plan c1 c1-prices 587 cellRoom refl refl 6, same-plan c1 c1-prices 168 cellRoom refl refl 6)
 
 pub c7-valued : (cellsNeeded c7 6 ≡ 336) × (valued c7 c1-prices 336 ≡ valued c7 c1-prices cellRoom)
-unfolding met
+unfolding monthCells met
 c7-valued = (refl, same-value c7 c1-prices 336 cellRoom refl refl)
 
 -- ---- above 10^18: the long table of a year for C1's unit at the ends of its limitations, which no scratch holds; and both sizes for the widest unit, 8
@@ -136,20 +137,37 @@ widest =
       costs = c1 .costs;
       limits = endLimits;
       permit = c1 .permit;
+      months = Unlimited;
     }
 
 pub year-cells : (cellsGiven (cellsNeeded c1-year 35136) ≡ 694077296191496) × (cellsGiven (cellsLong c1-year 35136) ≡ largest)
-unfolding capped
+unfolding monthCells capped
 year-cells = (refl, refl)
 
+-- the same unit without MWh limited, and starts and hours limited in every month too
+abbrev c1-months : UnitRecord
+c1-months =
+    record {
+      generator = c1 .generator;
+      opening = c1 .opening;
+      costs = c1 .costs;
+      limits = record { starts = At 35136; hours = At 8784; mwh = None };
+      permit = c1 .permit;
+      months = Limited (record { limits = record { starts = At 2976; hours = At 744; mwh = None }; valued = 1 });
+    }
+
+pub months-cells : cellsGiven (cellsNeeded c1-months 35136) ≡ 87534048151334408
+unfolding monthCells capped
+months-cells = refl
+
 pub year-used : (lent : ℕ) → cellsUsed c1-year 35136 lent ≡ cellsNeeded c1-year 35136
-unfolding met
+unfolding monthCells met
 year-used lent = refl
 
 pub widest-cells : (cellsGiven (cellsNeeded widest 35136) ≡ largest) × (cellsGiven (cellsLong widest 35136) ≡ largest)
-unfolding capped
+unfolding monthCells capped
 widest-cells = (refl, refl)
 
 pub widest-never : (lent : ℕ) → met (cellsNeeded widest 35136) lent ≡ false
-unfolding met
+unfolding monthCells met
 widest-never lent = refl
