@@ -1,13 +1,15 @@
 -- A case with month figures, in the cells that are used.
 use mathlib.Core.Path.{_≡_}
-use mathlib.Core.Bool.{true}
+use mathlib.Core.Bool.{Bool, true, _&&_}
 use mathlib.Core.List.{List}
 use Prim.Native.Nat.{ℕ, _+_, _≤_}
+use lib.Dec.{eqb}
 use lib.IntN.{ℤ}
-use lib.ListN.{length, take}
+use lib.ListN.{length}
 use Rattle.calendar.specs.Dates.{lastYear}
 use Rattle.calendar.specs.Dates as dates
 use Rattle.calendar.specs.Months.{yearIntervals}
+use Rattle.commitment.specs.declared.Limitation.the-variants.{Starts, Hours, Mwh}
 use Rattle.commitment.specs.declared.Monthly.{Monthly}
 use Rattle.commitment.specs.declared.Months.the-variants.{Limited}
 use Rattle.commitment.specs.declared.Permit.{Permit}
@@ -15,8 +17,10 @@ use Rattle.commitment.specs.declared.Permit.the-variants.{Within}
 use Rattle.commitment.specs.declared.Window.{Window}
 use Rattle.commitment.specs.declared.UnitRecord.{UnitRecord}
 use Rattle.commitment.specs.declared.cuts.Cuts.{Cuts}
+use Rattle.commitment.specs.Bounds.{mostCells}
+use Rattle.commitment.specs.Cells.{monthCountFor, cellsNeeded}
 use Rattle.commitment.specs.Cuts.{CutsOf}
-use Rattle.commitment.specs.Ranges.{permitKept, dateKept}
+use Rattle.commitment.specs.Ranges.{permitKept, dateKept, monthsFit, InOrder, Priced}
 use Rattle.commitment.specs.Windows.{HoursOf}
 use Rattle.yearly.specs.declared.runs.Case.{Case}
 use Rattle.yearly.specs.Models.{Fitting, YearMade}
@@ -41,3 +45,17 @@ pub record CaseOf (u : UnitRecord) (monthly : Monthly) (n places cells : ℕ) (c
   pub monthly-is : c .monthly ≡ monthly
   pub hours : HoursOf (u .permit) (c .year .hours)
   pub year : YearMade u monthly (c .year .hours) n places cells (c .year)
+
+-- whether no month figure comes to a count
+abbrev pub idleCounts : UnitRecord → ℕ → Bool
+idleCounts u n = eqb (monthCountFor u n Starts) 0 && eqb (monthCountFor u n Hours) 0 && eqb (monthCountFor u n Mwh) 0
+
+-- a case that passed, with month figures, and the cells that are used
+pub record UsedBy (u : UnitRecord) (monthly : Monthly) (prices : List ℤ) (cells : ℕ) : Type 0 where
+  pub order : InOrder u (length prices)
+  pub priced : Priced prices
+  pub some : 1 ≤ length prices
+  pub limited : u .months ≡ Limited monthly
+  pub fit : monthsFit (u .months) (u .limits) (u .permit) (length prices) ≡ true
+  pub needed : cellsNeeded u (length prices) ≤ cells
+  pub counted : cells ≤ mostCells

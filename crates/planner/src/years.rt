@@ -21,13 +21,15 @@ ghost use mathlib.Core.Path.{_≡_};
 ghost use Prim.Native.Nat.{_+_, _≤_};
 ghost use lib.ListN.{length};
 ghost use Rattle.commitment.specs.declared.Checked.the-variants.{Passed};
+ghost use mathlib.Core.Bool.{false};
 ghost use Rattle.commitment.specs.Best.{best};
+ghost use Rattle.commitment.specs.Ranges.{InOrder};
 ghost use Rattle.commitment.specs.Valuing.{outcomesOf};
 ghost use Rattle.yearly.specs.Models.{InYear};
 ghost use Rattle.planner.specs.Planning.{scheduleChecked, scheduleAfter};
 ghost use Rattle.planner.specs.Reporting.{reportedBy};
 ghost use Rattle.planner.specs.Valuing.{valuedBy};
-ghost use Rattle.planner.specs.Years.{CutsFor, Dated, CaseAsked, CaseOf};
+ghost use Rattle.planner.specs.Years.{CutsFor, Dated, CaseAsked, CaseOf, UsedBy, idleCounts};
 
 // Where its months are cut. A case with month figures has a date.
 fn cuts_for(permit: Permit, n: usize) -> Cuts
@@ -109,4 +111,57 @@ fn case_of(unit: UnitRecord, monthly: Monthly, n: usize, places: usize, cells: u
         monthly,
         year,
     }
+}
+
+// Its months by the calendar, and the report.
+fn report_months(
+    unit: UnitRecord,
+    monthly: Monthly,
+    prices: &[i64],
+    cells: &mut [i64],
+    schedule: &mut [u64],
+) -> Reported
+    requires { ⌜ (UsedBy unit monthly (now prices) (length (now cells))) × (idleCounts unit (length (now prices)) ≡ false)
+        × (length (now prices) ≤ length (now schedule)) ⌝ }
+    ensures { λ r. ⌜ r ≡ reportedBy (scheduleChecked unit (now (prices .entry))) (best unit (now (prices .entry))) (outcomesOf unit (now (prices .entry))) ⌝ }
+    ensures { λ _. ⌜ now (schedule .exit)
+        ≡ scheduleAfter (scheduleChecked unit (now (prices .entry))) (best unit (now (prices .entry))) (now (schedule .entry)) ⌝ }
+{
+    let n = prices.len();
+    let permit = unit.permit;
+    let cuts = cuts_for(permit, n);
+    let at = cuts.at;
+    let places = cuts.count + 1;
+    let c = case_of(unit, monthly, n, places, cells.len());
+    report_in(cells, c, prices, &at[..places], schedule)
+}
+
+// And the outcomes alone.
+fn value_months(
+    unit: UnitRecord,
+    monthly: Monthly,
+    prices: &[i64],
+    cells: &mut [i64],
+) -> Valued
+    requires { ⌜ (UsedBy unit monthly (now prices) (length (now cells))) × (idleCounts unit (length (now prices)) ≡ false) ⌝ }
+    ensures { λ r. ⌜ r ≡ valuedBy (scheduleChecked unit (now (prices .entry))) (outcomesOf unit (now (prices .entry))) ⌝ }
+{
+    let n = prices.len();
+    let permit = unit.permit;
+    let cuts = cuts_for(permit, n);
+    let at = cuts.at;
+    let places = cuts.count + 1;
+    let c = case_of(unit, monthly, n, places, cells.len());
+    value_in(cells, c, prices, &at[..places])
+}
+
+// Whether no month figure comes to a count.
+fn is_idle(unit: UnitRecord, n: usize) -> bool
+    requires { ⌜ InOrder unit n ⌝ }
+    ensures { λ r. ⌜ r ≡ idleCounts unit n ⌝ }
+{
+    let starts = budgets::month_count(unit, n, Limitation::Starts);
+    let hours = budgets::month_count(unit, n, Limitation::Hours);
+    let mwh = budgets::month_count(unit, n, Limitation::Mwh);
+    (starts == 0) & (hours == 0) & (mwh == 0)
 }

@@ -6,15 +6,15 @@ use Rattle.planner.proofs.years.case_of.Lts as lts
 use Rattle.commitment.proofs.windows.hours_of.Reads as hours-of-reads
 use Rattle.yearly.proofs.models.year_of.Reads as year-of-reads
 
--- src/years.rt:105:9
+-- src/years.rt:107:9
 hours-of-requires : tie.Need-hours-of-requires
 hours-of-requires c κs = search needs
 
--- src/years.rt:106:9
+-- src/years.rt:108:9
 year-of-requires : tie.Need-year-of-requires
 year-of-requires c κs = search needs
 
--- src/years.rt:100:1
+-- src/years.rt:102:1
 returns : tie.Need-returns
 returns c = ?
 

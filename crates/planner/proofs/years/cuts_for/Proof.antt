@@ -5,23 +5,23 @@ use Rattle.planner.proofs.years.cuts_for.Reads as reads
 use Rattle.planner.proofs.years.cuts_for.Lts as lts
 use Rattle.commitment.proofs.cuts.cuts_of.Reads as cuts-of-reads
 
--- src/years.rt:39:17
+-- src/years.rt:41:17
 enum-told : tie.Need-enum-told
 enum-told c = search needs
 
--- src/years.rt:42:24
+-- src/years.rt:44:24
 enum-known-permit : tie.Need-enum-known-permit
 enum-known-permit c = search needs
 
--- src/years.rt:44:13
+-- src/years.rt:46:13
 cuts-of-requires : tie.Need-cuts-of-requires
 cuts-of-requires c κs = ?
 
--- src/years.rt:33:1
+-- src/years.rt:35:1
 returns : tie.Need-returns
 returns c = ?
 
--- src/years.rt:33:1
+-- src/years.rt:35:1
 returns-2 : tie.Need-returns-2
 returns-2 c = ?
 
