@@ -3,3 +3,4 @@
 pub mod Lent
 mod Worked
 pub mod Answering
+pub mod Yearly

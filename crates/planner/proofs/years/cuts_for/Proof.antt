@@ -1,29 +1,30 @@
+-- The permit has a date, whose months they are.
+use mathlib.Core.Path.{_≡_, sym, _∙_, subst}
+use Prim.Native.Nat.{ℕ}
+use Rattle.commitment.specs.declared.Window.{Window}
+use Rattle.commitment.specs.Cuts.{CutsOf}
+use Rattle.planner.proofs.Yearly.{no-hour, same-window}
 use borrow.Author.Needs.{needs}
 use Rattle.planner.proofs.years.cuts_for.Statement.{statement}
 use Rattle.planner.proofs.years.cuts_for.Tie as tie
-use Rattle.planner.proofs.years.cuts_for.Reads as reads
-use Rattle.planner.proofs.years.cuts_for.Lts as lts
-use Rattle.commitment.proofs.cuts.cuts_of.Reads as cuts-of-reads
 
--- src/years.rt:41:17
-enum-told : tie.Need-enum-told
-enum-told c = search needs
+own : (c : tie.After-permit) → c .before .before .pre .window ≡ c .permit .given .0 .0
+own c = let o = c .before .before in same-window (sym (o .pre .is) ∙ c .permit .given .1)
 
--- src/years.rt:44:24
-enum-known-permit : tie.Need-enum-known-permit
-enum-known-permit c = search needs
-
--- src/years.rt:46:13
 cuts-of-requires : tie.Need-cuts-of-requires
-cuts-of-requires c κs = ?
+cuts-of-requires c κs =
+    let told = c .before .before in
+    let o = told .before .before in
+    (rw (← own told) (o .pre .date), o .pre .some, o .pre .short)
 
--- src/years.rt:35:1
 returns : tie.Need-returns
-returns c = ?
+returns c w e = absurd (no-hour (sym (c .enum-told .given .1) ∙ e))
 
--- src/years.rt:35:1
 returns-2 : tie.Need-returns-2
-returns-2 c = ?
+returns-2 c w e =
+    let told = c .before .before .before in
+    let o = told .before .before in
+    subst (λ (v : Window). CutsOf (v .date) (o .args .n) (c .cuts-of .result)) (same-window (sym (told .permit .given .1) ∙ e)) (c .cuts-of .ensures)
 
 pub cuts-for-spec : {M : Type 1} → statement M
-cuts-for-spec = tie.close (tie.spec enum-told enum-known-permit cuts-of-requires returns returns-2)
+cuts-for-spec = tie.close (tie.spec (λ c. search needs) (λ c. search needs) cuts-of-requires returns returns-2)

@@ -1,30 +1,42 @@
+-- One after the other, in the same cells.
+use mathlib.Core.Path.{_≡_, sym, _∙_, subst}
+use Prim.Native.Nat.{ℕ}
+use lib.ListN.{length}
+use Rattle.commitment.specs.declared.Outcome.{Outcome}
+use Rattle.commitment.specs.declared.Outcomes.{Outcomes}
+use Rattle.yearly.specs.Models.{InYear}
 use borrow.Author.Needs.{needs}
 use Rattle.planner.proofs.years.outcomes_of.Statement.{statement}
 use Rattle.planner.proofs.years.outcomes_of.Tie as tie
-use Rattle.planner.proofs.years.outcomes_of.Reads as reads
-use Rattle.planner.proofs.years.outcomes_of.Lts as lts
-use Rattle.yearly.proofs.outcomes.outcome.Reads as outcome-reads
 
--- src/years.rt:56:9
-outcome-requires : tie.Need-outcome-requires
-outcome-requires c κs = search needs
+-- as many cells serve
+on : (c : tie.Start) (m : ℕ) → m ≡ length (c .args .cells .now) →
+    let a = c .args in
+    InYear (a .c .unit) (a .c .monthly) (a .c .year) (a .prices .now) (a .cuts .now) m
+on c m e = let a = c .args in subst (InYear (a .c .unit) (a .c .monthly) (a .c .year) (a .prices .now) (a .cuts .now)) (sym e) (c .pre)
 
--- src/years.rt:57:9
 outcome-requires-2 : tie.Need-outcome-requires-2
-outcome-requires-2 c κs = ?
+outcome-requires-2 c κs =
+    let first = c .before .before in
+    on (first .before .before .before) _ (first .outcome .kept .0)
 
--- src/years.rt:58:9
 outcome-requires-3 : tie.Need-outcome-requires-3
-outcome-requires-3 c κs = ?
+outcome-requires-3 c κs =
+    let second = c .before .before in
+    let first = second .before .before .before in
+    on (first .before .before .before) _ (second .outcome2 .kept .0 ∙ first .outcome .kept .0)
 
--- src/years.rt:52:1
-same-length : tie.Need-same-length
-same-length c = search needs
+same-outcomes : {a a′ b b′ d d′ : Outcome} → a ≡ a′ → b ≡ b′ → d ≡ d′
+    → _≡_ {A = Outcomes} (record { starts = a; hours = b; mwh = d }) (record { starts = a′; hours = b′; mwh = d′ })
+same-outcomes e f g = cc
 
--- src/years.rt:52:1
 returns : tie.Need-returns
-returns c = ?
+returns c =
+    let third = c .before in
+    let second = third .before .before .before in
+    let first = second .before .before .before in
+    same-outcomes (first .outcome .ensures .0) (second .outcome2 .ensures .0) (third .outcome3 .ensures .0)
 
 pub outcomes-of-spec : {M : Type 1} → statement M
 outcomes-of-spec =
-    tie.close (tie.spec outcome-requires outcome-requires-2 outcome-requires-3 same-length returns)
+    tie.close (tie.spec (λ c κs. search needs) outcome-requires-2 outcome-requires-3 (λ c. search needs) returns)
