@@ -13,7 +13,7 @@ cuts-for-requires c κs = ?
 
 -- src/years.rt:134:18
 add-places : tie.Need-add-places
-add-places c = ?
+add-places c = c .struct-known .given
 
 -- src/years.rt:135:9
 case-of-requires : tie.Need-case-of-requires
@@ -21,7 +21,7 @@ case-of-requires c κs = ?
 
 -- src/years.rt:136:33
 array-share-prefix-at : tie.Need-array-share-prefix-at
-array-share-prefix-at c = ?
+array-share-prefix-at c = c .before .before .before .at .given
 
 -- src/years.rt:136:33
 slice-aggregate-report-in : tie.Need-slice-aggregate-report-in
