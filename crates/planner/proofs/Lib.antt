@@ -4,3 +4,4 @@ pub mod Lent
 mod Worked
 pub mod Answering
 pub mod Yearly
+pub mod Still

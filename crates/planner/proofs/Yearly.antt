@@ -127,12 +127,18 @@ module _ (u : UnitRecord) (monthly : Monthly) (prices : List ℤ) (cells : ℕ) 
       let m = mul-le-mul {n₁ = 2 * layerCells u n} {m₁ = 2} {n₂ = 2 * layerCells u n} {m₂ = monthCells u n} (omega arith) two in
       rw (width-is u n) (omega (arith, m, h .needed))
 
-  module _ (busy : idleCounts u n ≡ false) (cuts : Cuts) (of : CutsFor (u .permit) n cuts) (long : length (cuts .at) ≡ 14) where
+  module _ (busy : idleCounts u n ≡ false) (cuts : Cuts) (of : CutsFor (u .permit) n cuts) where
     cut : CutsOf (dated .window .date) n cuts
     cut = of (dated .window) (dated .is)
 
-    pub few-places : places n cuts long ≤ 14
-    few-places = omega (arith, cut .few)
+    pub long : length (cuts .at) ≡ 14
+    long = cut .room
+
+    pub places-fit : (cuts .count + 1 ≤ length (cuts .at)) × (cuts .count + 1 ≡ length (take (cuts .count + 1) (cuts .at)))
+    places-fit = (omega (arith, cut .few, long), sym (used-long n cuts long (cut .few)))
+
+    pub few-places : cuts .count ≤ mostMonths
+    few-places = cut .few
 
     pub case-asked : CaseAsked u monthly n (places n cuts long) cells
     case-asked =

@@ -1,17 +1,22 @@
 -- A case with month figures, in the cells that are used.
 use mathlib.Core.Path.{_≡_}
-use mathlib.Core.Bool.{Bool, true, _&&_}
+use mathlib.Core.Bool.{Bool, true, cond, _&&_, _||_}
 use mathlib.Core.List.{List}
 use Prim.Native.Nat.{ℕ, _+_, _≤_}
 use lib.Dec.{eqb}
-use lib.IntN.{ℤ}
+use lib.IntN.{ℤ, pos}
 use lib.ListN.{length}
 use Rattle.calendar.specs.Dates.{lastYear}
 use Rattle.calendar.specs.Dates as dates
 use Rattle.calendar.specs.Months.{yearIntervals}
+use Rattle.commitment.specs.declared.Limit.{Limit}
+use Rattle.commitment.specs.declared.Limit.the-variants.{None, At}
 use Rattle.commitment.specs.declared.Limitation.the-variants.{Starts, Hours, Mwh}
 use Rattle.commitment.specs.declared.Monthly.{Monthly}
-use Rattle.commitment.specs.declared.Months.the-variants.{Limited}
+use Rattle.commitment.specs.declared.Months.the-variants.{Unlimited, Limited}
+use Rattle.commitment.specs.declared.Outcome.{Outcome}
+use Rattle.commitment.specs.declared.Outcome.the-variants as outcome
+use Rattle.commitment.specs.declared.Outcomes.{Outcomes}
 use Rattle.commitment.specs.declared.Permit.{Permit}
 use Rattle.commitment.specs.declared.Permit.the-variants.{Within}
 use Rattle.commitment.specs.declared.Window.{Window}
@@ -21,6 +26,7 @@ use Rattle.commitment.specs.Bounds.{mostCells}
 use Rattle.commitment.specs.Cells.{monthCountFor, cellsNeeded}
 use Rattle.commitment.specs.Cuts.{CutsOf}
 use Rattle.commitment.specs.Ranges.{permitKept, dateKept, monthsFit, InOrder, Priced}
+use Rattle.commitment.specs.Valuing.{lowered}
 use Rattle.commitment.specs.Windows.{HoursOf}
 use Rattle.yearly.specs.declared.runs.Case.{Case}
 use Rattle.yearly.specs.Models.{Fitting, YearMade}
@@ -59,3 +65,44 @@ pub record UsedBy (u : UnitRecord) (monthly : Monthly) (prices : List ℤ) (cell
   pub fit : monthsFit (u .months) (u .limits) (u .permit) (length prices) ≡ true
   pub needed : cellsNeeded u (length prices) ≤ cells
   pub counted : cells ≤ mostCells
+
+-- ---- month figures none of which comes to a count
+
+-- 0 where a month figure stands
+abbrev pub noneOf : Limit → Limit → Limit
+noneOf limit None = limit
+noneOf limit (At month) = At 0
+
+-- the unit that may spend nothing of what its months limit
+abbrev pub still : UnitRecord → Monthly → UnitRecord
+still u monthly =
+    record {
+      generator = u .generator;
+      costs = u .costs;
+      opening = u .opening;
+      limits =
+          record {
+            starts = noneOf (u .limits .starts) (monthly .limits .starts);
+            hours = noneOf (u .limits .hours) (monthly .limits .hours);
+            mwh = noneOf (u .limits .mwh) (monthly .limits .mwh);
+          };
+      permit = u .permit;
+      months = Unlimited;
+    }
+
+-- the outcome of a limitation with a month figure: empty, or both runs earn the same
+abbrev pub idleGap : ℕ → ℕ → Outcome
+idleGap figure month = cond (eqb (lowered figure) 0 || eqb (lowered month) 0) outcome.Empty (outcome.Gap (pos 0))
+
+abbrev pub idleOutcome : Limit → Limit → Outcome → Outcome
+idleOutcome limit None alone = alone
+idleOutcome None (At month) alone = alone
+idleOutcome (At figure) (At month) alone = idleGap figure month
+
+abbrev pub idleOutcomes : UnitRecord → Monthly → Outcomes → Outcomes
+idleOutcomes u monthly o =
+    record {
+      starts = idleOutcome (u .limits .starts) (monthly .limits .starts) (o .starts);
+      hours = idleOutcome (u .limits .hours) (monthly .limits .hours) (o .hours);
+      mwh = idleOutcome (u .limits .mwh) (monthly .limits .mwh) (o .mwh);
+    }
