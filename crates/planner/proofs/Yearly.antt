@@ -11,7 +11,6 @@ use lib.IntN.{ℤ}
 use lib.ListN.{length, getD, take, length-take}
 use lib.Seq.{getD-take, length-take-le}
 use Rattle.lists.proofs.Conjunctions.{both}
-
 use Rattle.calendar.specs.Months.{mostMonths}
 use Rattle.commitment.specs.declared.Limitation.the-variants.{Starts, Hours, Mwh}
 use Rattle.commitment.specs.declared.Limits.{Limits}

@@ -12,6 +12,7 @@ use Rattle.calendar.specs.Months.{yearIntervals}
 use Rattle.commitment.specs.declared.Limit.{Limit}
 use Rattle.commitment.specs.declared.Limit.the-variants.{None, At}
 use Rattle.commitment.specs.declared.Limitation.the-variants.{Starts, Hours, Mwh}
+use Rattle.commitment.specs.declared.Limits.{Limits}
 use Rattle.commitment.specs.declared.Monthly.{Monthly}
 use Rattle.commitment.specs.declared.Months.the-variants.{Unlimited, Limited}
 use Rattle.commitment.specs.declared.Outcome.{Outcome}
@@ -73,6 +74,10 @@ abbrev pub noneOf : Limit → Limit → Limit
 noneOf limit None = limit
 noneOf limit (At month) = At 0
 
+abbrev pub noneOfAll : Limits → Limits → Limits
+noneOfAll year month =
+    record { starts = noneOf (year .starts) (month .starts); hours = noneOf (year .hours) (month .hours); mwh = noneOf (year .mwh) (month .mwh) }
+
 -- the unit that may spend nothing of what its months limit
 abbrev pub still : UnitRecord → Monthly → UnitRecord
 still u monthly =
@@ -80,12 +85,7 @@ still u monthly =
       generator = u .generator;
       costs = u .costs;
       opening = u .opening;
-      limits =
-          record {
-            starts = noneOf (u .limits .starts) (monthly .limits .starts);
-            hours = noneOf (u .limits .hours) (monthly .limits .hours);
-            mwh = noneOf (u .limits .mwh) (monthly .limits .mwh);
-          };
+      limits = noneOfAll (u .limits) (monthly .limits);
       permit = u .permit;
       months = Unlimited;
     }
@@ -99,10 +99,10 @@ idleOutcome limit None alone = alone
 idleOutcome None (At month) alone = alone
 idleOutcome (At figure) (At month) alone = idleGap figure month
 
-abbrev pub idleOutcomes : UnitRecord → Monthly → Outcomes → Outcomes
-idleOutcomes u monthly o =
+abbrev pub idleOutcomes : Limits → Limits → Outcomes → Outcomes
+idleOutcomes year month alone =
     record {
-      starts = idleOutcome (u .limits .starts) (monthly .limits .starts) (o .starts);
-      hours = idleOutcome (u .limits .hours) (monthly .limits .hours) (o .hours);
-      mwh = idleOutcome (u .limits .mwh) (monthly .limits .mwh) (o .mwh);
+      starts = idleOutcome (year .starts) (month .starts) (alone .starts);
+      hours = idleOutcome (year .hours) (month .hours) (alone .hours);
+      mwh = idleOutcome (year .mwh) (month .mwh) (alone .mwh);
     }

@@ -3,6 +3,7 @@
 
 mod checks;
 pub mod contents;
+mod idle;
 mod models;
 mod plain;
 mod reading;

@@ -137,12 +137,7 @@ fn report_months(
 }
 
 // And the outcomes alone.
-fn value_months(
-    unit: UnitRecord,
-    monthly: Monthly,
-    prices: &[i64],
-    cells: &mut [i64],
-) -> Valued
+fn value_months(unit: UnitRecord, monthly: Monthly, prices: &[i64], cells: &mut [i64]) -> Valued
     requires { ⌜ (UsedBy unit monthly (now prices) (length (now cells))) × (idleCounts unit (length (now prices)) ≡ false) ⌝ }
     ensures { λ r. ⌜ r ≡ valuedBy (scheduleChecked unit (now (prices .entry))) (outcomesOf unit (now (prices .entry))) ⌝ }
 {

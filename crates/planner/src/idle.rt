@@ -24,7 +24,7 @@ ghost use Rattle.yearly.specs.Models.{LimitsSmall};
 ghost use Rattle.planner.specs.Planning.{scheduleChecked, scheduleAfter};
 ghost use Rattle.planner.specs.Reporting.{reportedBy};
 ghost use Rattle.planner.specs.Valuing.{valuedBy};
-ghost use Rattle.planner.specs.Years.{UsedBy, idleCounts, noneOf, still, idleGap, idleOutcome, idleOutcomes};
+ghost use Rattle.planner.specs.Years.{UsedBy, idleCounts, noneOf, noneOfAll, still, idleGap, idleOutcome, idleOutcomes};
 
 // 0 where a month figure stands.
 fn none_of(limit: Limit, month: Limit) -> Limit
@@ -36,6 +36,23 @@ fn none_of(limit: Limit, month: Limit) -> Limit
     }
 }
 
+// 0 in all that months limit.
+fn none_of_all(year: Limits, month: Limits) -> Limits
+    ensures { λ r. ⌜ r ≡ noneOfAll year month ⌝ }
+{
+    let starts = year.starts;
+    let hours = year.hours;
+    let mwh = year.mwh;
+    let month_starts = month.starts;
+    let month_hours = month.hours;
+    let month_mwh = month.mwh;
+    Limits {
+        starts: none_of(starts, month_starts),
+        hours: none_of(hours, month_hours),
+        mwh: none_of(mwh, month_mwh),
+    }
+}
+
 // The unit that may spend nothing of what its months limit.
 fn still_of(unit: UnitRecord, monthly: Monthly) -> UnitRecord
     ensures { λ r. ⌜ r ≡ still unit monthly ⌝ }
@@ -44,20 +61,15 @@ fn still_of(unit: UnitRecord, monthly: Monthly) -> UnitRecord
     let costs = unit.costs;
     let opening = unit.opening;
     let permit = unit.permit;
-    let year = unit.limits;
-    let month = monthly.limits;
-    let limits = Limits {
-        starts: none_of(year.starts, month.starts),
-        hours: none_of(year.hours, month.hours),
-        mwh: none_of(year.mwh, month.mwh),
-    };
+    let limits = none_of_all(unit.limits, monthly.limits);
+    let months = Months::Unlimited;
     UnitRecord {
         generator,
         costs,
         opening,
         limits,
         permit,
-        months: Months::Unlimited,
+        months,
     }
 }
 
@@ -86,15 +98,22 @@ fn idle_outcome(limit: Limit, month: Limit, alone: Outcome) -> Outcome
 }
 
 // All three; what has no month figure is valued as in the case without them.
-fn idle_outcomes(unit: UnitRecord, monthly: Monthly, alone: Outcomes) -> Outcomes
-    requires { ⌜ (LimitsSmall (unit .limits)) × (LimitsSmall (monthly .limits)) ⌝ }
-    ensures { λ r. ⌜ r ≡ idleOutcomes unit monthly alone ⌝ }
+fn idle_outcomes(year: Limits, month: Limits, alone: Outcomes) -> Outcomes
+    requires { ⌜ (LimitsSmall year) × (LimitsSmall month) ⌝ }
+    ensures { λ r. ⌜ r ≡ idleOutcomes year month alone ⌝ }
 {
-    let year = unit.limits;
-    let month = monthly.limits;
+    let starts = year.starts;
+    let hours = year.hours;
+    let mwh = year.mwh;
+    let month_starts = month.starts;
+    let month_hours = month.hours;
+    let month_mwh = month.mwh;
+    let alone_starts = alone.starts;
+    let alone_hours = alone.hours;
+    let alone_mwh = alone.mwh;
     Outcomes {
-        starts: idle_outcome(year.starts, month.starts, alone.starts),
-        hours: idle_outcome(year.hours, month.hours, alone.hours),
-        mwh: idle_outcome(year.mwh, month.mwh, alone.mwh),
+        starts: idle_outcome(starts, month_starts, alone_starts),
+        hours: idle_outcome(hours, month_hours, alone_hours),
+        mwh: idle_outcome(mwh, month_mwh, alone_mwh),
     }
 }
