@@ -3,6 +3,7 @@
 mod support;
 
 use ralwinga::{cells, plan_into, Outcome, Unit};
+use support::paper::Run;
 use support::{
     answer_on, calendar, dated, long_case, month, paper, recursion, small_case, text_of,
 };
@@ -204,7 +205,7 @@ fn check_usage(told: &[&str], unit: &Unit, plan: &[u64]) {
 
 /// The lines of the adders against the outcomes by recursion.
 fn check_adders(told: &[&str], unit: &Unit, prices: &[i64]) {
-    let profit_of = |unit: Unit| recursion::best(&unit, prices).map(|(earned, _)| earned.into());
+    let profit_of = |run: Run| recursion::best(&run, prices).map(|(earned, _)| earned.into());
     let outcomes = paper::outcomes_by(unit, profit_of);
     let amounts = [outcomes.starts, outcomes.hours, outcomes.mwh].map(adder);
     let bids = [
@@ -292,7 +293,8 @@ fn small_cases_by_enumeration() {
     let mut planned = 0;
     for _ in 0..SMALL_CASES {
         let (unit, prices) = small_case(&mut random);
-        let best = paper::best(&unit, &prices).map(|(profit, plan)| (profit as i64, plan));
+        let best = paper::best(&unit.into(), &prices);
+        let best = best.map(|(profit, plan)| (profit as i64, plan));
         planned += usize::from(check(&unit, &prices, &mut random, best));
     }
     assert!(planned > SMALL_CASES / 2, "{planned} plans");
@@ -304,7 +306,7 @@ fn longer_cases_by_recursion() {
     let mut planned = 0;
     for _ in 0..LONG_CASES {
         let (unit, prices) = long_case(&mut random);
-        let best = recursion::best(&unit, &prices);
+        let best = recursion::best(&unit.into(), &prices);
         planned += usize::from(check(&unit, &prices, &mut random, best));
     }
     assert!(planned > LONG_CASES / 2, "{planned} plans");
