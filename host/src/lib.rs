@@ -247,6 +247,19 @@ impl Unit {
         self.window.map(|window| window.word)
     }
 
+    /// The unit with other month figures, without the group where none is left.
+    pub fn with_months(self, change: impl FnOnce(&mut Monthly)) -> Unit {
+        let months = self.months.map(|mut monthly| {
+            change(&mut monthly);
+            monthly
+        });
+        let limits = |m: &Monthly| [m.starts, m.hours, m.mwh].iter().any(Option::is_some);
+        Unit {
+            months: months.filter(limits),
+            ..self
+        }
+    }
+
     fn numbers(self) -> ffi::UnitNumbers {
         let [year, month, day, window] = window_numbers(self.window);
         let [mstarts, mhours, mmwh, valued] = months_numbers(self.months);

@@ -4,7 +4,7 @@
 use crate::amounts::{quarters, time_of_day, PER_HOUR};
 use crate::calendar::Calendar;
 use crate::reader::BEYOND;
-use crate::{assess, clock_hour, Case, Limit, Monthly, Refusal, Unit, Window};
+use crate::{assess, clock_hour, Case, Refusal, Unit, Window};
 
 /// The rules of a case, in the order in which they are asked for.
 #[derive(Clone, Copy, Debug, PartialEq, Eq)]
@@ -53,9 +53,9 @@ impl Rule {
                 ..unit
             },
             Rule::Mwh => Unit { mwh: None, ..unit },
-            Rule::MonthStarts => without(unit, |figures| &mut figures.starts),
-            Rule::MonthHours => without(unit, |figures| &mut figures.hours),
-            Rule::MonthMwh => without(unit, |figures| &mut figures.mwh),
+            Rule::MonthStarts => unit.with_months(|months| months.starts = None),
+            Rule::MonthHours => unit.with_months(|months| months.hours = None),
+            Rule::MonthMwh => unit.with_months(|months| months.mwh = None),
             Rule::Window => Unit {
                 window: unit.window.map(|window| Window {
                     word: FULL,
@@ -67,26 +67,9 @@ impl Rule {
     }
 }
 
-/// The unit without one of its month figures, and without the group where that was the last.
-fn without(unit: Unit, figure: impl Fn(&mut Monthly) -> &mut Limit) -> Unit {
-    let months = unit.months.map(|mut monthly| {
-        *figure(&mut monthly) = None;
-        monthly
-    });
-    let limits = |m: &Monthly| [m.starts, m.hours, m.mwh].iter().any(Option::is_some);
-    Unit {
-        months: months.filter(limits),
-        ..unit
-    }
-}
-
 /// The unit with its first month valued, which is in every horizon. No schedule is judged by the month that is valued.
 fn first_valued(unit: Unit) -> Unit {
-    let months = unit.months.map(|monthly| Monthly {
-        valued: 1,
-        ..monthly
-    });
-    Unit { months, ..unit }
+    unit.with_months(|months| months.valued = 1)
 }
 
 /// A rule that is broken, and the first interval at which it is, counted from 1.

@@ -6,7 +6,7 @@ mod support;
 use ralwinga::{assess, cells, report_into};
 use ralwinga::{Cells, Monthly, Outcome, Refusal, Report, Unit, Window};
 use support::calendar::{changes, days_after, last_day, months, shown};
-use support::{c1, month_case, paper, recursion, Random, FULL};
+use support::{answer_on, c1, month_case, paper, recursion, text_of, Random, C1, FULL};
 
 /// C1's unit from 31 January 2026 on, with so many starts in all and in a month.
 fn unit(starts: u64, mstarts: Option<u64>, valued: u64) -> Unit {
@@ -308,4 +308,57 @@ fn edges() {
     let (with, without) = (unit(3, Some(3), 2), unit(3, None, 2));
     let plan = |unit| reported(unit, &peaks).expect("a plan").1;
     assert_eq!(plan(with), plan(without));
+}
+
+/// `ralwinga months`: a row to each month as the valued one, in dollars and in quarter-cents.
+#[test]
+fn each_month_valued() {
+    let unit = unit(4, Some(2), 2);
+    let text = text_of(&mut Random::new(1), &unit, &four_peaks());
+    let said = |words: &[&str]| {
+        let answer = answer_on(words, text.as_bytes());
+        assert!(answer.status.success());
+        String::from_utf8(answer.stdout).expect("text")
+    };
+    let raw =
+        "valued,month,starts,hours,mwh\n1,2026-01,220000,none,none\n2,2026-02,120000,none,none\n";
+    assert_eq!(said(&["months", "--raw", "-"]), raw);
+    let rows = "1,2026-01,550.00,none,none\n2,2026-02,300.00,none,none\n";
+    for jobs in ["1", "2"] {
+        let words = ["months", "--no-header", "--jobs", jobs, "-"];
+        assert_eq!(said(&words), rows);
+    }
+    let head = "valued,month,start_adder_usd,hour_adder_usd,mwh_adder_usd\n";
+    assert_eq!(said(&["months", "-"]), format!("{head}{rows}"));
+    // without month figures there is none to value
+    let answer = answer_on(&["months", "-"], C1.as_bytes());
+    assert_eq!((answer.status.code(), answer.stdout.len()), (Some(1), 0));
+}
+
+/// Cases over a month's end: each row beside the recursion.
+#[test]
+fn rows_beside_the_recursion() {
+    let mut random = Random::new(92);
+    for _ in 0..100 {
+        let (unit, prices) = month_case(&mut random);
+        let text = text_of(&mut random, &unit, &prices);
+        let answer = answer_on(&["months", "--raw", "--no-header", "-"], text.as_bytes());
+        let said = String::from_utf8(answer.stdout).expect("text");
+        let months = paper::months(&unit, prices.len());
+        let mut expected = String::new();
+        for valued in 1..=months[months.len() - 1] {
+            let unit = unit.with_months(|m| m.valued = valued);
+            let Some((report, _)) = recursion::reported(&unit, &prices) else {
+                expected = "refused,9\n".to_string();
+                break;
+            };
+            let place = months.iter().position(|month| *month == valued);
+            let w = unit.window.expect("a date");
+            let shown = shown((w.year, w.month, w.day), prices.len());
+            let (year, month, _) = shown[place.expect("a month")].date;
+            let [_, starts, hours, mwh] = paper::figures_printed(&report);
+            expected += &format!("{valued},{year}-{month:02},{starts},{hours},{mwh}\n");
+        }
+        assert_eq!(said, expected, "{text}");
+    }
 }
