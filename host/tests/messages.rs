@@ -112,7 +112,7 @@ fn lines_that_end_with_cr_lf() {
 
 /// C1 with one thing put for another, the number, and what is said of it.
 #[rustfmt::skip]
-const SAID: [(&str, &str, u64, &str); 17] = [
+const SAID: [(&str, &str, u64, &str); 18] = [
     ("9000", "90.00", 1, "line 6, column 1: '90.00' is no value: prices are whole cents per MWh ("),
     ("9000", "-.5", 1, "'-.5' is no value: prices are whole cents per MWh ("),
     ("3000,", "30.00,", 1, "line 2, column 16: '30.00' is no value: vec is in whole cents per MWh ("),
@@ -126,7 +126,8 @@ const SAID: [(&str, &str, u64, &str); 17] = [
     ("9000", "090", 1, "'090' is no value: none, or 1 to 10 digits without a needless 0 in front ("),
     ("mot", "mto", 2, "line 1, column 17: 'mto' is unknown (did you mean 'mot'?), 'mot' is missing ("),
     ("starts,", "start,", 2, "'start' is unknown (did you mean 'starts'?), 'starts' is missing ("),
-    ("mot", "wind", 2, "'wind' is unknown, 'mot' is missing ("),
+    ("mot", "sun", 2, "'sun' is unknown, 'mot' is missing ("),
+    ("mot", "wind", 2, "'wind' is unknown (did you mean 'window'?), 'mot' is missing ("),
     ("10,1,2,2", "10,1,2,97", 3, "line 2, column 8: mot '97' is outside its range, 1 to 96 ("),
     ("3000,", "2000001,", 3, "vec '2000001' is outside its range, 0 to 2000000 ("),
     (",2,2,none", ",35137,2,none", 3, "starts '35137' is outside its range, 0 to 35136, or none ("),

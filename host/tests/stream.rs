@@ -45,14 +45,14 @@ const NUMBERS: [u64; 7] = [1, 2, 3, 4, 12, 13, 5];
 fn columns_with(random: &mut Random, holds: &[bool; 7]) -> Vec<(&'static str, String)> {
     let [_, name, _, shape, date, months, _] = *holds;
     let (mut unit, _) = small_case(random);
-    let (year, month, day, word) = (2024, 2, if date { 30 } else { 2 }, 5);
+    let (year, month, day, word) = (2024, 2, if date { 30 } else { 1 }, 5);
     unit.window = Some(Window {
         year,
         month,
         day,
         word,
     });
-    // beside no figure of the year, or valued behind the last month that a year has
+    // beside no figure of the year, or valued in the thirteenth month, which a year from the first day of February on does not come to
     let (starts, valued) = random.from(&[(None, 1), (Some(2), 13)]);
     unit.months = months.then_some(Monthly {
         starts: Some(1),
