@@ -4,7 +4,7 @@
 #include <inttypes.h>
 #include <stdio.h>
 
-enum { INTERVALS = 98, CELLS = 1 << 21, WORD = 1 << 23 | 1 };
+enum { INTERVALS = 98, CELLS = 1 << 22, WORD = 1 << 23 | 1 };
 
 static int64_t prices[INTERVALS];
 static const uint64_t off[INTERVALS];
