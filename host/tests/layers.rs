@@ -200,28 +200,23 @@ fn months_in_both_sizes() {
     }
 }
 
-/// A month figure beside one of the year's in half of the cases that have a date, where the unit is limited, and the first month valued or the second.
-fn some_months(random: &mut Random, unit: &Unit) -> Option<Monthly> {
-    unit.window.filter(|_| random.one_in(2))?;
-    let place = random.below(3);
-    let mut figure = |i, limit: Option<u64>| {
-        let limit = limit.filter(|_| i == place);
-        limit.map(|most| random.below(most + 2))
+/// One limitation instead of the unit's own, of few cells, with a month figure, and the first month valued or the second.
+fn limit_months(random: &mut Random, unit: &mut Unit) {
+    let mut monthly = Monthly {
+        starts: None,
+        hours: None,
+        mwh: None,
+        valued: 1 + random.below(2),
     };
-    let (starts, hours, mwh) = (
-        figure(0, unit.starts),
-        figure(1, unit.hours),
-        figure(2, unit.mwh),
-    );
-    [starts, hours, mwh]
-        .iter()
-        .any(Option::is_some)
-        .then_some(Monthly {
-            starts,
-            hours,
-            mwh,
-            valued: 1 + random.below(2),
-        })
+    (unit.starts, unit.hours, unit.mwh) = (None, None, None);
+    let which = random.below(3);
+    let mut figures = |year, month| (Some(random.below(year)), Some(random.below(month)));
+    match which {
+        0 => (unit.starts, monthly.starts) = figures(13, 8),
+        1 => (unit.hours, monthly.hours) = figures(6, 4),
+        _ => (unit.mwh, monthly.mwh) = figures(20, 12),
+    }
+    unit.months = Some(monthly);
 }
 
 /// A case of some days at most, whose prices often tie, with any limitations, permitted hours and month figures; its long table has at most 500,000
@@ -230,7 +225,7 @@ fn some_case(random: &mut Random) -> Option<(Unit, Vec<i64>, Cells)> {
     let pmin = 1 + random.below(4);
     let (month, day) = match random.below(2) {
         0 => (random.from(&[3, 11]), 1 + random.below(9)),
-        _ => (random.from(&[2, 4, 12]), 28 + random.below(2)),
+        _ => random.from(&[(2, 28), (2, 29), (4, 29), (4, 30), (12, 30), (12, 31)]),
     };
     let window = Window {
         year: 2024,
@@ -253,7 +248,9 @@ fn some_case(random: &mut Random) -> Option<(Unit, Vec<i64>, Cells)> {
         window: random.one_in(2).then_some(window),
         ..c1().unit
     };
-    unit.months = some_months(random, &unit);
+    if unit.window.is_some() && random.one_in(2) {
+        limit_months(random, &mut unit);
+    }
     let steps = random.from(&[500, 1, 3000]);
     let prices: Vec<i64> = (0..2 + random.below(250))
         .map(|_| steps * random.between(-2000 / steps, 9000 / steps))
