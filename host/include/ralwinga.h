@@ -2,8 +2,8 @@
  *
  * Every call answers, whatever record, text or slices it is given. A slice is a pointer and a length in entries; the pointer is to that many
  * entries that live through the call and that no other argument shares, and is aligned and not null even where the length is 0.
- * `number` in an answer is 0, or that of the refusal's cause (docs/CASE.md); then limitations and outcomes are none, and every other number is 0,
- * year, month, day and window too.
+ * `number` in an answer is 0, or that of the refusal's cause (docs/CASE.md); then limitations, those of a month too, and outcomes are none, and every
+ * other number is 0, year, month, day, window and valued too.
  * Profits and gaps are in quarter-cents.
  */
 #ifndef RALWINGA_H
@@ -16,14 +16,18 @@
 extern "C" {
 #endif
 
-/* `none` as the figure of a limitation, and as each of year, month, day and window of a unit that may run at any hour. */
+/* `none` as the figure of a limitation, as each of year, month, day and window of a unit that may run at any hour, and as `valued` of a unit without
+ * month figures. */
 #define RALWINGA_NONE UINT64_MAX
 
-/* Interval 1 begins at midnight of the date; bit h of `window` allows clock hour h. */
+/* Interval 1 begins at midnight of the date; bit h of `window` allows clock hour h. `mstarts`, `mhours` and `mmwh` limit every calendar month; each needs
+ * the date and the figure of the same limitation over the horizon. `valued` is the month to value, 1 for that of interval 1; it is given exactly when
+ * one of the three is. */
 struct ralwinga_unit {
     uint64_t block, pmin, pmax, mot, mdt, was, held, vec, mlc, suc;
     uint64_t starts, hours, mwh;
     uint64_t year, month, day, window;
+    uint64_t mstarts, mhours, mmwh, valued;
 };
 
 enum { RALWINGA_OUTCOME_NONE, RALWINGA_OUTCOME_EMPTY, RALWINGA_OUTCOME_NEVER, RALWINGA_OUTCOME_GAP };

@@ -1,6 +1,6 @@
 //! The static library's functions and structs, as `crates/exports` declares them. A slice is a pointer and a length.
 
-/// `none` as the number of a limitation, and as each number of a window.
+/// `none` as the number of a limitation, as each number of a window, and as each of the month figures and the month to value.
 pub const NONE: u64 = u64::MAX;
 
 #[repr(C)]
@@ -23,6 +23,10 @@ pub struct UnitNumbers {
     pub month: u64,
     pub day: u64,
     pub window: u64,
+    pub mstarts: u64,
+    pub mhours: u64,
+    pub mmwh: u64,
+    pub valued: u64,
 }
 
 #[repr(C)]

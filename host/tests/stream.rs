@@ -4,7 +4,7 @@
 mod support;
 
 use ralwinga::reader::{horizon, read_case, read_long_case};
-use ralwinga::{Refusal, Window};
+use ralwinga::{Monthly, Refusal, Window};
 use std::fs;
 use std::io::Write;
 use std::path::Path;
@@ -39,19 +39,30 @@ fn the_horizon_is_the_librarys() {
 }
 
 /// The numbers of a case's causes in the order in which they are given.
-const NUMBERS: [u64; 6] = [1, 2, 3, 4, 12, 5];
+const NUMBERS: [u64; 7] = [1, 2, 3, 4, 12, 13, 5];
 
 /// The columns of a unit from a date on, with these causes of `NUMBERS` in them.
-fn columns_with(random: &mut Random, holds: &[bool; 6]) -> Vec<(&'static str, String)> {
-    let [_, name, _, shape, date, _] = *holds;
+fn columns_with(random: &mut Random, holds: &[bool; 7]) -> Vec<(&'static str, String)> {
+    let [_, name, _, shape, date, months, _] = *holds;
     let (mut unit, _) = small_case(random);
-    let (year, month, day, word) = (2024, 2, if date { 30 } else { 2 }, 5);
+    let (year, month, day, word) = (2024, 2, if date { 30 } else { 1 }, 5);
     unit.window = Some(Window {
         year,
         month,
         day,
         word,
     });
+    // beside no figure of the year, or valued in the thirteenth month, which a year from the first day of February on does not come to
+    let (starts, valued) = random.from(&[(None, 1), (Some(2), 13)]);
+    unit.months = months.then_some(Monthly {
+        starts: Some(1),
+        hours: None,
+        mwh: None,
+        valued,
+    });
+    if months {
+        unit.starts = starts;
+    }
     if shape {
         (unit.pmin, unit.pmax) = (9, 8);
     }
@@ -63,8 +74,8 @@ fn columns_with(random: &mut Random, holds: &[bool; 6]) -> Vec<(&'static str, St
 }
 
 /// The lines of a month's or a year's prices or of more, with these causes in them, each anywhere.
-fn prices_with(random: &mut Random, holds: &[bool; 6]) -> String {
-    let [form, _, range, _, _, count] = *holds;
+fn prices_with(random: &mut Random, holds: &[bool; 7]) -> String {
+    let [form, _, range, _, _, _, count] = *holds;
     let intervals = match count {
         true => random.from(&[35_137, 36_000, 50_000]),
         false => random.from(&[2500, 2976, 35_136]),
@@ -85,7 +96,7 @@ fn numbers_of_long_texts() {
     let mut random = Random::new(61);
     let mut seen: Seen = Default::default();
     for _ in 0..CASES {
-        let holds: [bool; 6] = std::array::from_fn(|_| random.one_in(4));
+        let holds: [bool; 7] = std::array::from_fn(|_| random.one_in(4));
         let columns = columns_with(&mut random, &holds);
         let head = text_with(&mut random, columns, &[]);
         let text = head + &prices_with(&mut random, &holds);
@@ -98,7 +109,7 @@ fn numbers_of_long_texts() {
         assert_eq!(answer, read_long_case(text.as_bytes()));
         seen[expected as usize] += 1;
     }
-    each_came_up(&seen, &[0, 1, 2, 3, 4, 5, 12]);
+    each_came_up(&seen, &[0, 1, 2, 3, 4, 5, 12, 13]);
 }
 
 /// All that the command has for texts of 20 and of 200 MB.

@@ -47,6 +47,7 @@ fn unit() -> Unit {
         hours: None,
         mwh: None,
         window: None,
+        months: None,
     }
 }
 

@@ -8,6 +8,7 @@ mod identity;
 mod input;
 mod many;
 mod memory;
+mod months;
 mod one;
 mod output;
 mod pictures;
@@ -59,6 +60,7 @@ fn run(words: Arguments) -> Result<bool, Stop> {
         Command::Costs(words) => calls::costs(&words)?,
         Command::Curve(words) => calls::curve(&words)?,
         Command::Explain(words) => one::explain(&words.case, &words.options)?,
+        Command::Months(words) => months::value(&words)?,
         Command::Completion(words) => complete(&words)?,
     }
     Ok(true)

@@ -154,33 +154,50 @@ pub fn too_large(unit: Unit, intervals: usize, needed: usize, cap: Cap) -> Strin
         freed(unit)
             .into_iter()
             .filter(|(_, unit)| fits(*unit, intervals))
-            .map(|(name, _)| format!("{name} none")),
+            .map(|(change, _)| change.to_string()),
     );
+    let fits = match ways.as_slice() {
+        [] => String::new(),
+        ways => format!("; it fits with {}", ways.join(", or ")),
+    };
     format!(
-        "the case needs {}; {} {}; it fits with {}",
+        "the case needs {}; {} {}{fits}",
         scratch_of(needed),
         cap.from,
-        cap.cells,
-        ways.join(", or ")
+        cap.cells
     )
 }
 
-/// The unit without each of its limitations.
+/// The unit without each of its limitations, whose month figure goes with it, and without each of its month figures.
 fn freed(unit: Unit) -> Vec<(&'static str, Unit)> {
-    let mut freed = Vec::new();
-    if unit.starts.is_some() {
-        let starts = None;
-        freed.push(("starts", Unit { starts, ..unit }));
-    }
-    if unit.hours.is_some() {
-        let hours = None;
-        freed.push(("hours", Unit { hours, ..unit }));
-    }
-    if unit.mwh.is_some() {
-        let mwh = None;
-        freed.push(("mwh", Unit { mwh, ..unit }));
-    }
-    freed
+    let free_starts = unit.with_months(|months| months.starts = None);
+    let free_hours = unit.with_months(|months| months.hours = None);
+    let free_mwh = unit.with_months(|months| months.mwh = None);
+    let (starts, hours, mwh) = (None, None, None);
+    let changes = [
+        (
+            "starts none",
+            Unit {
+                starts,
+                ..free_starts
+            },
+        ),
+        (
+            "hours none",
+            Unit {
+                hours,
+                ..free_hours
+            },
+        ),
+        ("mwh none", Unit { mwh, ..free_mwh }),
+        ("no mstarts", free_starts),
+        ("no mhours", free_hours),
+        ("no mmwh", free_mwh),
+    ];
+    changes
+        .into_iter()
+        .filter(|(_, freed)| *freed != unit)
+        .collect()
 }
 
 #[cfg(test)]

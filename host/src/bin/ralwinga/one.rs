@@ -42,7 +42,7 @@ fn answer(
 }
 
 fn prepare_and_plan(case: &Path, options: &CaseOptions) -> Result<(Prepared, Planned), Stop> {
-    let prepared = Prepared::from_file(case, options)?;
+    let prepared = Prepared::from_file(case, options.common.crlf, options.cells)?;
     note(prepared.said_of_scratch());
     let progress = Progress::over(&[&prepared], 1);
     let planned = prepared.plan(&mut Scratch::default(), &progress)?;
