@@ -1,0 +1,106 @@
+-- The year's layer at a month's beginning by the states at its end: a way through the month, what it makes of the cells of the year, and the best of all ways.
+use mathlib.Core.Path.{_≡_}
+use mathlib.Core.List.{List}
+use mathlib.Core.Logic.{_⊎_}
+use Prim.Native.Nat.{ℕ, _+_, _^_, _≤_, _<_}
+use lib.IntN.{ℤ, pos, natAbs, _+ℤ_}
+use lib.ListN.{length, getD}
+use lib.Signed.{_≤ℤ_}
+use Rattle.integers.specs.Maximum.{maxℤ}
+use Rattle.commitment.specs.declared.BestProfit.{BestProfit}
+use Rattle.commitment.specs.declared.BestProfit.the-variants.{Nothing, Profit}
+use Rattle.optimality.specs.declared.Budgets.{Budgets}
+use Rattle.optimality.specs.declared.Cell.{Cell}
+use Rattle.optimality.specs.declared.Figures.{Figures}
+use Rattle.optimality.specs.Machine.{Quarter, plus}
+use Rattle.optimality.specs.Cells.{Sound, Within, InTable, states, less, withMost, valueAt}
+use Rattle.geometry.specs.Geometry.{width, index}
+use Rattle.geometry.specs.Layers.{Holds, storedAt}
+use Rattle.intervals.specs.Stretches.{Apart, Small}
+use Rattle.marks.specs.Standing.{endsIn}
+use Rattle.months.specs.declared.chains.Places.{Places}
+use Rattle.months.specs.declared.ends.Way.{Way}
+
+-- ---- ways: `e` says where one ends, and what it spends
+
+-- from a cell of the year, the cell of the box that has just this to spend, and the cell of the year where it ends
+abbrev pub spending : Cell → Cell → Cell
+spending z e = record { state = z .state; left = e .left }
+
+abbrev pub afterward : Cell → Cell → Cell
+afterward z e = record { state = e .state; left = less (z .left) (e .left) }
+
+abbrev pub sumOf : BestProfit → BestProfit → BestProfit
+sumOf Nothing w = Nothing
+sumOf (Profit p) w = plus p w
+
+-- what the best way earns, with what its end is worth
+abbrev pub offer : Figures → List Quarter → (Cell → BestProfit) → Cell → Cell → BestProfit
+offer f quarters worth z e = sumOf (valueAt f (endsIn (e .state)) quarters (spending z e)) (worth (afterward z e))
+
+abbrev pub AtMost : BestProfit → BestProfit → Type 0
+AtMost Nothing v = Unit {0}
+AtMost (Profit p) Nothing = ⊥
+AtMost (Profit p) (Profit q) = p ≤ℤ q
+
+-- the best of the ways that were seen, where there is one: none of them is better, and it is one of the box's
+pub record Met (f : Figures) (cap : Budgets) (quarters : List Quarter) (worth : Cell → BestProfit) (z : Cell) (v : BestProfit) : Type 0 where
+  pub end : Cell
+  pub inside : InTable (withMost f cap) end
+  pub within : Within (end .left) (z .left)
+  pub is : v ≡ offer f quarters worth z end
+
+pub record Covered (f : Figures) (cap : Budgets) (quarters : List Quarter) (worth : Cell → BestProfit) (z : Cell) (seen : Cell → Type 0)
+    (v : BestProfit) : Type 0 where
+  pub above : (e : Cell) → InTable (withMost f cap) e → Within (e .left) (z .left) → seen e → AtMost (offer f quarters worth z e) v
+  pub met : (v ≡ Nothing) ⊎ Met f cap quarters worth z v
+
+-- ---- a stretch raised to another that does not meet it
+
+pub record RowAsked (cells : List ℤ) (to from count : ℕ) (gain : ℤ) : Type 0 where
+  pub beside : (to + count ≤ from) ⊎ (from + count ≤ to)
+  pub fits : from + count ≤ length cells
+  pub room : to + count ≤ length cells
+  pub small : Small cells from count
+  pub gains : natAbs gain ≤ 2 ^ 61
+
+-- ---- one way, taken from every cell of the year that has as much left
+
+abbrev pub endOf : Way → Cell
+endOf w = record { state = w .to; left = w .from .left }
+
+pub record WayAsked (f : Figures) (cells : List ℤ) (at : Places) (w : Way) : Type 0 where
+  pub sound : Sound f
+  pub inside : InTable f (w .from)
+  pub end : w .to < states f
+  pub apart : (at .here + width f ≤ at .after) ⊎ (at .after + width f ≤ at .here)
+  pub here : at .here + width f ≤ length cells
+  pub after : at .after + width f ≤ length cells
+  pub small : Small cells (at .after) (width f)
+  pub gains : natAbs (w .gain) ≤ 2 ^ 61
+
+-- these cells of the layer are raised to what the way brings, and all else is as it was
+pub record Brought (f : Figures) (at : Places) (w : Way) (which : Cell → Type 0) (was now : List ℤ) : Type 0 where
+  pub raised : (z : Cell) → InTable f z → which z
+      → storedAt f now (at .here) z ≡ maxℤ (storedAt f was (at .here) z) (storedAt f was (at .after) (afterward z (endOf w)) +ℤ w .gain)
+  pub others : (z : Cell) → InTable f z → (which z → ⊥) → storedAt f now (at .here) z ≡ storedAt f was (at .here) z
+  pub apart : Apart was now (at .here) (width f)
+
+-- of one row, of one span, of all
+pub record InRow (w : Way) (x y : ℕ) (z : Cell) : Type 0 where
+  pub state : z .state ≡ w .from .state
+  pub starts : z .left .starts ≡ x
+  pub ons : z .left .ons ≡ y
+  pub blocks : w .from .left .blocks ≤ z .left .blocks
+
+pub record InSpan (w : Way) (x y : ℕ) (z : Cell) : Type 0 where
+  pub state : z .state ≡ w .from .state
+  pub starts : z .left .starts ≡ x
+  pub ons : w .from .left .ons ≤ z .left .ons
+  pub before : z .left .ons < y
+  pub blocks : w .from .left .blocks ≤ z .left .blocks
+
+pub record InSection (w : Way) (x : ℕ) (z : Cell) : Type 0 where
+  pub state : z .state ≡ w .from .state
+  pub within : Within (w .from .left) (z .left)
+  pub before : z .left .starts < x

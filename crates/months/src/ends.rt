@@ -1,0 +1,84 @@
+// The layer at the beginning of a month from the one at its end, for every budget of the year: one roll over the month for each state at its end. The roll
+// says what the best way to that state earns, by what it spends; from every cell of the year that has as much left the way leads to one of the layer
+// at the month's end.
+
+use crate::chains::Places;
+use optimality::Budgets;
+use optimality::Cell;
+use optimality::Figures;
+ghost use Prim.Native.Nat.{_+_, _≤_};
+ghost use Rattle.intervals.specs.Stretches.{Raised};
+ghost use Rattle.months.specs.Ending.{RowAsked, WayAsked, Brought, InRow, InSpan, InSection};
+
+// A way through a month: from a cell of its box, all of which it spends, to a state; and what it earns.
+pub struct Way {
+    pub from: Cell,
+    pub to: usize,
+    pub gain: i64,
+}
+
+// Each number raised to another plus the gain, where that is larger.
+fn raise_row(cells: &mut [i64], to: usize, from: usize, count: usize, gain: i64)
+    requires { ⌜ RowAsked (now cells) to from count gain ⌝ }
+    ensures { λ _. ⌜ Raised (now (cells .entry)) (now (cells .exit)) to from count gain ⌝ }
+{
+    let mut i = 0;
+    while i < count {
+        let on = cells[from + i] + gain;
+        cells[to + i] = integers::larger(cells[to + i], on);
+        i += 1;
+    }
+}
+
+// The way taken from the cells of one row.
+fn raise_at(cells: &mut [i64], f: Figures, at: Places, w: Way, x: usize, y: usize)
+    requires { ⌜ (WayAsked f (now cells) at w) × (w .from .left .starts ≤ x) × (x ≤ f .most .starts) × (w .from .left .ons ≤ y) × (y ≤ f .most .ons) ⌝ }
+    ensures { λ _. ⌜ Brought f at w (InRow w x y) (now (cells .entry)) (now (cells .exit)) ⌝ }
+{
+    let spent = w.from.left;
+    let high = Cell {
+        state: w.from.state,
+        left: Budgets {
+            starts: x,
+            ons: y,
+            blocks: spent.blocks,
+        },
+    };
+    let low = Cell {
+        state: w.to,
+        left: Budgets {
+            starts: x - spent.starts,
+            ons: y - spent.ons,
+            blocks: 0,
+        },
+    };
+    let to = at.here + geometry::index(f, high);
+    let from = at.after + geometry::index(f, low);
+    raise_row(cells, to, from, f.most.blocks - spent.blocks + 1, w.gain);
+}
+
+// Of one span.
+fn raise_span(cells: &mut [i64], f: Figures, at: Places, w: Way, x: usize)
+    requires { ⌜ (WayAsked f (now cells) at w) × (w .from .left .starts ≤ x) × (x ≤ f .most .starts) ⌝ }
+    ensures { λ _. ⌜ Brought f at w (InSpan w x (f .most .ons + 1)) (now (cells .entry)) (now (cells .exit)) ⌝ }
+{
+    let most = f.most.ons;
+    let mut y = w.from.left.ons;
+    while y <= most {
+        raise_at(cells, f, at, w, x, y);
+        y += 1;
+    }
+}
+
+// Of all that have as much left.
+fn raise_by(cells: &mut [i64], f: Figures, at: Places, w: Way)
+    requires { ⌜ WayAsked f (now cells) at w ⌝ }
+    ensures { λ _. ⌜ Brought f at w (InSection w (f .most .starts + 1)) (now (cells .entry)) (now (cells .exit)) ⌝ }
+{
+    let most = f.most.starts;
+    let mut x = w.from.left.starts;
+    while x <= most {
+        raise_span(cells, f, at, w, x);
+        x += 1;
+    }
+}
