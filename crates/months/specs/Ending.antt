@@ -9,17 +9,19 @@ use lib.Signed.{_≤ℤ_}
 use Rattle.integers.specs.Maximum.{maxℤ}
 use Rattle.commitment.specs.declared.BestProfit.{BestProfit}
 use Rattle.commitment.specs.declared.BestProfit.the-variants.{Nothing, Profit}
+use Rattle.commitment.specs.Bounds.{mostIntervals}
 use Rattle.optimality.specs.declared.Budgets.{Budgets}
 use Rattle.optimality.specs.declared.Cell.{Cell}
 use Rattle.optimality.specs.declared.Figures.{Figures}
 use Rattle.optimality.specs.Machine.{Quarter, plus}
 use Rattle.optimality.specs.Cells.{Sound, Within, InTable, states, less, withMost, valueAt}
 use Rattle.geometry.specs.Geometry.{width, index}
-use Rattle.geometry.specs.Layers.{Holds, storedAt}
+use Rattle.geometry.specs.Layers.{Holds, LayerAt, storedAt}
 use Rattle.intervals.specs.Stretches.{Apart, Small}
 use Rattle.marks.specs.Standing.{endsIn}
 use Rattle.months.specs.declared.chains.Places.{Places}
 use Rattle.months.specs.declared.ends.Way.{Way}
+use Rattle.months.specs.Chaining.{Placed}
 
 -- ---- ways: `e` says where one ends, and what it spends
 
@@ -104,3 +106,52 @@ pub record InSection (w : Way) (x : ℕ) (z : Cell) : Type 0 where
   pub state : z .state ≡ w .from .state
   pub within : Within (w .from .left) (z .left)
   pub before : z .left .starts < x
+
+-- ---- what a number of the layer says when some ways were seen
+
+pub record Best (f : Figures) (cap : Budgets) (quarters : List Quarter) (worth : Cell → BestProfit) (z : Cell) (seen : Cell → Type 0) (n : ℕ)
+    (number : ℤ) : Type 0 where
+  pub value : BestProfit
+  pub covered : Covered f cap quarters worth z seen value
+  pub holds : Holds n value number
+
+-- those to the states before t, and to t those that spend one of the first j cells of the box
+abbrev pub SeenBy : Figures → Budgets → ℕ → ℕ → Cell → Cell → Type 0
+SeenBy f cap t j z e = (e .state < t) ⊎ ((e .state ≡ t) × (index (withMost f cap) (spending z e) < j))
+
+-- ---- the ways to a state, which stand in the month's own layer
+
+abbrev pub wayOf : Cell → ℕ → ℤ → Way
+wayOf from to gain = record { from = from; to = to; gain = gain }
+
+-- a way that there may be
+abbrev pub TakeAsked : Figures → List ℤ → Places → Cell → ℕ → BestProfit → Type 0
+TakeAsked f cells at from to earned = (gain : ℤ) → earned ≡ Profit gain → WayAsked f cells at (wayOf from to gain)
+
+pub record Taken (f : Figures) (at : Places) (from : Cell) (to : ℕ) (earned : BestProfit) (was now : List ℤ) : Type 0 where
+  pub some : (gain : ℤ) → earned ≡ Profit gain → Brought f at (wayOf from to gain) (InSection (wayOf from to gain) (f .most .starts + 1)) was now
+  pub none : earned ≡ Nothing → now ≡ was
+
+pub record WaysAsked (f : Figures) (cap : Budgets) (cells : List ℤ) (at : Places) (t : ℕ) : Type 0 where
+  pub sound : Sound f
+  pub fits : Within cap (f .most)
+  pub placed : Placed f cap at (length cells)
+  pub end : t < states f
+  pub ways : Cell → BestProfit
+  pub long : ℕ
+  pub long-few : long ≤ mostIntervals
+  pub rolled : LayerAt (withMost f cap) long ways (storedAt (withMost f cap) cells (at .work))
+  pub worth : Cell → BestProfit
+  pub ahead : ℕ
+  pub few : ahead ≤ mostIntervals
+  pub layer : LayerAt f ahead worth (storedAt f cells (at .after))
+
+-- where the best of the ways to the states before t stood, that of the ways to t as well
+pub record WaysTaken (f : Figures) (cap : Budgets) (at : Places) (t j : ℕ) (was now : List ℤ) : Type 0 where
+  pub best : (quarters : List Quarter) (worth : Cell → BestProfit) (n : ℕ) → n + length quarters ≤ mostIntervals
+      → LayerAt (withMost f cap) (length quarters) (valueAt (withMost f cap) (endsIn t) quarters) (storedAt (withMost f cap) was (at .work))
+      → LayerAt f n worth (storedAt f was (at .after)) → (z : Cell) → InTable f z
+      → Best f cap quarters worth z (SeenBy f cap t 0 z) (n + length quarters) (storedAt f was (at .here) z)
+      → Best f cap quarters worth z (SeenBy f cap t j z) (n + length quarters) (storedAt f now (at .here) z)
+  pub apart : Apart was now (at .here) (width f)
+  pub same : length now ≡ length was
