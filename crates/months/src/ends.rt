@@ -2,13 +2,21 @@
 // says what the best way to that state earns, by what it spends; from every cell of the year that has as much left the way leads to one of the layer
 // at the month's end.
 
+use crate::boxes;
 use crate::chains::Places;
+use commitment::BestProfit;
 use optimality::Budgets;
 use optimality::Cell;
 use optimality::Figures;
-ghost use Prim.Native.Nat.{_+_, _≤_};
+ghost use Prim.Native.Nat.{_+_, _≤_, _<_};
+ghost use lib.IntN.{pos};
+ghost use lib.ListN.{getD};
+ghost use Rattle.optimality.specs.Cells.{withMost};
+ghost use Rattle.geometry.specs.Geometry.{width, cellOf};
+ghost use Rattle.geometry.specs.Layers.{told};
 ghost use Rattle.intervals.specs.Stretches.{Raised};
 ghost use Rattle.months.specs.Ending.{RowAsked, WayAsked, Brought, InRow, InSpan, InSection};
+ghost use Rattle.months.specs.Ending.{TakeAsked, Taken, WaysAsked, WaysTaken};
 
 // A way through a month: from a cell of its box, all of which it spends, to a state; and what it earns.
 pub struct Way {
@@ -80,5 +88,40 @@ fn raise_by(cells: &mut [i64], f: Figures, at: Places, w: Way)
     while x <= most {
         raise_span(cells, f, at, w, x);
         x += 1;
+    }
+}
+
+// The same where there is such a way.
+fn take(cells: &mut [i64], f: Figures, at: Places, from: Cell, to: usize, earned: BestProfit)
+    requires { ⌜ TakeAsked f (now cells) at from to earned ⌝ }
+    ensures { λ _. ⌜ Taken f at from to earned (now (cells .entry)) (now (cells .exit)) ⌝ }
+{
+    match earned {
+        BestProfit::Nothing => {}
+        BestProfit::Profit(gain) => raise_by(cells, f, at, Way { from, to, gain }),
+    }
+}
+
+// The best way to a state that spends the j-th cell of the box.
+fn take_one(cells: &mut [i64], f: Figures, cap: Budgets, at: Places, to: usize, j: usize)
+    requires { ⌜ (WaysAsked f cap (now cells) at to) × (j < width (withMost f cap)) ⌝ }
+    ensures { λ _. ⌜ Taken f at (cellOf (withMost f cap) j) to (told (getD (now (cells .entry)) (at .work + j) (pos 0))) (now (cells .entry)) (now (cells .exit)) ⌝ }
+{
+    let from = geometry::cell_of(boxes::with_most(f, cap), j);
+    let work = at.work;
+    let earned = geometry::told(cells[work + j]);
+    take(cells, f, at, from, to, earned);
+}
+
+// All the best ways to a state.
+fn take_all(cells: &mut [i64], f: Figures, cap: Budgets, at: Places, to: usize)
+    requires { ⌜ WaysAsked f cap (now cells) at to ⌝ }
+    ensures { λ _. ⌜ WaysTaken f cap at to (width (withMost f cap)) (now (cells .entry)) (now (cells .exit)) ⌝ }
+{
+    let count = geometry::layer_cells(boxes::with_most(f, cap));
+    let mut j = 0;
+    while j < count {
+        take_one(cells, f, cap, at, to, j);
+        j += 1;
     }
 }
