@@ -2,7 +2,7 @@
 -- Classes: the three together. Parts: all cells, by what lies above the box. Years: the layer of the year. Slots: the places of the months' layers. Standing: a chain of months.
 -- Planning: one month of a plan. Partway: all of them. Idle: months that let nothing be taken.
 -- Ending: the value of a cell by the cells where its plans end. Bringing: a way taken from the cells of the year.
--- Covering: the best of all ways is the value. Taking: way after way.
+-- Covering: the best of all ways is the value. Taking: way after way. Rounds: state after state.
 pub mod Raising
 pub mod Storing
 pub mod Rolling
@@ -18,3 +18,4 @@ pub mod Ending
 pub mod Bringing
 pub mod Covering
 pub mod Taking
+pub mod Rounds

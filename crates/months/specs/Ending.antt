@@ -9,6 +9,7 @@ use lib.Signed.{_≤ℤ_}
 use Rattle.integers.specs.Maximum.{maxℤ}
 use Rattle.commitment.specs.declared.BestProfit.{BestProfit}
 use Rattle.commitment.specs.declared.BestProfit.the-variants.{Nothing, Profit}
+use Rattle.commitment.specs.declared.windows.Hours.{Hours}
 use Rattle.commitment.specs.Bounds.{mostIntervals}
 use Rattle.optimality.specs.declared.Budgets.{Budgets}
 use Rattle.optimality.specs.declared.Cell.{Cell}
@@ -19,9 +20,10 @@ use Rattle.geometry.specs.Geometry.{width, index}
 use Rattle.geometry.specs.Layers.{Holds, LayerAt, storedAt}
 use Rattle.intervals.specs.Stretches.{Apart, Small}
 use Rattle.marks.specs.Standing.{endsIn}
+use Rattle.months.specs.declared.chains.Month.{Month}
 use Rattle.months.specs.declared.chains.Places.{Places}
 use Rattle.months.specs.declared.ends.Way.{Way}
-use Rattle.months.specs.Chaining.{Placed}
+use Rattle.months.specs.Chaining.{Placed, MonthAsked, Elsewhere}
 
 -- ---- ways: `e` says where one ends, and what it spends
 
@@ -154,4 +156,18 @@ pub record WaysTaken (f : Figures) (cap : Budgets) (at : Places) (t j : ℕ) (wa
       → Best f cap quarters worth z (SeenBy f cap t 0 z) (n + length quarters) (storedAt f was (at .here) z)
       → Best f cap quarters worth z (SeenBy f cap t j z) (n + length quarters) (storedAt f now (at .here) z)
   pub apart : Apart was now (at .here) (width f)
+  pub same : length now ≡ length was
+
+-- ---- one state at the month's end
+
+pub record EndAsked (f : Figures) (cells prices : List ℤ) (hours : Hours) (m : Month) (at : Places) (t : ℕ) : Type 0 where
+  pub month : MonthAsked f cells prices hours m at
+  pub end : t < states f
+
+-- where the best of the ways to the states before one stood, that of the ways to those before another
+pub record EndsTaken (f : Figures) (quarters : List Quarter) (m : Month) (at : Places) (from to : ℕ) (was now : List ℤ) : Type 0 where
+  pub best : (worth : Cell → BestProfit) (n : ℕ) → n + length quarters ≤ mostIntervals → LayerAt f n worth (storedAt f was (at .after))
+      → (z : Cell) → InTable f z → Best f (m .cap) quarters worth z (SeenBy f (m .cap) from 0 z) (n + length quarters) (storedAt f was (at .here) z)
+      → Best f (m .cap) quarters worth z (SeenBy f (m .cap) to 0 z) (n + length quarters) (storedAt f now (at .here) z)
+  pub elsewhere : Elsewhere f (m .cap) at was now
   pub same : length now ≡ length was

@@ -3,20 +3,29 @@
 // at the month's end.
 
 use crate::boxes;
+use crate::chains;
+use crate::chains::Month;
 use crate::chains::Places;
 use commitment::BestProfit;
+use commitment::windows::Hours;
+use geometry::INFEASIBLE;
+use intervals::rows;
 use optimality::Budgets;
 use optimality::Cell;
 use optimality::Figures;
+ghost use mathlib.Core.List.{[]};
 ghost use Prim.Native.Nat.{_+_, _≤_, _<_};
 ghost use lib.IntN.{pos};
-ghost use lib.ListN.{getD};
-ghost use Rattle.optimality.specs.Cells.{withMost};
+ghost use lib.ListN.{length, getD};
+ghost use Rattle.optimality.specs.Cells.{Sound, states, withMost};
 ghost use Rattle.geometry.specs.Geometry.{width, cellOf};
-ghost use Rattle.geometry.specs.Layers.{told};
-ghost use Rattle.intervals.specs.Stretches.{Raised};
+ghost use Rattle.geometry.specs.Layers.{told, Layer, storedAt};
+ghost use Rattle.intervals.specs.Stretches.{Apart, Raised};
+ghost use Rattle.layers.specs.Filling.{quartersIn, between};
+ghost use Rattle.marks.specs.Standing.{endsIn};
+ghost use Rattle.months.specs.Chaining.{MonthAsked, MonthMade};
 ghost use Rattle.months.specs.Ending.{RowAsked, WayAsked, Brought, InRow, InSpan, InSection};
-ghost use Rattle.months.specs.Ending.{TakeAsked, Taken, WaysAsked, WaysTaken};
+ghost use Rattle.months.specs.Ending.{TakeAsked, Taken, WaysAsked, WaysTaken, EndAsked, EndsTaken};
 
 // A way through a month: from a cell of its box, all of which it spends, to a state; and what it earns.
 pub struct Way {
@@ -124,4 +133,67 @@ fn take_all(cells: &mut [i64], f: Figures, cap: Budgets, at: Places, to: usize)
         take_one(cells, f, cap, at, to, j);
         j += 1;
     }
+}
+
+// The layer after the month: 0 in a state with nothing left, and nowhere else a plan may end.
+fn put_state(cells: &mut [i64], g: Figures, at: usize, s: usize)
+    requires { ⌜ (Sound g) × (at + width g ≤ length (now cells)) × (s < states g) ⌝ }
+    ensures { λ _. ⌜ (Layer g (endsIn s) [] (storedAt g (now (cells .exit)) at)) × (Apart (now (cells .entry)) (now (cells .exit)) at (width g)) ⌝ }
+{
+    let w = geometry::layer_cells(g);
+    rows::put(&mut *cells, at, w, INFEASIBLE);
+    let i = at + s * geometry::section_cells(g);
+    cells[i] = 0;
+}
+
+// One state at the month's end: the month rolled to it, and its ways taken.
+fn one_end(
+    cells: &mut [i64],
+    f: Figures,
+    prices: &[i64],
+    hours: Hours,
+    m: Month,
+    at: Places,
+    t: usize,
+)
+    requires { ⌜ EndAsked f (now cells) (now prices) hours m at t ⌝ }
+    ensures { λ _. ⌜ EndsTaken f (between (quartersIn hours (now (prices .entry))) (m .from) (m .to)) m at t (t + 1) (now (cells .entry)) (now (cells .exit)) ⌝ }
+{
+    let cap = m.cap;
+    let g = boxes::with_most(f, cap);
+    let work = at.work;
+    let behind = work + geometry::layer_cells(g);
+    put_state(&mut *cells, g, behind, t);
+    chains::roll_box(&mut *cells, g, prices, hours, m, work);
+    take_all(cells, f, cap, at, t);
+}
+
+// All states.
+fn all_ends(cells: &mut [i64], f: Figures, prices: &[i64], hours: Hours, m: Month, at: Places)
+    requires { ⌜ MonthAsked f (now cells) (now prices) hours m at ⌝ }
+    ensures { λ _. ⌜ EndsTaken f (between (quartersIn hours (now (prices .entry))) (m .from) (m .to)) m at 0 (states f) (now (cells .entry)) (now (cells .exit)) ⌝ }
+{
+    let count = f.mot + f.mdt;
+    let mut t = 0;
+    while t < count {
+        one_end(cells, f, prices, hours, m, at, t);
+        t += 1;
+    }
+}
+
+// All cells of the year, by the states at the month's end.
+pub fn before_month_by_ends(
+    cells: &mut [i64],
+    f: Figures,
+    prices: &[i64],
+    hours: Hours,
+    m: Month,
+    at: Places,
+)
+    requires { ⌜ MonthAsked f (now cells) (now prices) hours m at ⌝ }
+    ensures { λ _. ⌜ MonthMade f (between (quartersIn hours (now (prices .entry))) (m .from) (m .to)) m at (now (cells .entry)) (now (cells .exit)) ⌝ }
+{
+    let w = geometry::layer_cells(f);
+    rows::put(&mut *cells, at.here, w, INFEASIBLE);
+    all_ends(cells, f, prices, hours, m, at);
 }
