@@ -15,7 +15,7 @@ use Rattle.optimality.specs.declared.Budgets.{Budgets}
 use Rattle.optimality.specs.declared.Cell.{Cell}
 use Rattle.optimality.specs.declared.Figures.{Figures}
 use Rattle.optimality.specs.Machine.{Quarter, plus}
-use Rattle.optimality.specs.Cells.{Sound, Within, InTable, states, less, withMost, valueAt}
+use Rattle.optimality.specs.Cells.{Sound, Within, InTable, states, budgets, less, withMost, valueAt}
 use Rattle.geometry.specs.Geometry.{width, index}
 use Rattle.geometry.specs.Layers.{Holds, LayerAt, storedAt}
 use Rattle.intervals.specs.Stretches.{Apart, Small}
@@ -171,3 +171,17 @@ pub record EndsTaken (f : Figures) (quarters : List Quarter) (m : Month) (at : P
       → Best f (m .cap) quarters worth z (SeenBy f (m .cap) to 0 z) (n + length quarters) (storedAt f now (at .here) z)
   pub elsewhere : Elsewhere f (m .cap) at was now
   pub same : length now ≡ length was
+
+-- ---- budgets one place on: where blocks are not limited, a row has one cell, and on-intervals taken for blocks make a span one row
+
+abbrev pub shifted : Budgets → Budgets
+shifted b = budgets 0 (b .starts) (b .ons)
+
+abbrev pub shiftedCell : Cell → Cell
+shiftedCell z = record { state = z .state; left = shifted (z .left) }
+
+abbrev pub shiftedFigures : Figures → Figures
+shiftedFigures f = withMost f (shifted (f .most))
+
+abbrev pub shiftedWay : Way → Way
+shiftedWay w = record { from = shiftedCell (w .from); to = w .to; gain = w .gain }

@@ -13,6 +13,7 @@ use intervals::rows;
 use optimality::Budgets;
 use optimality::Cell;
 use optimality::Figures;
+ghost use mathlib.Core.Path.{_≡_};
 ghost use mathlib.Core.List.{[]};
 ghost use Prim.Native.Nat.{_+_, _≤_, _<_};
 ghost use lib.IntN.{pos};
@@ -25,6 +26,8 @@ ghost use Rattle.layers.specs.Filling.{quartersIn, between};
 ghost use Rattle.marks.specs.Standing.{endsIn};
 ghost use Rattle.months.specs.Chaining.{MonthAsked, MonthMade};
 ghost use Rattle.months.specs.Ending.{RowAsked, WayAsked, Brought, InRow, InSpan, InSection};
+ghost use Rattle.months.specs.Ending as ending;
+ghost use Rattle.months.specs.Ending.{shiftedWay};
 ghost use Rattle.months.specs.Ending.{TakeAsked, Taken, WaysAsked, WaysTaken, EndAsked, EndsTaken};
 
 // A way through a month: from a cell of its box, all of which it spends, to a state; and what it earns.
@@ -100,6 +103,68 @@ fn raise_by(cells: &mut [i64], f: Figures, at: Places, w: Way)
     }
 }
 
+// Budgets one place on: where blocks are not limited a row has one cell, and on-intervals taken for blocks make a span one row.
+fn shifted(b: Budgets) -> Budgets
+    ensures { λ r. ⌜ r ≡ ending.shifted b ⌝ }
+{
+    Budgets {
+        starts: 0,
+        ons: b.starts,
+        blocks: b.ons,
+    }
+}
+
+fn shifted_way(w: Way) -> Way
+    ensures { λ r. ⌜ r ≡ shiftedWay w ⌝ }
+{
+    let left = shifted(w.from.left);
+    let from = Cell {
+        state: w.from.state,
+        left,
+    };
+    Way {
+        from,
+        to: w.to,
+        gain: w.gain,
+    }
+}
+
+// The same with spans for rows, where a row has one cell.
+fn raise_spans(cells: &mut [i64], f: Figures, at: Places, w: Way)
+    requires { ⌜ WayAsked f (now cells) at w ⌝ }
+    ensures { λ _. ⌜ Brought f at w (InSection w (f .most .starts + 1)) (now (cells .entry)) (now (cells .exit)) ⌝ }
+{
+    let most = f.most;
+    if 0 < most.blocks {
+        raise_by(cells, f, at, w);
+        return;
+    }
+    raise_by(
+        cells,
+        boxes::with_most(f, shifted(most)),
+        at,
+        shifted_way(w),
+    );
+}
+
+// The same with sections for rows, where a span has one cell as well.
+fn raise_all(cells: &mut [i64], f: Figures, at: Places, w: Way)
+    requires { ⌜ WayAsked f (now cells) at w ⌝ }
+    ensures { λ _. ⌜ Brought f at w (InSection w (f .most .starts + 1)) (now (cells .entry)) (now (cells .exit)) ⌝ }
+{
+    let most = f.most;
+    if 0 < most.blocks {
+        raise_by(cells, f, at, w);
+        return;
+    }
+    raise_spans(
+        cells,
+        boxes::with_most(f, shifted(most)),
+        at,
+        shifted_way(w),
+    );
+}
+
 // The same where there is such a way.
 fn take(cells: &mut [i64], f: Figures, at: Places, from: Cell, to: usize, earned: BestProfit)
     requires { ⌜ TakeAsked f (now cells) at from to earned ⌝ }
@@ -107,7 +172,7 @@ fn take(cells: &mut [i64], f: Figures, at: Places, from: Cell, to: usize, earned
 {
     match earned {
         BestProfit::Nothing => {}
-        BestProfit::Profit(gain) => raise_by(cells, f, at, Way { from, to, gain }),
+        BestProfit::Profit(gain) => raise_all(cells, f, at, Way { from, to, gain }),
     }
 }
 

@@ -15,8 +15,8 @@ use Rattle.months.proofs.ends.take.Tie as tie
 gained : (c : tie.After-known-told) → let v = c .before .earned .given in toZ w64 (ofZ w64 (v .0 .0)) ≡ v .0 .0
 gained c = let v = c .before .earned .given in plain-fits {x = v .0 .0} (record { sfits = c .known-told .given .0 .1 })
 
-raise-by-requires : tie.Need-raise-by-requires
-raise-by-requires c κs =
+raise-all-requires : tie.Need-raise-all-requires
+raise-all-requires c κs =
     let known = c .before in
     let v = known .before .earned .given in
     let o = known .before .before .before in
@@ -39,10 +39,10 @@ returns-2 c =
           let same : v .0 .0 ≡ gain = cc in
           subst
           (λ (g : ℤ). Brought (a .f) (a .at) (wayOf (a .from) (a .to) g) (InSection (wayOf (a .from) (a .to) g) (a .f .most .starts + 1)) (a .cells .now)
-          (called .raise-by .last .0))
-          (gained known ∙ same) (called .raise-by .ensures);
+          (called .raise-all .last .0))
+          (gained known ∙ same) (called .raise-all .ensures);
       none = λ e. absurd (no-earning (sym e ∙ v .1));
     }
 
 pub take-spec : {M : Type 1} → statement M
-take-spec = tie.close (tie.spec (λ c. search needs) (λ c. search needs) raise-by-requires returns (λ c. search needs) returns-2)
+take-spec = tie.close (tie.spec (λ c. search needs) (λ c. search needs) raise-all-requires returns (λ c. search needs) returns-2)
