@@ -18,7 +18,8 @@ ghost use mathlib.Core.List.{[]};
 ghost use Prim.Native.Nat.{_+_, _≤_, _<_};
 ghost use lib.IntN.{pos};
 ghost use lib.ListN.{length, getD};
-ghost use Rattle.optimality.specs.Cells.{Sound, states, withMost};
+ghost use Rattle.commitment.specs.Bounds.{mostIntervals};
+ghost use Rattle.optimality.specs.Cells.{Sound, Within, states, withMost};
 ghost use Rattle.geometry.specs.Geometry.{width, cellOf};
 ghost use Rattle.geometry.specs.Layers.{told, Layer, storedAt};
 ghost use Rattle.intervals.specs.Stretches.{Apart, Raised};
@@ -261,4 +262,36 @@ pub fn before_month_by_ends(
     let w = geometry::layer_cells(f);
     rows::put(&mut *cells, at.here, w, INFEASIBLE);
     all_ends(cells, f, prices, hours, m, at);
+}
+
+// Whether there are fewer cells to work out by the states at the month's end than by what may lie above its box, each in layers of the box: for each state
+// those of its roll and, for every cell of the box, those of a section of the year; else those of a roll for each part.
+fn fewer_by_ends(f: Figures, m: Month) -> bool
+    requires { ⌜ (Sound f) × (Within (m .cap) (f .most)) × (m .from < m .to) × (m .to ≤ mostIntervals) ⌝ }
+{
+    let most = f.most;
+    let cap = m.cap;
+    let long = m.to - m.from;
+    let parts = geometry::section_cells(boxes::with_most(f, boxes::less(most, cap)));
+    let all = (f.mot + f.mdt) * long + geometry::layer_cells(f);
+    all <= integers::capped_product(integers::LARGEST, parts, long)
+}
+
+// The same in the cheaper of the two ways.
+pub fn before_month_cheaper(
+    cells: &mut [i64],
+    f: Figures,
+    prices: &[i64],
+    hours: Hours,
+    m: Month,
+    at: Places,
+)
+    requires { ⌜ MonthAsked f (now cells) (now prices) hours m at ⌝ }
+    ensures { λ _. ⌜ MonthMade f (between (quartersIn hours (now (prices .entry))) (m .from) (m .to)) m at (now (cells .entry)) (now (cells .exit)) ⌝ }
+{
+    if fewer_by_ends(f, m) {
+        before_month_by_ends(cells, f, prices, hours, m, at);
+        return;
+    }
+    chains::before_month(cells, f, prices, hours, m, at);
 }
