@@ -10,14 +10,13 @@ use lib.Dec.{ltb}
 use lib.IntN.{ℤ, pos, natAbs, _+ℤ_}
 use lib.ListN.{length, getD}
 use Rattle.integers.specs.Maximum.{maxℤ}
-use Rattle.optimality.specs.declared.Budgets.{Budgets}
 use Rattle.optimality.specs.declared.Cell.{Cell}
 use Rattle.optimality.specs.declared.Figures.{Figures}
-use Rattle.optimality.specs.Cells.{InTable, cell, states}
+use Rattle.optimality.specs.Cells.{InTable, cell}
 use Rattle.geometry.specs.Geometry.{width, index, cellOf}
 use Rattle.geometry.specs.Layers.{storedAt}
 use Rattle.geometry.proofs.Places.{index-lt, index-along, cell-there}
-use Rattle.intervals.specs.Stretches.{Apart, Small, Raised}
+use Rattle.intervals.specs.Stretches.{Raised}
 use Rattle.intervals.proofs.Stretches.{last-or-before}
 use Rattle.months.specs.declared.chains.Places.{Places}
 use Rattle.months.specs.declared.ends.Way.{Way}

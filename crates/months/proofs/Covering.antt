@@ -1,11 +1,11 @@
 -- The best of the ways that were seen grows way by way, and when all were seen it is the value of the cell.
 use mathlib.Core.Path.{_≡_, refl, sym, ap, ap₂, _∙_, subst}
-use mathlib.Core.Bool.{Bool, true, false, cond}
+use mathlib.Core.Bool.{true, false}
 use mathlib.Core.List.{List}
 use mathlib.Core.Logic.{_⊎_, ⊎-elim, inl, inr}
-use Prim.Native.Nat.{ℕ, _+_, _-_, _*_, _≤_, _<_, min}
+use Prim.Native.Nat.{ℕ, _+_, _-_, _*_, _≤_, min}
 use native.Mathlib.Omega.{arith}
-use lib.IntN.{ℤ, pos, natAbs, _+ℤ_, +ℤ-comm}
+use lib.IntN.{ℤ, natAbs, _+ℤ_, +ℤ-comm}
 use lib.Signed.{ltZ, _≤ℤ_, _<ℤ_}
 use Rattle.integers.proofs.Linear.{zarith, zsum}
 use Rattle.integers.proofs.Order.{ltZ-dec, ≤ℤ-antisym}
@@ -17,9 +17,9 @@ use Rattle.optimality.specs.declared.Budgets.{Budgets}
 use Rattle.optimality.specs.declared.Cell.{Cell}
 use Rattle.optimality.specs.declared.Figures.{Figures}
 use Rattle.optimality.specs.Machine.{Quarter, more, plus}
-use Rattle.optimality.specs.Cells.{Sound, Within, InTable, cell, less, withMost, valueAt}
+use Rattle.optimality.specs.Cells.{Sound, Within, InTable, less, withMost, valueAt}
 use Rattle.optimality.specs.Years.{raised}
-use Rattle.geometry.specs.Layers.{infeasible, swing, Holds}
+use Rattle.geometry.specs.Layers.{swing, Holds}
 use Rattle.geometry.proofs.Holding.{Offers, above-infeasible}
 use Rattle.marks.specs.Standing.{endsIn, spent}
 use Rattle.months.specs.Capping.{boxOf, overOf}

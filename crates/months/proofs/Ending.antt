@@ -1,8 +1,8 @@
 -- The value of a cell by the cells where its plans end: no way to an end earns more with what the end is worth, and one earns as much.
 use mathlib.Core.Path.{_≡_, refl, sym, ap, ap₂, _∙_, subst}
 use mathlib.Core.Bool.{Bool, true, false, cond, _&&_, _||_}
-use mathlib.Core.List.{List, [], _∷_, _++_, append-nil}
-use mathlib.Core.Logic.{_⊎_, ⊎-elim, inl, inr}
+use mathlib.Core.List.{List, [], _∷_, append-nil}
+use mathlib.Core.Logic.{_⊎_, ⊎-elim}
 use Prim.Native.Nat.{ℕ, _+_, _-_, _*_, _/_, _≤_, _<_}
 use native.Mathlib.Nat.{mul-le-mul-right, one-mul}
 use native.Mathlib.Omega.{arith}
@@ -18,7 +18,7 @@ use Rattle.commitment.specs.Best.{Plan, nothing, plan, profitOf}
 use Rattle.commitment.specs.Order.{earlier}
 use Rattle.optimality.specs.declared.Cell.{Cell}
 use Rattle.optimality.specs.declared.Figures.{Figures}
-use Rattle.optimality.specs.Machine.{Step, stop, go, allow, Quarter, inQuarter, walk, run, ended, bestFrom}
+use Rattle.optimality.specs.Machine.{Step, go, allow, Quarter, inQuarter, walk, run, ended, bestFrom}
 use Rattle.optimality.specs.Cells.{Sound, Within, InTable, cell, states, afterOff, afterOn, startPays, gain, mayRun, offCell, onCell, offStep, onStep, cellStep}
 use Rattle.optimality.specs.Cells.{choices, rungs, planAt, valueAt}
 use Rattle.optimality.proofs.Rival.{not-plan, Beats, Ascending, attained, no-rival}

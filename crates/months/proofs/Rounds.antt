@@ -1,8 +1,8 @@
 -- The states at a month's end one after the other: the month rolled to each, its ways taken; after the last of them the layer holds the values.
-use mathlib.Core.Path.{_≡_, refl, sym, ap, _∙_, subst}
+use mathlib.Core.Path.{_≡_, refl, sym, _∙_, subst}
 use mathlib.Core.List.{List, []}
 use mathlib.Core.Logic.{_⊎_, ⊎-elim, inl, inr}
-use Prim.Native.Nat.{ℕ, _+_, _-_, _≤_, _<_}
+use Prim.Native.Nat.{ℕ, _+_, _≤_, _<_}
 use native.Mathlib.Nat.{zero-add}
 use native.Mathlib.Omega.{arith}
 use lib.IntN.{ℤ, pos}
@@ -30,7 +30,7 @@ use Rattle.layers.proofs.Between.{between-length}
 use Rattle.marks.specs.Standing.{endsIn}
 use Rattle.months.specs.declared.chains.Month.{Month}
 use Rattle.months.specs.declared.chains.Places.{Places}
-use Rattle.months.specs.Chaining.{BoxAsked, RolledAt, MonthAsked, MonthMade, Elsewhere}
+use Rattle.months.specs.Chaining.{BoxAsked, RolledAt, MonthAsked, MonthMade}
 use Rattle.months.specs.Ending.{spending, Best, SeenBy, WaysAsked, WaysTaken, EndAsked, EndsTaken}
 use Rattle.months.proofs.Covering.{none-seen, none-new, all-seen}
 

@@ -1,20 +1,17 @@
 -- Where blocks are not limited, starts and on-intervals may be taken for on-intervals and blocks: every cell keeps its place.
-use mathlib.Core.Path.{_≡_, refl, sym, ap, ap₂, _∙_, subst}
+use mathlib.Core.Path.{_≡_, refl, sym, ap, ap₂, _∙_}
 use mathlib.Core.List.{List}
-use mathlib.Core.Logic.{_⊎_, ⊎-elim, inl, inr}
-use Prim.Native.Nat.{ℕ, _+_, _-_, _*_, _≤_, _<_}
+use Prim.Native.Nat.{ℕ, _+_, _*_}
 use native.Mathlib.Nat.{zero-mul, one-mul, mul-one}
 use native.Mathlib.Omega.{arith}
 use lib.IntN.{ℤ, pos, _+ℤ_}
-use lib.ListN.{length, getD}
+use lib.ListN.{getD}
 use Rattle.integers.specs.Maximum.{maxℤ}
-use Rattle.optimality.specs.declared.Budgets.{Budgets}
 use Rattle.optimality.specs.declared.Cell.{Cell}
 use Rattle.optimality.specs.declared.Figures.{Figures}
-use Rattle.optimality.specs.Cells.{Sound, Within, InTable, states}
+use Rattle.optimality.specs.Cells.{Sound, InTable, states}
 use Rattle.geometry.specs.Geometry.{row, span, section, width, index}
 use Rattle.geometry.specs.Layers.{storedAt}
-use Rattle.intervals.specs.Stretches.{Small}
 use Rattle.months.specs.declared.chains.Places.{Places}
 use Rattle.months.specs.declared.ends.Way.{Way}
 use Rattle.months.specs.Ending.{afterward, endOf, WayAsked, Brought, InSection, shiftedCell, shiftedFigures, shiftedWay}

@@ -9,7 +9,6 @@ use borrow.Author.Tests.{eqb-true, eqb-false, leb-true, leb-false}
 use lib.Dec.{eqb, leb}
 use lib.IntN.{ℤ, pos, natAbs, _+ℤ_}
 use lib.ListN.{length, getD}
-use Rattle.integers.specs.Maximum.{maxℤ}
 use Rattle.commitment.specs.declared.BestProfit.{BestProfit}
 use Rattle.commitment.specs.declared.BestProfit.the-variants.{Nothing, Profit}
 use Rattle.commitment.specs.Bounds.{mostIntervals}
@@ -17,18 +16,17 @@ use Rattle.optimality.specs.declared.Budgets.{Budgets}
 use Rattle.optimality.specs.declared.Cell.{Cell}
 use Rattle.optimality.specs.declared.Figures.{Figures}
 use Rattle.optimality.specs.Machine.{Quarter, more, plus}
-use Rattle.optimality.specs.Cells.{Sound, Within, InTable, cell, states, withMost, valueAt}
+use Rattle.optimality.specs.Cells.{Sound, Within, InTable, cell, withMost, valueAt}
 use Rattle.optimality.proofs.Within.{within-within, with-sound, with-value}
 use Rattle.geometry.specs.Geometry.{width, index, cellOf}
 use Rattle.geometry.specs.Layers.{swing, told, Holds, LayerAt, storedAt}
 use Rattle.geometry.proofs.Holding.{holds-more, holds-small}
 use Rattle.geometry.proofs.Places.{index-lt, cell-there}
 use Rattle.geometry.proofs.Telling.{told-is}
-use Rattle.intervals.specs.Stretches.{Apart}
 use Rattle.intervals.proofs.Stretches.{last-or-before}
 use Rattle.marks.specs.Standing.{endsIn}
 use Rattle.months.specs.declared.chains.Places.{Places}
-use Rattle.months.specs.Ending.{spending, afterward, sumOf, offer, Covered, WayAsked, Brought, InSection, Best, SeenBy}
+use Rattle.months.specs.Ending.{spending, afterward, sumOf, offer, Brought, InSection, Best, SeenBy}
 use Rattle.months.specs.Ending.{wayOf, TakeAsked, Taken, WaysAsked, WaysTaken}
 use Rattle.months.proofs.Raising.{numbered-there}
 use Rattle.months.proofs.Covering.{offers-sum, one-seen, none-new}

@@ -3,8 +3,8 @@ use mathlib.Core.Path.{_≡_}
 use mathlib.Core.List.{List}
 use mathlib.Core.Logic.{_⊎_}
 use Prim.Native.Nat.{ℕ, _+_, _^_, _≤_, _<_}
-use lib.IntN.{ℤ, pos, natAbs, _+ℤ_}
-use lib.ListN.{length, getD}
+use lib.IntN.{ℤ, natAbs, _+ℤ_}
+use lib.ListN.{length}
 use lib.Signed.{_≤ℤ_}
 use Rattle.integers.specs.Maximum.{maxℤ}
 use Rattle.commitment.specs.declared.BestProfit.{BestProfit}

@@ -264,8 +264,8 @@ pub fn before_month_by_ends(
     all_ends(cells, f, prices, hours, m, at);
 }
 
-// Whether there are fewer cells to work out by the states at the month's end than by what may lie above its box, each in layers of the box: for each state
-// those of its roll and, for every cell of the box, those of a section of the year; else those of a roll for each part.
+// Whether the states at the month's end ask for fewer cells than the parts that may lie above its box. In layers of the box: each state asks for one for every
+// interval, and for one for every cell of a section of the year; each part for one for every interval.
 fn fewer_by_ends(f: Figures, m: Month) -> bool
     requires { ⌜ (Sound f) × (Within (m .cap) (f .most)) × (m .from < m .to) × (m .to ≤ mostIntervals) ⌝ }
 {

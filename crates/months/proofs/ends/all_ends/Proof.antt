@@ -1,12 +1,11 @@
 -- The invariant: the ways to the first t states are taken. The states left fall.
 use mathlib.Core.Path.{_≡_, refl, subst}
-use Prim.Native.Nat.{ℕ, _-_, _≤_, _<_}
+use Prim.Native.Nat.{ℕ, _-_, _≤_}
 use native.Mathlib.Omega.{arith}
 use Rattle.optimality.specs.Cells.{states}
 use Rattle.layers.specs.Filling.{quartersIn, between}
 use Rattle.months.specs.Ending.{EndsTaken}
 use Rattle.months.proofs.Rounds.{no-round, round-asked, round-next}
-use borrow.Author.Needs.{needs}
 use Rattle.months.proofs.ends.all_ends.Statement.{statement}
 use Rattle.months.proofs.ends.all_ends.Tie as tie
 

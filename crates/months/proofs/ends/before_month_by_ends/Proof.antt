@@ -1,5 +1,4 @@
 -- From a layer without a schedule, all ways to all states.
-use mathlib.Core.Path.{_≡_}
 use native.Mathlib.Omega.{arith}
 use Rattle.months.proofs.Rounds.{layer-fits, rounds-asked, rounds-made}
 use borrow.Author.Needs.{needs}

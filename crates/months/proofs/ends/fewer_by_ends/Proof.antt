@@ -1,5 +1,4 @@
 -- No sum leaves 64 bits: a layer of the year has room there, and a month is short.
-use mathlib.Core.Path.{_≡_}
 use Prim.Native.Nat.{ℕ, _+_, _-_, _*_, _≤_}
 use native.Mathlib.Nat.{mul-le-mul}
 use native.Mathlib.Omega.{arith}

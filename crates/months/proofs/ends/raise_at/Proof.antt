@@ -1,9 +1,8 @@
 -- The row's cells that have as much left, and those where the way leads from them, are two stretches.
 use mathlib.Core.Path.{_≡_}
-use Prim.Native.Nat.{_+_, _^_, _≤_, _<_}
+use Prim.Native.Nat.{_<_}
 use native.Mathlib.Omega.{arith}
 use lib.Dec.{lit<}
-use lib.IntN.{ℤ}
 use mir.Syntax.{w64}
 use mir.Val.{toZ, ofZ}
 use Rattle.integers.proofs.Ranges.{within-abs, within-weaken, plain}

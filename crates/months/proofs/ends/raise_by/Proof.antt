@@ -5,7 +5,6 @@ use native.Mathlib.Omega.{arith}
 use lib.ListN.{length}
 use Rattle.months.specs.Ending.{WayAsked, Brought, InSection}
 use Rattle.months.proofs.Bringing.{none-brought, asked-again, span-next}
-use borrow.Author.Needs.{needs}
 use Rattle.months.proofs.ends.raise_by.Statement.{statement}
 use Rattle.months.proofs.ends.raise_by.Tie as tie
 

@@ -5,7 +5,6 @@ use native.Mathlib.Omega.{arith}
 use lib.ListN.{length}
 use Rattle.months.specs.Ending.{WayAsked, Brought, InSpan}
 use Rattle.months.proofs.Bringing.{none-brought, asked-again, row-next}
-use borrow.Author.Needs.{needs}
 use Rattle.months.proofs.ends.raise_span.Statement.{statement}
 use Rattle.months.proofs.ends.raise_span.Tie as tie
 

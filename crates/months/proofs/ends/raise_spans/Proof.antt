@@ -1,11 +1,11 @@
 -- Budgets one place on are others' names for the same cells.
-use mathlib.Core.Path.{_≡_, sym, ap, ap₂, _∙_, subst}
-use Prim.Native.Nat.{ℕ, _+_}
+use mathlib.Core.Path.{_≡_, sym, ap, _∙_, subst}
+use Prim.Native.Nat.{_+_}
 use native.Mathlib.Omega.{arith}
 use Rattle.optimality.specs.declared.Figures.{Figures}
 use Rattle.optimality.specs.Cells.{withMost}
 use Rattle.months.specs.declared.ends.Way.{Way}
-use Rattle.months.specs.Ending.{WayAsked, Brought, InSection, shiftedFigures, shiftedWay}
+use Rattle.months.specs.Ending.{WayAsked, Brought, InSection, shiftedFigures}
 use Rattle.months.proofs.Shifting.{shifted-asked, shifted-brought}
 use borrow.Author.Needs.{needs}
 use Rattle.months.proofs.ends.raise_spans.Statement.{statement}

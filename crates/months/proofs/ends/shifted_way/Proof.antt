@@ -1,11 +1,10 @@
 -- The same way, by other budgets.
-use mathlib.Core.Path.{_≡_, ap, ap₂, _∙_}
+use mathlib.Core.Path.{_≡_, ap₂}
 use lib.IntN.{ℤ}
 use mir.Syntax.{w64}
 use mir.Val.{toZ, ofZ}
 use Rattle.integers.proofs.Ranges.{plain-fits}
 use Rattle.optimality.specs.declared.Budgets.{Budgets}
-use Rattle.months.specs.declared.ends.Way.{Way}
 use borrow.Author.Needs.{needs}
 use Rattle.months.proofs.ends.shifted_way.Statement.{statement}
 use Rattle.months.proofs.ends.shifted_way.Tie as tie

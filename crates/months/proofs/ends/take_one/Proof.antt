@@ -1,8 +1,7 @@
 -- What stands at the j-th place of the month's own layer tells whether there is a way.
 use mathlib.Core.Path.{_≡_, sym, ap, _∙_, subst}
 use Prim.Native.Nat.{_+_}
-use native.Mathlib.Omega.{arith}
-use lib.IntN.{ℤ, pos}
+use lib.IntN.{pos}
 use lib.ListN.{getD}
 use Rattle.integers.proofs.Ranges.{plain-fits}
 use Rattle.commitment.specs.declared.BestProfit.{BestProfit}
