@@ -12,7 +12,7 @@ use lib.ListN.{length, getD}
 use Rattle.integers.specs.Maximum.{maxℤ}
 use Rattle.optimality.specs.declared.Cell.{Cell}
 use Rattle.optimality.specs.declared.Figures.{Figures}
-use Rattle.optimality.specs.Cells.{InTable, cell}
+use Rattle.optimality.specs.Cells.{InTable, cell, states}
 use Rattle.geometry.specs.Geometry.{width, index, cellOf}
 use Rattle.geometry.specs.Layers.{storedAt}
 use Rattle.geometry.proofs.Places.{index-lt, index-along, cell-there}
@@ -22,30 +22,30 @@ use Rattle.months.specs.declared.chains.Places.{Places}
 use Rattle.months.specs.declared.ends.Way.{Way}
 use Rattle.months.specs.Ending.{afterward, endOf, RowAsked, WayAsked, Brought, InRow, InSpan, InSection}
 
+-- a place of one layer is not in another that lies apart
+pub beside : (here after wide i : ℕ) → (here + wide ≤ after) ⊎ (after + wide ≤ here) → i < wide → (after + i < here) ⊎ (here + wide ≤ after + i)
+beside here after wide i apart h =
+    ⊎-elim (λ (l : here + wide ≤ after). inr (omega arith)) (λ (l : after + wide ≤ here). inl (omega arith)) apart
+
+-- where a way ends is a cell of the table
+pub afterward-inside : (f : Figures) (z e : Cell) → InTable f z → e .state < states f → InTable f (afterward z e)
+afterward-inside f z e i h =
+    record {
+      state = h;
+      left =
+          record {
+            starts = omega (arith, i .left .starts);
+            ons = omega (arith, i .left .ons);
+            blocks = omega (arith, i .left .blocks);
+          };
+    }
+
 module _ (f : Figures) (at : Places) (w : Way) (was : List ℤ) (asked : WayAsked f was at w) where
   -- ---- some cells after others
 
-  -- a place of the layer at the month's end is not in the one that is raised
-  apart-from : (i : ℕ) → i < width f → (at .after + i < at .here) ⊎ (at .here + width f ≤ at .after + i)
-  apart-from i h =
-      ⊎-elim (λ (l : at .here + width f ≤ at .after). inr (omega arith)) (λ (l : at .after + width f ≤ at .here). inl (omega arith)) (asked .apart)
-
-  -- where the way ends, from a cell that has as much left
-  pub afterward-inside : (z : Cell) → InTable f z → InTable f (afterward z (endOf w))
-  afterward-inside z i =
-      record {
-        state = asked .end;
-        left =
-            record {
-              starts = omega (arith, i .left .starts);
-              ons = omega (arith, i .left .ons);
-              blocks = omega (arith, i .left .blocks);
-            };
-      }
-
   module _ (mid : List ℤ) (some : Cell → Type 0) (a : Brought f at w some was mid) where
     pub later-same : (z : Cell) → InTable f z → storedAt f mid (at .after) z ≡ storedAt f was (at .after) z
-    later-same z i = a .apart (at .after + index f z) (apart-from (index f z) (index-lt f z i))
+    later-same z i = a .apart (at .after + index f z) (beside (at .here) (at .after) (width f) (index f z) (asked .apart) (index-lt f z i))
 
     pub asked-again : length mid ≡ length was → WayAsked f mid at w
     asked-again same =
@@ -56,7 +56,7 @@ module _ (f : Figures) (at : Places) (w : Way) (was : List ℤ) (asked : WayAske
           apart = asked .apart;
           here = omega (arith, asked .here, same);
           after = omega (arith, asked .after, same);
-          small = λ i h. subst (λ (v : ℤ). natAbs v ≤ 2 ^ 62) (sym (a .apart (at .after + i) (apart-from i h))) (asked .small i h);
+          small = λ i h. subst (λ (v : ℤ). natAbs v ≤ 2 ^ 62) (sym (a .apart (at .after + i) (beside (at .here) (at .after) (width f) i (asked .apart) h))) (asked .small i h);
           gains = asked .gains;
         }
 
@@ -68,7 +68,7 @@ module _ (f : Figures) (at : Places) (w : Way) (was : List ℤ) (asked : WayAske
               ⊎-elim (λ (s : some z). b .others z i (once z s) ∙ a .raised z i s)
               (λ (m : more z).
               b .raised z i m
-              ∙ ap₂ (λ (u v : ℤ). maxℤ u (v +ℤ w .gain)) (a .others z i (λ s. once z s m)) (later-same (afterward z (endOf w)) (afterward-inside z i)))
+              ∙ ap₂ (λ (u v : ℤ). maxℤ u (v +ℤ w .gain)) (a .others z i (λ s. once z s m)) (later-same (afterward z (endOf w)) (afterward-inside f z (endOf w) i (asked .end))))
               (either z i h);
           others = λ z i h. b .others z i (λ m. h (second z m)) ∙ a .others z i (λ s. h (first z s));
           apart = λ j out. b .apart j out ∙ a .apart j out;

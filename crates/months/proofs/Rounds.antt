@@ -32,6 +32,7 @@ use Rattle.months.specs.declared.chains.Month.{Month}
 use Rattle.months.specs.declared.chains.Places.{Places}
 use Rattle.months.specs.Chaining.{BoxAsked, RolledAt, MonthAsked, MonthMade}
 use Rattle.months.specs.Ending.{spending, Best, SeenBy, WaysAsked, WaysTaken, EndAsked, EndsTaken}
+use Rattle.months.proofs.Bringing.{beside}
 use Rattle.months.proofs.Covering.{none-seen, none-new, all-seen}
 
 -- a layer whose numbers are as they were
@@ -178,14 +179,9 @@ module _ (f : Figures) (prices : List ℤ) (hours : Hours) (m : Month) (at : Pla
         layer = kept f (asked .ahead) (asked .worth) was cells (at .after) same (asked .layer);
       }
 
-  beside : (i : ℕ) → i < width f → (at .after + i < at .here) ⊎ (at .here + width f ≤ at .after + i)
-  beside i h =
-      ⊎-elim (λ (o : at .here + width f ≤ at .after). inr (omega arith)) (λ (o : at .after + width f ≤ at .here). inl (omega arith))
-      (asked .placed .apart)
-
   module _ (cells : List ℤ) (t : ℕ) (p : EndsTaken f month m at 0 t was cells) where
     unmoved : (i : ℕ) → i < width f → getD cells (at .after + i) (pos 0) ≡ getD was (at .after + i) (pos 0)
-    unmoved i h = p .elsewhere (at .after + i) (beside i h) (inl (omega (arith, asked .placed .after)))
+    unmoved i h = p .elsewhere (at .after + i) (beside (at .here) (at .after) (width f) i (asked .placed .apart) h) (inl (omega (arith, asked .placed .after)))
 
     pub round-asked : t < states f → EndAsked f cells prices hours m at t
     round-asked h = record { month = asked-again cells (p .same) unmoved; end = h }
@@ -208,7 +204,7 @@ module _ (f : Figures) (prices : List ℤ) (hours : Hours) (m : Month) (at : Pla
 
   module _ (long : length empty ≡ length was) where
     after-empty : (i : ℕ) → i < width f → getD empty (at .after + i) (pos 0) ≡ getD was (at .after + i) (pos 0)
-    after-empty i h = put-apart was (at .here) (width f) infeasible layer-fits (at .after + i) (beside i h)
+    after-empty i h = put-apart was (at .here) (width f) infeasible layer-fits (at .after + i) (beside (at .here) (at .after) (width f) i (asked .placed .apart) h)
 
     pub rounds-asked : MonthAsked f empty prices hours m at
     rounds-asked = asked-again empty long after-empty

@@ -15,6 +15,7 @@ use Rattle.geometry.specs.Layers.{storedAt}
 use Rattle.months.specs.declared.chains.Places.{Places}
 use Rattle.months.specs.declared.ends.Way.{Way}
 use Rattle.months.specs.Ending.{afterward, endOf, WayAsked, Brought, InSection, shiftedCell, shiftedFigures, shiftedWay}
+use Rattle.months.proofs.Bringing.{afterward-inside}
 
 module _ (f : Figures) (none : f .most .blocks ≡ 0) where
   one-cell : row f ≡ 1
@@ -111,25 +112,13 @@ module _ (f : Figures) (none : f .most .blocks ≡ 0) where
           before = omega (arith, i .left .starts);
         }
 
-    led-inside : (z : Cell) → InTable f z → InTable f (afterward z (endOf w))
-    led-inside z i =
-        record {
-          state = asked .end;
-          left =
-              record {
-                starts = omega (arith, i .left .starts);
-                ons = omega (arith, i .left .ons);
-                blocks = omega (arith, i .left .blocks);
-              };
-        }
-
     pub shifted-brought : (now : List ℤ) → Brought (shiftedFigures f) at (shiftedWay w) shiftedAll was now → Brought f at w all was now
     shifted-brought now b =
         record {
           raised = λ z i s.
               sym (same-stored now (at .here) z i) ∙ b .raised (shiftedCell z) (shifted-inside z i) (there z s)
               ∙ ap₂ (λ (u v : ℤ). maxℤ u (v +ℤ w .gain)) (same-stored was (at .here) z i)
-              (same-stored was (at .after) (afterward z (endOf w)) (led-inside z i));
+              (same-stored was (at .after) (afterward z (endOf w)) (afterward-inside f z (endOf w) i (asked .end)));
           others = λ z i h.
               sym (same-stored now (at .here) z i) ∙ b .others (shiftedCell z) (shifted-inside z i) (λ s. h (back z i s))
               ∙ same-stored was (at .here) z i;

@@ -29,6 +29,7 @@ use Rattle.months.specs.declared.chains.Places.{Places}
 use Rattle.months.specs.Ending.{spending, afterward, sumOf, offer, Brought, InSection, Best, SeenBy}
 use Rattle.months.specs.Ending.{wayOf, TakeAsked, Taken, WaysAsked, WaysTaken}
 use Rattle.months.proofs.Raising.{numbered-there}
+use Rattle.months.proofs.Bringing.{beside, afterward-inside}
 use Rattle.months.proofs.Covering.{offers-sum, one-seen, none-new}
 
 -- ---- what a way is asked with
@@ -84,9 +85,7 @@ module _ (f : Figures) (cap : Budgets) (at : Places) (t : ℕ) (was : List ℤ) 
 
     after-same : (i : ℕ) → i < width f → getD cells (at .after + i) (pos 0) ≡ getD was (at .after + i) (pos 0)
     after-same i h =
-        p .apart (at .after + i)
-        (⊎-elim (λ (l : at .here + width f ≤ at .after). inr (omega arith)) (λ (l : at .after + width f ≤ at .here). inl (omega arith))
-        (asked .placed .apart))
+        p .apart (at .after + i) (beside (at .here) (at .after) (width f) i (asked .placed .apart) h)
 
     pub ways-asked : WaysAsked f cap cells at t
     ways-asked =
@@ -183,16 +182,7 @@ module _ (f : Figures) (cap : Budgets) (at : Places) (t : ℕ) (was : List ℤ) 
               ∙ ap (λ (v : BestProfit). sumOf v (worth (afterward z end))) (sym way-is ∙ e)
 
           led-inside : InTable f (afterward z end)
-          led-inside =
-              record {
-                state = asked .end;
-                left =
-                    record {
-                      starts = omega (arith, inside .left .starts);
-                      ons = omega (arith, inside .left .ons);
-                      blocks = omega (arith, inside .left .blocks);
-                    };
-              }
+          led-inside = afterward-inside f z end inside (asked .end)
 
           later : Holds n (worth (afterward z end)) (storedAt f cells (at .after) (afterward z end))
           later =
