@@ -221,8 +221,8 @@ module _ (u : UnitRecord) (monthly : Monthly) (y : Year) (prices : List ℤ) (cu
     all-beside k zero = tt
     all-beside k (suc count) = (
       (λ which.
-          beside-under (limitFor (run .limits) which) (limitFor (u .limits) which) (limitFor (figuresIn run k) which) (limitFor (monthly .limits) which)
-          (of .year which) (figures-under k which) (stand-beside which)),
+      beside-under (limitFor (run .limits) which) (limitFor (u .limits) which) (limitFor (figuresIn run k) which) (limitFor (monthly .limits) which)
+      (of .year which) (figures-under k which) (stand-beside which)),
       all-beside (k + 1) count,
     )
 

@@ -85,14 +85,7 @@ fn alone(
     let each = c.monthly.limits;
     let most = commitment::with_limit(limits, which, Limit::At(figure));
     let less = commitment::with_limit(limits, which, Limit::At(figure - 1));
-    pair(
-        cells,
-        c,
-        prices,
-        cuts,
-        even_run(most, each),
-        even_run(less, each),
-    )
+    pair(cells, c, prices, cuts, even_run(most, each), even_run(less, each))
 }
 
 // One with a month figure, both lowered: the lower run takes one unit from the year's figure and one from that of the valued month alone.
@@ -123,14 +116,7 @@ fn both(
     let each = commitment::with_limit(whole, which, Limit::At(month));
     let other = commitment::with_limit(whole, which, Limit::At(month - 1));
     let valued = (c.monthly.valued - 1) as usize;
-    pair(
-        cells,
-        c,
-        prices,
-        cuts,
-        even_run(most, each),
-        lower_run(less, each, valued, other),
-    )
+    pair(cells, c, prices, cuts, even_run(most, each), lower_run(less, each, valued, other))
 }
 
 // By the month figure.

@@ -22,13 +22,9 @@ best-at-requires c κs =
     let y = o .pre .chain .year in (
       y .sound,
       o .pre .here,
-      omega (
-        arith,
-        place-fits (a .y) (length (a .cells .now)) (a .prices .now) (a .cuts .now) y 0 (omega (arith, y .months .some)),
-        y .wide,
-        y .fits,
-        made .chain .kept .0,
-      ),
+      omega
+          (arith, place-fits (a .y) (length (a .cells .now)) (a .prices .now) (a .cuts .now) y 0 (omega (arith, y .months .some)), y .wide, y .fits,
+          made .chain .kept .0),
     )
 
 returns : tie.Need-returns
