@@ -55,7 +55,7 @@ module _ (text : List ℕ) where
   written-passing e = passing unit (pricesKept prices) count (written-passed text e .checks)
 
   room-for : writtenChecked text ≡ Passed → leb count priceRoom ≡ true
-  room-for e = le-leb count priceRoom (omega (arith, written-passing e .order .short))
+  room-for e = le-leb count priceRoom (omega (arith, written-passing e .order .checked))
 
   turn : {k : Checked} → writtenChecked text ≡ k → textChecked text priceRoom ≡ checkedThen k (firstOf (roomChecks text priceRoom))
   turn e = text-in-turn text priceRoom ∙ ap (λ (k : Checked). checkedThen k (firstOf (roomChecks text priceRoom))) e
@@ -107,7 +107,7 @@ module _ (text : List ℕ) where
       record {
         unit-is = sym (k .1);
         count-is = sym (k .2);
-        fits = omega (arith, k .2, written-passing passed .order .short);
+        fits = omega (arith, k .2, written-passing passed .order .checked);
         front =
             λ slice long.
             ap₂ (λ (m : ℕ) (l : List ℤ). take m l) (sym (k .2)) (sym (answer-read text slice (ap (textChecked text) long ∙ k .0) .1))

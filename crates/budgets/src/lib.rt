@@ -9,7 +9,7 @@ use optimality::Cell;
 use optimality::Figures;
 ghost use mathlib.Core.Path.{_≡_};
 ghost use mathlib.Core.Bool.{true};
-ghost use Prim.Native.Nat.{_+_, _*_, _≤_};
+ghost use Prim.Native.Nat.{_+_, _*_, _^_, _≤_, _<_};
 ghost use Rattle.commitment.specs.Bounds.{mostMwh, mostIntervals};
 ghost use Rattle.commitment.specs.Cells.{inCounts, mostCounts, layerCells, cellsNeeded, cellsLong};
 ghost use Rattle.commitment.specs.Cells as cells;
@@ -163,9 +163,9 @@ pub fn cells_long(unit: UnitRecord, n: usize) -> usize
     cells_over(unit, n, n)
 }
 
-// The layers of a case of n intervals, for so many of them.
+// The layers of a case of n intervals, for so many of them, where they fit 64 bits.
 fn cells_over(unit: UnitRecord, n: usize, intervals: usize) -> usize
-    requires { ⌜ (InOrder unit n) × (intervals ≤ mostIntervals) ⌝ }
+    requires { ⌜ (InOrder unit n) × (intervals ≤ mostIntervals) × ((intervals + 1) * layerCells unit n < 2 ^ 64) ⌝ }
     ensures { λ r. ⌜ r ≡ (intervals + 1) * layerCells unit n ⌝ }
 {
     geometry::table_cells(figures_of(unit, n), intervals)

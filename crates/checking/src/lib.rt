@@ -54,7 +54,7 @@ const LEAST_PRICE: i64 = -200000;
 
 const MOST_PRICE: i64 = 200000;
 
-const MOST_INTERVALS: usize = 2976;
+const MOST_HORIZON: usize = 2976;
 
 // The first cause for which a case of so many intervals cannot be worked on, whatever call it is for: 3, 4, 12 or 5. The prices are judged by whoever
 // has them, in a slice or in a text. Each test is a function with the rest behind it.
@@ -103,7 +103,7 @@ fn check_horizon(intervals: usize) -> Checked
 fn horizon_kept(intervals: usize) -> bool
     ensures { λ r. ⌜ r ≡ horizonKept intervals ⌝ }
 {
-    (1 <= intervals) & (intervals <= MOST_INTERVALS)
+    (1 <= intervals) & (intervals <= MOST_HORIZON)
 }
 
 // Every field of the record is in its range.

@@ -3,6 +3,7 @@ use mathlib.Core.Path.{_≡_}
 use mathlib.Core.Bool.{Bool, true, _&&_}
 use mathlib.Core.List.{List}
 use Prim.Native.Nat.{ℕ, _≤_}
+use native.Mathlib.Omega.{arith}
 use borrow.Author.Tests.{leb-true}
 use lib.Dec.{leb}
 use lib.IntN.{ℤ, pos, negℤ, natAbs}
@@ -15,7 +16,7 @@ use Rattle.integers.proofs.Ranges.{within-signed, abs-within}
 use Rattle.commitment.specs.declared.Cause.the-variants.{Range, Shape, Date, Horizon}
 use Rattle.commitment.specs.declared.Checked.the-variants.{Passed}
 use Rattle.commitment.specs.declared.UnitRecord.{UnitRecord}
-use Rattle.commitment.specs.Bounds.{mostPrice, mostIntervals}
+use Rattle.commitment.specs.Bounds.{mostPrice, mostHorizon}
 use Rattle.commitment.specs.Ranges.{rangesKept, shapeKept, dateKept, priceKept, pricesKept, horizonKept, caseChecked, InOrder, Priced}
 use Rattle.commitment.proofs.Causes.{unless-passed}
 
@@ -41,9 +42,10 @@ passing u priced n e =
     let d = unless-passed (dateKept (u .permit)) Date _ (b .1) in
     let c = unless-passed (horizonKept n) Horizon Passed (d .1) in
     let r = both (rangesKept u) priced (a .0) in
-    let h = both (leb 1 n) (leb n mostIntervals) (c .0) in
+    let h = both (leb 1 n) (leb n mostHorizon) (c .0) in
+    let checked = leb-true n mostHorizon (h .1) in
     record {
-      order = record { ranges = r .0; shape = b .0; dated = d .0; short = leb-true n mostIntervals (h .1) };
+      order = record { ranges = r .0; shape = b .0; dated = d .0; short = omega arith; checked = checked };
       prices = r .1;
       some = leb-true 1 n (h .0);
     }

@@ -1,5 +1,6 @@
 -- The ends of the ranges (specification 2, 3), each by its name.
 use Prim.Native.Nat.{ℕ, _-_}
+use Rattle.calendar.specs.Months.{yearIntervals}
 use Rattle.calendar.specs.Words.{pastWords}
 
 -- ---- the unit: MW in a block and at the highest output, outputs in blocks, mot and mdt
@@ -56,5 +57,10 @@ mostWord = pastWords - 1
 abbrev pub mostPrice : ℕ
 mostPrice = 200000
 
+abbrev pub mostHorizon : ℕ
+mostHorizon = 2976
+
+-- ---- the intervals that a table can have: a year, of which the check lets a month through
+
 abbrev pub mostIntervals : ℕ
-mostIntervals = 2976
+mostIntervals = yearIntervals

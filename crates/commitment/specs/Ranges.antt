@@ -21,7 +21,7 @@ use Rattle.commitment.specs.declared.UnitRecord.{UnitRecord}
 use Rattle.commitment.specs.declared.Cause.the-variants as cause
 use Rattle.commitment.specs.declared.Checked.{Checked}
 use Rattle.commitment.specs.Bounds.{mostMw, mostBlocks, mostTime, mostHeld, mostVec, mostMlc}
-use Rattle.commitment.specs.Bounds.{mostSuc, mostStarts, mostHours, mostMwh, mostPrice, mostIntervals}
+use Rattle.commitment.specs.Bounds.{mostSuc, mostStarts, mostHours, mostMwh, mostPrice, mostHorizon, mostIntervals}
 use Rattle.commitment.specs.Bounds.{mostMonth, mostDay, mostWord}
 use Rattle.commitment.specs.Causes.{Check, _else_, firstOf}
 use Rattle.commitment.specs.Limits.{limitKept}
@@ -81,7 +81,7 @@ pricesKept prices = every priceKept prices
 
 -- there are prices, and not too many
 abbrev pub horizonKept : ℕ → Bool
-horizonKept n = leb 1 n && leb n mostIntervals
+horizonKept n = leb 1 n && leb n mostHorizon
 
 -- ---- the checks of a case of n intervals, whose prices are kept or not: 3, 4, 12, 5, each with those after it
 
@@ -107,6 +107,7 @@ pub record InOrder (u : UnitRecord) (n : ℕ) : Type 0 where
   pub shape : shapeKept (u .generator) ≡ true
   pub dated : dateKept (u .permit) ≡ true
   pub short : n ≤ mostIntervals
+  pub checked : n ≤ mostHorizon
 
 abbrev pub Priced : List ℤ → Type 0
 Priced prices = (i : ℕ) → i < length prices → natAbs (getD prices i (pos 0)) ≤ mostPrice

@@ -6,7 +6,7 @@ use optimality::Budgets;
 use optimality::Cell;
 use optimality::Figures;
 ghost use mathlib.Core.Path.{_≡_};
-ghost use Prim.Native.Nat.{_+_, _*_, _≤_};
+ghost use Prim.Native.Nat.{_+_, _*_, _^_, _≤_, _<_};
 ghost use Rattle.commitment.specs.Bounds.{mostIntervals};
 ghost use Rattle.optimality.specs.Cells.{Sound, InTable};
 ghost use Rattle.geometry.specs.Geometry.{row, span, section, width};
@@ -50,9 +50,9 @@ pub fn layer_cells(f: Figures) -> usize
     (f.mot + f.mdt) * section_cells(f)
 }
 
-// Of a table: a layer for each interval and one more. At the ends of all ranges 7.6 × 10^18, which fits.
+// Of a table that fits 64 bits: a layer for each interval and one more.
 pub fn table_cells(f: Figures, n: usize) -> usize
-    requires { ⌜ (Sound f) × (n ≤ mostIntervals) ⌝ }
+    requires { ⌜ (Sound f) × (n ≤ mostIntervals) × ((n + 1) * width f < 2 ^ 64) ⌝ }
     ensures { λ r. ⌜ r ≡ (n + 1) * width f ⌝ }
 {
     (n + 1) * layer_cells(f)

@@ -16,7 +16,7 @@ use Rattle.commitment.specs.declared.Limitation.{Limitation}
 use Rattle.commitment.specs.declared.Limitation.the-variants.{Starts, Hours, Mwh}
 use Rattle.commitment.specs.declared.Generator.{Generator}
 use Rattle.commitment.specs.declared.UnitRecord.{UnitRecord}
-use Rattle.commitment.specs.Bounds.{mostStarts, mostHours, mostMwh, mostIntervals}
+use Rattle.commitment.specs.Bounds.{mostBlocks, mostStarts, mostHours, mostMwh, mostIntervals}
 use Rattle.lists.proofs.Conjunctions.{both}
 use Rattle.commitment.specs.Ranges.{generatorKept, openingKept, costsKept, limitsKept, permitKept, rangesKept, InOrder}
 use Rattle.commitment.specs.Keeping.{wasOn, opensIn}
@@ -27,7 +27,7 @@ use Rattle.commitment.specs.Limits.{limitKept, limitFor, withLimit, limited}
 use Rattle.optimality.specs.declared.Budgets.{Budgets}
 use Rattle.optimality.specs.declared.Figures.{Figures}
 use Rattle.optimality.specs.Machine.{anywhere}
-use Rattle.optimality.specs.Cells.{takenOf, figuresWith, countsOf, figuresOf, Sound, InTable, quartersOf, planAt, openingState, openingCell}
+use Rattle.optimality.specs.Cells.{budgets, takenOf, figuresWith, countsOf, figuresOf, Within, Sound, InTable, quartersOf, planAt, openingState, openingCell}
 use Rattle.optimality.specs.Runs.{AtMost, Under}
 use Rattle.optimality.specs.Years.{yearPlan}
 use Rattle.optimality.proofs.Ranges.{Ranged}
@@ -126,6 +126,7 @@ order-under u n limits h o =
       shape = o .shape;
       dated = o .dated;
       short = o .short;
+      checked = o .checked;
     }
 
 taken-same : (k l : Limit) → AtMost k l → takenOf k ≡ takenOf l
@@ -152,6 +153,15 @@ counted-rise g n which (At k) None b h = absurd h
 counted-rise g n which (At k) (At m) b h = omega (arith, counts-rise g which k m b h)
 
 module _ (u : UnitRecord) (ok : Ranged u) (n : ℕ) where
+  -- the budgets are those of so many intervals
+  pub counts-within : (most : ℕ) → n ≤ most → Within (countsOf u n) (budgets most most (most * mostBlocks))
+  counts-within most h =
+      record {
+        starts = omega (arith, counted-most (u .generator) n Starts (u .limits .starts));
+        ons = omega (arith, counted-most (u .generator) n Hours (u .limits .hours));
+        blocks = omega (arith, counted-most (u .generator) n Mwh (u .limits .mwh), mul-le-mul h (ok .pmax-most));
+      }
+
   -- the figures are within the table's ranges
   pub figures-sound : n ≤ mostIntervals → Sound (figuresOf u n)
   unfolding figuresOf
@@ -169,12 +179,7 @@ module _ (u : UnitRecord) (ok : Ranged u) (n : ℕ) where
         mlc = ok .mlc;
         suc = ok .suc;
         takes = record { starts = taken (u .limits .starts); ons = taken (u .limits .hours); blocks = taken (u .limits .mwh) };
-        most =
-            record {
-              starts = omega (arith, counted-most (u .generator) n Starts (u .limits .starts));
-              ons = omega (arith, counted-most (u .generator) n Hours (u .limits .hours));
-              blocks = omega (arith, counted-most (u .generator) n Mwh (u .limits .mwh), mul-le-mul h (ok .pmax-most));
-            };
+        most = counts-within mostIntervals h;
       }
     where
       taken : (l : Limit) → takenOf l ≤ 1

@@ -22,7 +22,7 @@ use Rattle.commitment.specs.declared.Limitation.the-variants.{Starts, Hours, Mw
 use Rattle.commitment.specs.declared.Outcomes.{Outcomes}
 use Rattle.commitment.specs.declared.UnitRecord.{UnitRecord}
 use Rattle.commitment.specs.Best.{Plan, nothing, plan, best}
-use Rattle.commitment.specs.Bounds.{mostMw, mostIntervals}
+use Rattle.commitment.specs.Bounds.{mostMw, mostHorizon}
 use Rattle.commitment.specs.Causes.{numberOf}
 use Rattle.commitment.specs.Ranges.{pricesKept}
 use Rattle.commitment.specs.Schedule.{isOutput, isSchedule}
@@ -72,7 +72,7 @@ module _ (g : Generator) (small : (m : ℕ) → isOutput g m ≡ true → m ≤ 
         lines-most (suc i) s (k .1) (omega arith),
       )
 
-  listing-most : (n : ℕ) (s : List ℕ) (p : ℤ) (o : Outcomes) (w : HourWord) → isSchedule g n s ≡ true → n ≤ mostIntervals
+  listing-most : (n : ℕ) (s : List ℕ) (p : ℤ) (o : Outcomes) (w : HourWord) → isSchedule g n s ≡ true → n ≤ mostHorizon
       → length (listing s p o w) ≤ 9 * n + 146
   listing-most n s p o w kept short =
       let k = both (eqb (length s) n) (every (isOutput g) s) kept in
@@ -163,8 +163,8 @@ module _ (text : List ℕ) where
           let own = plan-exactly unit (h .ranges) (h .shape) prices (w .schedule) (w .profit) .0 (w .is) .own in
           let most =
           listing-most (unit .generator) (output-most unit (h .ranges) (h .shape)) (length prices) (w .schedule) (w .profit) (outcomesOf unit prices)
-          (wordOf (unit .permit)) (own .schedule) (h .short) in
-          omega (arith, ap length (lines-of w), most, h .short)
+          (wordOf (unit .permit)) (own .schedule) (h .checked) in
+          omega (arith, ap length (lines-of w), most, h .checked)
 
       short : (cause : Cause) → reportOn text ≡ reports.Refused cause → length (printed text) ≤ outRoom
       short cause e =

@@ -13,8 +13,11 @@ use Rattle.budgets.proofs.cells_over.Tie as tie
 table-cells-requires : tie.Need-table-cells-requires
 table-cells-requires c κs =
     let s = c .before in
-    let u = s .args .unit in
-    (rw (c .figures-of .ensures) (figures-sound u (ranged u (s .pre .0 .ranges) (s .pre .0 .shape)) (s .args .n) (s .pre .0 .short)), s .pre .1)
+    let u = s .args .unit in (
+      rw (c .figures-of .ensures) (figures-sound u (ranged u (s .pre .0 .ranges) (s .pre .0 .shape)) (s .args .n) (s .pre .0 .short)),
+      s .pre .1,
+      rw (c .figures-of .ensures, width-is u (s .args .n)) (s .pre .2),
+    )
 
 returns : tie.Need-returns
 returns c =
