@@ -1,4 +1,4 @@
--- The cuts of a horizon: they grow, they end with it, and the months between them are those of the calendar.
+-- The months of a horizon have all its intervals; its cuts grow, they end with it, and the months between them are those of the calendar.
 use mathlib.Core.Path.{_≡_, refl, sym, ap, ap₂, _∙_}
 use mathlib.Core.Logic.{⊎-elim}
 use mathlib.Core.List.{List, [], _∷_, map}
@@ -12,7 +12,7 @@ use Rattle.calendar.specs.Months.{yearIntervals, mostMonths, monthOf, monthBegi
 use Rattle.calendar.proofs.Months.{month-least, has-begun, to-begin, begins-first, begins-grow, months-few}
 use Rattle.commitment.specs.declared.Limits.{Limits}
 use Rattle.commitment.specs.declared.cuts.Cuts.{Cuts}
-use Rattle.commitment.specs.Months.{Month, monthEnds, monthsFrom, monthsOf}
+use Rattle.commitment.specs.Months.{Month, intervalsOf, monthEnds, monthsFrom, monthsOf}
 use Rattle.commitment.specs.Cuts.{monthsBetween, CutsOf}
 
 -- ---- months between cuts
@@ -67,6 +67,19 @@ module _ (d : Date) (w : Within lastYear d) (n : ℕ) (some : 1 ≤ n) where
       omega (arith, ends-inside k h, ends-last (suc k) q, has-begun d (w .there) (w .since) (n - 1) (suc k) (omega arith) h))
       (λ (l : suc k < last). omega (arith, ends-inside k h, ends-inside (suc k) l, begins-grow d (w .there) (w .since) k))
       (eq-or-lt-of-le h)
+
+  -- the months have all the intervals
+  from-whole : (limits : Limits) (k count : ℕ) → k + count ≤ last
+      → intervalsOf (monthsFrom d limits n (suc k) count) + monthEnds d n k ≡ monthEnds d n (k + count)
+  from-whole limits k zero h = let same = ap (monthEnds d n) (let e : k ≡ k + 0 = omega arith in e) in omega arith
+  from-whole limits k (suc count) h =
+      let same = ap (monthEnds d n) (let e : suc k + count ≡ k + suc count = omega arith in e) in
+      omega (arith, ends-inside k (omega arith), ends-grow k (omega arith), from-whole limits (suc k) count (omega arith))
+
+  pub months-whole : (limits : Limits) → intervalsOf (monthsOf d limits n) ≡ n
+  unfolding monthsOf
+  months-whole limits =
+      omega (arith, from-whole limits 0 last (omega arith), ends-first, ends-last (0 + last) (omega arith))
 
   -- ---- cuts at the ends
 
