@@ -1,4 +1,5 @@
 -- The walk over a schedule, interval by interval: where the unit stands and what it has spent and earned so far.
+use mathlib.Core.Path.{_≡_}
 use mathlib.Core.Bool.{Bool, true, false, _&&_, cond}
 use mathlib.Core.List.{List, [], _∷_}
 use Prim.Native.Nat.{ℕ, zero, suc, _+_, _^_, _<_}
@@ -7,10 +8,12 @@ use lib.IntN.{ℤ, pos, natAbs, _+ℤ_, _-ℤ_}
 use Rattle.commitment.specs.declared.Opening.{Opening}
 use Rattle.commitment.specs.declared.Generator.{Generator}
 use Rattle.commitment.specs.declared.Limits.{Limits}
+use Rattle.commitment.specs.declared.Limitation.{Limitation}
 use Rattle.commitment.specs.declared.Cause.the-variants.{NotKept}
 use Rattle.commitment.specs.declared.UnitRecord.{UnitRecord}
 use Rattle.commitment.specs.Keeping.{wasOn}
-use Rattle.commitment.specs.Limits.{within}
+use Rattle.commitment.specs.Bounds.{mostMwh}
+use Rattle.commitment.specs.Limits.{within, limitKept, limitFor}
 use Rattle.commitment.specs.Profit.{earned, startCost}
 use Rattle.commitment.specs.Schedule.{isOutput}
 use Rattle.assessment.specs.declared.Assessed.{Assessed}
@@ -57,14 +60,22 @@ walkFrom u at [] s = Whole at
 walkFrom u at (price ∷ prices) [] = Whole at
 walkFrom u at (price ∷ prices) (m ∷ s) = cond (mayFollow u at m) (walkFrom u (stepped u at price m) prices s) Broken
 
+-- what was spent is within the limitations; hours and MWh are counted in quarter-hours
+abbrev pub spentWithin : Limits → ℕ → ℕ → ℕ → Bool
+spentWithin limits starts running output =
+    within 1 starts (limits .starts) && within 4 running (limits .hours) && within 4 output (limits .mwh)
+
 -- what the limitations say of the totals
 abbrev pub settled : Limits → ℕ → ℕ → ℕ → ℤ → Assessed
-settled limits starts running output p =
-    cond (within 1 starts (limits .starts) && within 4 running (limits .hours) && within 4 output (limits .mwh)) (Profit p) (Refused NotKept)
+settled limits starts running output p = cond (spentWithin limits starts running output) (Profit p) (Refused NotKept)
 
 abbrev pub concluded : UnitRecord → Walked → Assessed
 concluded u (Whole at) = settled (u .limits) (at .starts) (at .running) (at .output) (at .profit)
 concluded u Broken = Refused NotKept
+
+-- limitations whose counts are small numbers
+abbrev pub SmallLimits : Limits → Type 0
+SmallLimits limits = (which : Limitation) → limitKept mostMwh (limitFor limits which) ≡ true
 
 -- sizes that leave room for one interval more
 pub record Small (at : Walk) : Type 0 where

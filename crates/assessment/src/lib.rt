@@ -1,12 +1,15 @@
-// A schedule handed in: its profit, or why it is refused. One pass over the two slices, and one over the schedule for the permit's hours (mod hours);
-// proofs/ has their laws (Walking, Intervals, Bounds, Shut) and what it says of a schedule that it was passed (Passed).
+// A schedule handed in: its profit, or why it is refused. One pass over the two slices, and one over the schedule for the permit's hours (mod hours); one
+// for the figures of its months (mod months). proofs/ has their laws (Walking, Intervals, Bounds, Shut, Counting) and what it says of a schedule that it
+// was passed (Passed).
 
 mod hours;
+mod months;
 
 use commitment::Cause;
 use commitment::Checked;
 use commitment::Generator;
 use commitment::Limit;
+use commitment::Limits;
 use commitment::UnitRecord;
 ghost use mathlib.Core.Path.{_≡_};
 ghost use mathlib.Core.Bool.{true};
@@ -20,7 +23,8 @@ ghost use Rattle.commitment.specs.Bounds.{mostMw, mostMwh, mostPrice};
 ghost use Rattle.commitment.specs.Ranges.{generatorKept, rangesKept, shapeKept, pricesKept, caseChecked};
 ghost use Rattle.commitment.specs.Schedule.{isOutput};
 ghost use Rattle.assessment.specs.Assessed.{assessed, assessedBy, handedIn, assessedNumber, assessedProfit};
-ghost use Rattle.assessment.specs.Walking.{openingWalk, spellKept, mayFollow, stepped, walkFrom, settled, concluded, Small};
+ghost use Rattle.assessment.specs.Walking.{openingWalk, spellKept, mayFollow, stepped, walkFrom};
+ghost use Rattle.assessment.specs.Walking.{spentWithin, settled, concluded, SmallLimits, Small};
 ghost use Rattle.assessment.specs.Walking as walking;
 
 pub enum Assessed {
@@ -101,22 +105,29 @@ fn conclude(unit: UnitRecord, walked: Walked) -> Assessed
     }
 }
 
-// Hours and MWh are counted in quarter-hours, so that a unit of them is 4.
+// A walk to the end is refused for its totals alone.
 fn settle(unit: UnitRecord, at: Walk) -> Assessed
     requires { ⌜ rangesKept unit ≡ true ⌝ }
     ensures { λ r. ⌜ r ≡ settled (unit .limits) (at .starts) (at .running) (at .output) (at .profit) ⌝ }
 {
     let limits = unit.limits;
-    let starts = limits.starts;
-    let hours = limits.hours;
-    let mwh = limits.mwh;
-    if within_limit(1, at.starts, starts)
-        & within_limit(4, at.running, hours)
-        & within_limit(4, at.output, mwh)
-    {
+    if spent_within(limits, at.starts, at.running, at.output) {
         return Assessed::Profit(at.profit);
     }
     Assessed::Refused(Cause::NotKept)
+}
+
+// Hours and MWh are counted in quarter-hours, so that a unit of them is 4.
+fn spent_within(limits: Limits, starts: u64, running: u64, output: u64) -> bool
+    requires { ⌜ SmallLimits limits ⌝ }
+    ensures { λ r. ⌜ r ≡ spentWithin limits starts running output ⌝ }
+{
+    let of_starts = limits.starts;
+    let of_hours = limits.hours;
+    let of_mwh = limits.mwh;
+    within_limit(1, starts, of_starts)
+        & within_limit(4, running, of_hours)
+        & within_limit(4, output, of_mwh)
 }
 
 // The number of a limitation in range is small, so its product with a unit of 1 or 4 fits.

@@ -105,7 +105,7 @@ hours-long (suc n) d there from =
 
 -- ---- the day and its hour when so many hours have passed
 
-day-long : (d : Date) → 23 ≤ length (hoursOf d)
+pub day-long : (d : Date) → 23 ≤ length (hoursOf d)
 day-long d =
     ⊎-elim (λ (s : springs d ≡ true). let n = spring-long d s in omega arith)
     (λ (s : springs d ≡ false).

@@ -20,7 +20,7 @@ use Rattle.calendar.proofs.Tables.{month-sums, month-begins}
 use Rattle.calendar.proofs.Dates.{parts, existing, next-exists, next-from, next-number, walk, Walked, walked}
 use Rattle.calendar.proofs.Dates.{year-on, years-grow, in-year, month-earlier, month-later}
 use Rattle.calendar.proofs.Changes.{between, only, onFirst, first-light, spring-parts, fall-parts, Kind, plain, spring, fall, kind}
-use Rattle.calendar.proofs.Days.{At, at, days-few, light, hours-long}
+use Rattle.calendar.proofs.Days.{At, at, days-few, light, hours-long, day-long}
 
 -- ---- the day on which an hour falls
 
@@ -192,7 +192,7 @@ module _ (d : Date) (there : exists d ≡ true) (from : firstYear ≤ d .year) (
     begins-on : MonthsOn d (month - 1) (monthsOn (month - 1) d)
     begins-on = months-on (month - 1) d there from
 
-    has-begun : month ≤ monthOf d interval → monthBegins d month ≤ interval
+    pub has-begun : month ≤ monthOf d interval → monthBegins d month ≤ interval
     unfolding monthBegins
     has-begun h =
         let e = monthsOn (month - 1) d in
@@ -210,7 +210,7 @@ module _ (d : Date) (there : exists d ≡ true) (from : firstYear ≤ d .year) (
         (order month 2) in
         omega (arith, days-over d (interval / 4) here (daysOfMonths (month - 1) d) few)
 
-    to-begin : monthOf d interval < month → interval < monthBegins d month
+    pub to-begin : monthOf d interval < month → interval < monthBegins d month
     unfolding monthBegins
     to-begin h =
         let e = monthsOn (month - 1) d in
@@ -238,6 +238,29 @@ module _ (d : Date) (there : exists d ≡ true) (from : firstYear ≤ d .year) (
     λ is. (has-begun month counted (omega arith), to-begin (suc month) (omega arith) (omega arith)),
     λ h. omega (arith, begun month counted (h .0), not-begun (suc month) (omega arith) (h .1)),
   )
+
+-- ---- months begin one after the other, the first with the first interval
+
+pub begins-first : (d : Date) → monthBegins d 1 ≡ 0
+unfolding monthBegins
+begins-first d = refl
+
+pub begins-grow : (d : Date) → exists d ≡ true → firstYear ≤ d .year → (k : ℕ) → monthBegins d (suc k) < monthBegins d (suc (suc k))
+unfolding monthBegins
+begins-grow d there from k =
+    let days = daysOfMonths k d in
+    let this = months-on k d there from in
+    let that = months-on (suc k) d there from in
+    let later = month-less (monthsOn k d) (monthsOn (suc k) d) (this .there) (that .there) (this .since) (that .since) (omega (arith, this .count, that .count)) in
+    let hours : ℕ → ℕ = λ n. length (hoursOver (daysOfMonths n d) d) in
+    omega (
+      arith,
+      ap hours (let e : suc k - 1 ≡ k = omega arith in e),
+      ap hours (let e : suc (suc k) - 1 ≡ suc k = omega arith in e),
+      hours-one days d,
+      day-long (walk days d),
+      hours-grow (suc days) (daysOfMonths (suc k) d) d (omega (arith, later, this .number, that .number)),
+    )
 
 -- ---- as the code finds them
 

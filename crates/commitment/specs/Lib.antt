@@ -10,6 +10,7 @@ pub mod Profit
 pub mod Order
 pub mod Best
 pub mod Months
+pub mod Cuts
 pub mod Rivals
 pub mod Valuing
 pub mod Cells

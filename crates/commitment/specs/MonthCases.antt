@@ -1,11 +1,16 @@
--- Worked cases of keeping months: two months of three intervals each, from a unit that is off or on before them.
+-- Worked cases of months: keeping two months of three intervals each, from a unit that is off or on before them; and the months of a horizon by the
+-- calendar.
 use mathlib.Core.Path.{_≡_, refl}
 use mathlib.Core.Bool.{Bool, true, false}
 use mathlib.Core.List.{List, [], _∷_, map}
 use Prim.Native.Nat.{ℕ}
+use Rattle.calendar.specs.declared.Date.{Date}
+use Rattle.calendar.specs.Dates.{date, dayNumber, isSunday}
+use Rattle.calendar.specs.Clock.{hoursOf}
+use Rattle.calendar.specs.Months.{dateAfter, monthOf, monthBegins}
 use Rattle.commitment.specs.declared.Limits.{Limits}
 use Rattle.commitment.specs.declared.Limit.the-variants.{None, At}
-use Rattle.commitment.specs.Months.{Month, keepsMonths}
+use Rattle.commitment.specs.Months.{Month, keepsMonths, monthsOf}
 
 pub record MonthCase : Type 0 where
   pub limits : Limits
@@ -48,3 +53,20 @@ cases =
 
 pub worked : map kept cases ≡ true ∷ true ∷ false ∷ true ∷ false ∷ false ∷ true ∷ true ∷ false ∷ []
 worked = refl
+
+-- ---- how long the months of a horizon are
+
+abbrev pub longs : Date → ℕ → List ℕ
+longs d n = map (λ (m : Month). m .long) (monthsOf d (starts 1) n)
+
+-- the last day of January and an hour of February; one interval; all of January, and one interval more
+pub short : longs (date 2026 1 31) 100 ∷ longs (date 2026 1 31) 1 ∷ longs (date 2026 1 1) 2976 ∷ longs (date 2026 1 1) 2977 ∷ []
+    ≡ (96 ∷ 4 ∷ []) ∷ (1 ∷ []) ∷ (2976 ∷ []) ∷ (2976 ∷ 1 ∷ []) ∷ []
+unfolding dayNumber isSunday hoursOf dateAfter monthOf monthBegins monthsOf
+short = refl
+
+-- thirteen months in a year from the last day of January on: March has 4 intervals less than 31 days of 96, November 4 more than 30
+pub thirteen : longs (date 2027 1 31) 35136
+    ≡ 96 ∷ 2688 ∷ 2972 ∷ 2880 ∷ 2976 ∷ 2880 ∷ 2976 ∷ 2976 ∷ 2880 ∷ 2976 ∷ 2884 ∷ 2976 ∷ 2976 ∷ []
+unfolding dayNumber isSunday hoursOf dateAfter monthOf monthBegins monthsOf
+thirteen = refl

@@ -9,6 +9,7 @@ ghost use Rattle.commitment.specs.Causes.{numberOf};
 ghost use Rattle.commitment.specs.Limits.{limitFor, withLimit, limited};
 ghost use Rattle.commitment.specs.Bounds.{mostMw, mostVec, mostMlc, mostPrice};
 
+pub mod cuts;
 pub mod windows;
 
 use calendar::Date;
