@@ -11,6 +11,7 @@ use lib.IntN.{ℤ}
 use lib.ListN.{length}
 use Rattle.lists.proofs.Conjunctions.{both}
 use Rattle.calendar.specs.declared.Date.{Date}
+use Rattle.calendar.specs.Months.{monthOf}
 use Rattle.commitment.specs.declared.Generator.{Generator}
 use Rattle.commitment.specs.declared.Limit.{Limit}
 use Rattle.commitment.specs.declared.Limit.the-variants.{None, At}
@@ -27,9 +28,11 @@ use Rattle.commitment.specs.Cells.{inCounts, mostCounts, counted, monthCountFor
 use Rattle.commitment.specs.Keeping.{monthsUnder, monthsFor}
 use Rattle.commitment.specs.Limits.{isLimited, limitFor, limited, monthLimit}
 use Rattle.commitment.specs.Months.{Month, intervalsOf, monthsFrom, monthsOf}
+use Rattle.commitment.proofs.Cutting.{months-whole}
 use Rattle.optimality.proofs.Ranges.{Ranged, ranged}
+use Rattle.months.proofs.Idle as idle
 use Rattle.months.proofs.Idle.{IdleAt, IdleIn, AllIdle, idle, best-idle}
-use Rattle.planner.specs.Years.{Dated, UsedBy, idleCounts, still}
+use Rattle.planner.specs.Years.{Dated, UsedBy, idleCounts, noneOf, noneOfAll, still}
 use Rattle.planner.proofs.Yearly.{dated}
 
 -- which limitations have a month figure
@@ -72,3 +75,34 @@ module _ (u : UnitRecord) (monthly : Monthly) (prices : List ℤ) (cells : ℕ) 
   all-idle : (d : Date) (k count : ℕ) → AllIdle g (held monthly) (monthsFrom d (monthly .limits) n k count)
   all-idle d k zero = tt
   all-idle d k (suc count) = (idle-month, all-idle d (suc k) count)
+
+  -- ---- the best plan is that of the unit at 0 there
+
+  abbrev w : Dated (u .permit) n
+  w = dated u monthly prices cells h
+
+  months-are : monthsFor u n ≡ monthsOf (w .window .date) (monthly .limits) n
+  months-are = ap₂ (λ (m : Months) (p : Permit). monthsUnder m p n) (h .limited) (w .is)
+
+  idle-months : AllIdle g (held monthly) (monthsOf (w .window .date) (monthly .limits) n)
+  unfolding monthsOf
+  idle-months = all-idle (w .window .date) 1 (monthOf (w .window .date) (n - 1))
+
+  still-one : (limit month : Limit) → idle.noneOf (isLimited month) limit ≡ noneOf limit month
+  still-one limit None = refl
+  still-one limit (At figure) = refl
+
+  still-limits : idle (held monthly) (u .limits) ≡ noneOfAll (u .limits) (monthly .limits)
+  still-limits =
+      rw (
+        still-one (u .limits .starts) (monthly .limits .starts),
+        still-one (u .limits .hours) (monthly .limits .hours),
+        still-one (u .limits .mwh) (monthly .limits .mwh),
+      )
+
+  pub best-still : best u prices ≡ best (still u monthly) prices
+  best-still =
+      ap (λ (ms : List Month). bestIn u ms prices) months-are
+      ∙ best-idle u ok (held monthly) (u .limits) (monthsOf (w .window .date) (monthly .limits) n) idle-months prices
+      (omega (arith, months-whole (w .window .date) (w .date) n (h .some) (monthly .limits)))
+      ∙ ap (λ (l : Limits). bestIn (limited u l) [] prices) still-limits
