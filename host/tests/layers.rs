@@ -62,6 +62,42 @@ fn fewer_than_two_layers() {
 }
 
 /// C7: on before, six intervals at least to stay on, and three hours.
+/// A year at the ends of the limitations: C1's long table and both sizes of the widest unit are above 10^18, and no scratch meets those.
+#[test]
+fn sizes_above_the_most() {
+    let Case { unit, .. } = c1();
+    let (starts, hours, mwh) = (Some(35_136), Some(8784), Some(4_392_000));
+    let year = Unit {
+        starts,
+        hours,
+        mwh,
+        ..unit
+    };
+    let (block, pmin, pmax, mot, mdt) = (1, 1, 500, 96, 96);
+    let widest = Unit {
+        block,
+        pmin,
+        pmax,
+        mot,
+        mdt,
+        ..year
+    };
+    let needed = 694_077_296_191_496;
+    let table = usize::MAX;
+    assert_eq!(cells(year, 35_136), Ok(Cells { needed, table }));
+    let needed = usize::MAX;
+    assert_eq!(cells(widest, 35_136), Ok(Cells { needed, table }));
+    for unit in [year, widest] {
+        assert_eq!(cells(unit, 35_136), Ok(paper::cells(&unit, 35_136)));
+        assert_eq!(cells(unit, 35_137), Err(Refusal::Horizon));
+    }
+    let prices = vec![0; 35_136];
+    let (mut scratch, mut schedule) = (vec![7; 100], vec![0; 35_136]);
+    let answer = report_into(widest, &prices, &mut scratch, &mut schedule);
+    assert_eq!(answer, Err(Refusal::Scratch));
+    assert!(scratch.iter().all(|cell| *cell == 7));
+}
+
 #[test]
 fn c7_in_two_layers() {
     let Case { unit, prices } = c1();
