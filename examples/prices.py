@@ -1,19 +1,16 @@
 #!/usr/bin/env python3
-"""Writes the example cases: week.csv, month.csv, year.csv and units/*.csv, into the folder that is given, or into this script's own.
+"""Writes the example cases: week.csv, month.csv and units/*.csv, into the folder that is given, or into this script's own.
 
-The prices are made up, and the same on every run. They have the shape of a market with much solar power from July 2024 on: cheap nights, a trough at
-noon that goes below zero on weekends, a peak in the evening, three hot days with spikes, dearer and cheaper months, and noise. A price is in cents per
-MWh, one for each quarter-hour.
+The prices are made up, and the same on every run. They have the shape of a market with much solar power in July 2024: cheap nights, a trough at
+noon that goes below zero on weekends, a peak in the evening, three hot days with spikes, and noise. A price is in cents per MWh, one for each
+quarter-hour.
 """
 
 import sys
 from pathlib import Path
 
-# July 2024, which begins on a Monday, to June 2025
-MONTHS = [31, 31, 30, 31, 30, 31, 31, 28, 31, 30, 31, 30]
+DAYS = 31  # July 2024, which begins on a Monday
 QUARTERS = 96
-# prices of each month against those of July
-SEASON = [1, 1.06, 0.96, 0.9, 0.94, 1.08, 1.12, 1.02, 0.88, 0.8, 0.82, 0.92]
 
 # $/MWh at each full hour of a weekday
 HOURS = [34, 32, 31, 30, 31, 35, 42, 46, 40, 31, 24, 19, 16, 15, 18, 25, 38, 56, 78, 92, 84, 66, 49, 40]
@@ -25,7 +22,6 @@ SPIKES = {(10, 19): 240, (11, 18): 410, (11, 20): 650, (12, 19): 180, (16, 19): 
 
 NAMES = ["block", "pmin", "pmax", "mot", "mdt", "was", "held", "vec", "mlc", "suc", "starts", "hours", "mwh"]
 DATE = ["year", "month", "day", "window"]
-MONTHLY = ["mstarts", "valued"]
 
 # 50 MW in blocks of 5 MW, at least 20 MW; on for 5 hours at least, off for 3; off for a day before.
 # $64.00 per MWh above 20 MW, $940.00 per hour at 20 MW, $600.00 for a start.
@@ -33,7 +29,6 @@ UNIT = dict(block=5, pmin=4, pmax=10, mot=20, mdt=12, was=0, held=96, vec=6400, 
             starts="none", hours="none", mwh="none")
 
 DAYTIME = sum(2 ** hour for hour in range(7, 22))  # 07:00 to 22:00
-ALL_DAY = 2 ** 24 - 1
 
 
 class Noise:
@@ -52,9 +47,9 @@ def between_hours(table, hour, part):
     return here + (there - here) * part / 4
 
 
-def price(day, quarter, season, noise):
+def price(day, quarter, noise):
     hour, part = divmod(quarter, 4)
-    dollars = between_hours(HOURS, hour, part) * season
+    dollars = between_hours(HOURS, hour, part)
     weekend = day % 7 >= 5
     if weekend:
         dollars = dollars * 0.8 - between_hours(TROUGH, hour, part)
@@ -65,14 +60,13 @@ def price(day, quarter, season, noise):
     return round(dollars * 100) + noise.between(-400, 400)
 
 
-def months():
+def july():
     noise = Noise(2024)
     drift = 0
     prices = []
-    seasons = [season for days, season in zip(MONTHS, SEASON) for _ in range(days)]
-    for day, season in enumerate(seasons):
+    for day in range(DAYS):
         drift = drift // 2 + noise.between(-300, 300)
-        prices += [price(day, quarter, season, noise) + drift for quarter in range(QUARTERS)]
+        prices += [price(day, quarter, noise) + drift for quarter in range(QUARTERS)]
     return prices
 
 
@@ -82,7 +76,6 @@ def case(prices, first_day=None, window=None, **changed):
     if window is not None:
         names += DATE
         values.update(year=2024, month=7, day=first_day + 1, window=window)
-    names += [name for name in MONTHLY if name in changed]
     head = ",".join(names) + "\n" + ",".join(str(values[name]) for name in names)
     return head + "\n\nprice\n" + "".join(f"{price}\n" for price in prices)
 
@@ -90,13 +83,11 @@ def case(prices, first_day=None, window=None, **changed):
 def main():
     folder = Path(sys.argv[1]) if len(sys.argv) > 1 else Path(__file__).parent
     (folder / "units").mkdir(parents=True, exist_ok=True)
-    year = months()
-    month = year[:MONTHS[0] * QUARTERS]
+    month = july()
     week = month[14 * QUARTERS:21 * QUARTERS]  # Monday 15 to Sunday 21 July
     files = {
         "week.csv": case(week, first_day=14, window=DAYTIME, starts=5, hours=25),
         "month.csv": case(month, starts=20, hours=120),
-        "year.csv": case(year, first_day=0, window=ALL_DAY, mot=8, mdt=4, starts=60, mstarts=8, valued=1),
         "units/starts.csv": case(week, starts=4),
         "units/hours.csv": case(week, hours=24),
         "units/mwh.csv": case(week, mwh=800),

@@ -2,8 +2,8 @@
  *
  * Every call answers, whatever record, text or slices it is given. A slice is a pointer and a length in entries; the pointer is to that many
  * entries that live through the call and that no other argument shares, and is aligned and not null even where the length is 0.
- * `number` in an answer is 0, or that of the refusal's cause (docs/CASE.md); then limitations, those of a month too, and outcomes are none, and every
- * other number is 0, year, month, day, window and valued too.
+ * `number` in an answer is 0, or that of the refusal's cause (docs/CASE.md); then limitations and outcomes are none, and every other number is 0,
+ * year, month, day and window too.
  * Profits and gaps are in quarter-cents.
  */
 #ifndef RALWINGA_H
@@ -16,18 +16,14 @@
 extern "C" {
 #endif
 
-/* `none` as the figure of a limitation, as each of year, month, day and window of a unit that may run at any hour, and as `valued` of a unit without
- * month figures. */
+/* `none` as the figure of a limitation, and as each of year, month, day and window of a unit that may run at any hour. */
 #define RALWINGA_NONE UINT64_MAX
 
-/* Interval 1 begins at midnight of the date; bit h of `window` allows clock hour h. `mstarts`, `mhours` and `mmwh` limit every calendar month; each needs
- * the date and the figure of the same limitation over the horizon. `valued` is the month to value, 1 for that of interval 1; it is given exactly when
- * one of the three is. */
+/* Interval 1 begins at midnight of the date; bit h of `window` allows clock hour h. */
 struct ralwinga_unit {
     uint64_t block, pmin, pmax, mot, mdt, was, held, vec, mlc, suc;
     uint64_t starts, hours, mwh;
     uint64_t year, month, day, window;
-    uint64_t mstarts, mhours, mmwh, valued;
 };
 
 enum { RALWINGA_OUTCOME_NONE, RALWINGA_OUTCOME_EMPTY, RALWINGA_OUTCOME_NEVER, RALWINGA_OUTCOME_GAP };
@@ -104,10 +100,6 @@ struct ralwinga_hours {
     size_t count;
 };
 
-struct ralwinga_month {
-    uint64_t number, month, begins;
-};
-
 struct ralwinga_written {
     uint64_t number;
     size_t bytes;
@@ -130,8 +122,7 @@ struct ralwinga_curve ralwinga_curve(struct ralwinga_curve_inputs inputs, const 
 struct ralwinga_assessment ralwinga_assess(struct ralwinga_unit unit, const int64_t *prices, size_t prices_len,
                                            const uint64_t *schedule, size_t schedule_len);
 
-/* The cells of scratch of a case of so many intervals: `needed`, in two layers, and `table`, in the long table; each SIZE_MAX where it is above 10^18,
- * which no scratch meets.
+/* The cells of scratch of a case of so many intervals: `needed`, in two layers, and `table`, in the long table.
  * A call lent `table` cells or more uses the long table, else two layers, and refuses with 8 where it is lent fewer than `needed`. The long table is
  * somewhat faster on memory that is there already. The cells used are 0 afterwards and those past them as they were. */
 struct ralwinga_cells ralwinga_cells(struct ralwinga_unit unit, size_t intervals);
@@ -151,12 +142,8 @@ struct ralwinga_report ralwinga_report(struct ralwinga_unit unit, const int64_t 
 /* The clock hour of an interval, counted from 1, where interval 1 begins at midnight of the date. */
 struct ralwinga_clock ralwinga_clock_hour(uint64_t year, uint64_t month, uint64_t day, uint64_t interval);
 
-/* The clock hours of the first hours_len intervals, 1 to 35,136 of them, where interval 1 begins at midnight of the date. */
+/* The clock hours of the first hours_len intervals, 1 to 2,976 of them, where interval 1 begins at midnight of the date. */
 struct ralwinga_hours ralwinga_clock_hours(uint64_t year, uint64_t month, uint64_t day, uint64_t *hours, size_t hours_len);
-
-/* The calendar month of an interval, 1 to 35,136, counted from 1 for that of interval 1, which begins at midnight of the date; and the interval with which
- * that month begins, 1 for the first. */
-struct ralwinga_month ralwinga_month(uint64_t year, uint64_t month, uint64_t day, uint64_t interval);
 
 /* The listing of a plan into the front of `out`. `window` is its unit's, RALWINGA_NONE where that has none. */
 struct ralwinga_written ralwinga_listing(const uint64_t *schedule, size_t schedule_len, int64_t profit,

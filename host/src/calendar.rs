@@ -137,18 +137,6 @@ impl Dated {
         shut
     }
 
-    /// The intervals of each calendar month.
-    pub fn months(&self) -> Vec<Range<usize>> {
-        let mut months: Vec<Range<usize>> = Vec::new();
-        let moments = self.moments();
-        let stretches = moments.chunk_by(|a, b| a.date.month == b.date.month);
-        for stretch in stretches {
-            let from = months.last().map_or(0, |month| month.end);
-            months.push(from..from + stretch.len());
-        }
-        months
-    }
-
     /// How many hours of the clock are permitted, and which.
     pub fn permitted(&self) -> String {
         let allowed: Vec<u64> = (0..HOURS).filter(|h| self.window.allows(*h)).collect();

@@ -1,12 +1,11 @@
-//! A plan told to a person: its runs in time and dollars, the hours that are permitted, what it uses of each limitation, over the horizon and by month
-//! where months are limited, and the adders as they go into a bid. The plan, its profit and the outcomes are the library's.
+//! A plan told to a person: its runs in time and dollars, the hours that are permitted, what it uses of each limitation, and the adders as they
+//! go into a bid. The plan, its profit and the outcomes are the library's.
 
 use crate::amounts::{dollars, quarters};
 use crate::calendar::Calendar;
 use crate::runs::{runs, Run, Stretch};
 use crate::{Case, Limit, Outcome, Report, Unit};
 use std::fmt;
-use std::ops::Range;
 
 /// What a plan uses of a limitation, in quarters of its unit.
 #[derive(Clone, Copy, Debug, PartialEq, Eq)]
@@ -22,14 +21,6 @@ impl Usage {
         self.limit
             .map(|limit| (4 * limit).saturating_sub(self.used))
     }
-}
-
-/// What a plan uses in a calendar month.
-#[derive(Clone, Debug, PartialEq, Eq)]
-pub struct MonthUsage {
-    /// Its year and month.
-    pub month: String,
-    pub usages: [Usage; 3],
 }
 
 /// An opportunity cost and where it goes in a bid.
@@ -60,21 +51,17 @@ pub struct Explanation {
     pub profit: i64,
     pub runs: Vec<Run>,
     pub usages: [Usage; 3],
-    /// None where no month is limited.
-    pub months: Vec<MonthUsage>,
     pub adders: [Adder; 3],
 }
 
 impl Explanation {
     pub fn of(case: &Case, schedule: &[u64], report: &Report) -> Explanation {
         let runs = runs(case, schedule);
-        let calendar = Calendar::of(&case.unit, schedule.len());
         Explanation {
             intervals: schedule.len(),
+            calendar: Calendar::of(&case.unit, schedule.len()),
             profit: report.profit,
             usages: usages_of(&case.unit, &runs),
-            months: months_of(&case.unit, &calendar, schedule, &runs),
-            calendar,
             adders: adders(report),
             runs,
         }
@@ -101,30 +88,6 @@ fn usages_of(unit: &Unit, runs: &[Run]) -> [Usage; 3] {
         usage("hours", runs.iter().map(Run::length).sum(), unit.hours),
         usage("mwh", runs.iter().map(Run::output).sum(), unit.mwh),
     ]
-}
-
-/// A start belongs to the month of its first interval, hours and MWh to that of each interval.
-fn months_of(unit: &Unit, calendar: &Calendar, schedule: &[u64], runs: &[Run]) -> Vec<MonthUsage> {
-    let (Some(months), Some(dated)) = (unit.months, calendar.dated()) else {
-        return Vec::new();
-    };
-    let usage = |name, used, limit| Usage { name, used, limit };
-    let of_month = |intervals: Range<usize>| {
-        let date = dated.moments()[intervals.start].date;
-        let begun = |run: &&Run| run.start.is_some() && intervals.contains(&run.first());
-        let starts = runs.iter().filter(begun).count() as u64;
-        let outputs = &schedule[intervals.clone()];
-        let on = outputs.iter().filter(|mw| **mw > 0).count() as u64;
-        MonthUsage {
-            month: format!("{}-{:02}", date.year, date.month),
-            usages: [
-                usage("mstarts", 4 * starts, months.starts),
-                usage("mhours", on, months.hours),
-                usage("mmwh", outputs.iter().sum(), months.mwh),
-            ],
-        }
-    };
-    dated.months().into_iter().map(of_month).collect()
 }
 
 fn adders(report: &Report) -> [Adder; 3] {
@@ -229,32 +192,6 @@ impl Explanation {
         rows
     }
 
-    /// A heading, a row to each month and one to all of them; nothing where no month is limited. What is left is `none` where there is no figure.
-    pub fn month_rows(&self) -> Vec<[String; 7]> {
-        if self.months.is_empty() {
-            return Vec::new();
-        }
-        let row = |month: &str, usages: &[Usage; 3]| {
-            let [starts, hours, mwh] = usages;
-            let left = |usage: &Usage| usage.left().map_or("none".to_string(), quarters);
-            [
-                month.to_string(),
-                quarters(starts.used),
-                left(starts),
-                quarters(hours.used),
-                left(hours),
-                quarters(mwh.used),
-                left(mwh),
-            ]
-        };
-        let head = ["month", "starts", "left", "hours", "left", "MWh", "left"];
-        let months = self.months.iter().map(|m| row(&m.month, &m.usages));
-        let head = std::iter::once(head.map(str::to_string));
-        head.chain(months)
-            .chain([row("all", &self.usages)])
-            .collect()
-    }
-
     pub fn adder_rows(&self) -> Vec<[String; 3]> {
         let mut rows = vec![["adder to", "for one", "amount"].map(str::to_string)];
         rows.extend(
@@ -278,10 +215,6 @@ impl fmt::Display for Explanation {
         writeln!(f)?;
         columns(f, &self.usage_rows(), 1)?;
         writeln!(f)?;
-        if !self.months.is_empty() {
-            columns(f, &self.month_rows(), 1)?;
-            writeln!(f)?;
-        }
         columns(f, &self.adder_rows(), 3)
     }
 }

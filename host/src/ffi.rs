@@ -1,6 +1,6 @@
 //! The static library's functions and structs, as `crates/exports` declares them. A slice is a pointer and a length.
 
-/// `none` as the number of a limitation, as each number of a window, and as each of the month figures and the month to value.
+/// `none` as the number of a limitation, and as each number of a window.
 pub const NONE: u64 = u64::MAX;
 
 #[repr(C)]
@@ -23,10 +23,6 @@ pub struct UnitNumbers {
     pub month: u64,
     pub day: u64,
     pub window: u64,
-    pub mstarts: u64,
-    pub mhours: u64,
-    pub mmwh: u64,
-    pub valued: u64,
 }
 
 #[repr(C)]
@@ -103,13 +99,6 @@ pub struct ReportNumbers {
 pub struct ClockNumbers {
     pub number: u64,
     pub hour: u64,
-}
-
-#[repr(C)]
-pub struct MonthNumbers {
-    pub number: u64,
-    pub month: u64,
-    pub begins: u64,
 }
 
 #[repr(C)]
@@ -201,8 +190,6 @@ extern "C" {
         hours: *mut u64,
         hours_len: usize,
     ) -> HoursNumbers;
-
-    pub fn ralwinga_month(year: u64, month: u64, day: u64, interval: u64) -> MonthNumbers;
 
     pub fn ralwinga_listing(
         schedule: *const u64,

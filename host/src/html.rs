@@ -38,10 +38,6 @@ pub fn plan_page(title: &str, case: &Case, schedule: &[u64], report: &Report) ->
     table(&mut body, "limitations", &told.usage_rows(), |row| {
         told.usages.get(row).map_or(String::new(), meter)
     });
-    if !told.months.is_empty() {
-        body.push_str("<h2>Months</h2>\n");
-        table(&mut body, "months", &told.month_rows(), |_| String::new());
-    }
     body.push_str("<h2>Runs</h2>\n");
     table(&mut body, "runs", &told.run_rows(), |_| String::new());
     let listing = listing(&case.unit, schedule, report.profit, report.outcomes);

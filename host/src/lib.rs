@@ -41,25 +41,6 @@ impl Window {
     }
 }
 
-/// The figures of every calendar month, and the month that is valued.
-#[derive(Clone, Copy, Debug, PartialEq, Eq)]
-pub struct Monthly {
-    pub starts: Limit,
-    pub hours: Limit,
-    pub mwh: Limit,
-    /// 1 for the month of interval 1, and counted on.
-    pub valued: u64,
-}
-
-/// A calendar month of a horizon.
-#[derive(Clone, Copy, Debug, PartialEq, Eq)]
-pub struct Month {
-    /// 1 for the month of interval 1, and counted on.
-    pub number: u64,
-    /// The interval with which it begins, counted from 1; 1 for the first.
-    pub begins: u64,
-}
-
 /// The unit record of the specification.
 #[derive(Clone, Copy, Debug, PartialEq, Eq)]
 pub struct Unit {
@@ -88,8 +69,6 @@ pub struct Unit {
     pub mwh: Limit,
     /// None where the unit may run at any hour.
     pub window: Option<Window>,
-    /// None where no month is limited. A group without a figure is refused, with 3.
-    pub months: Option<Monthly>,
 }
 
 /// A unit and the price of each interval, cents per MWh.
@@ -149,7 +128,7 @@ pub struct Segment {
 }
 
 /// The two sizes of scratch that a case is planned in. Scratch between them is used as two layers; the cells used are 0 afterwards, those past them
-/// as they were. A size above 10^18 is given as the largest number, and no scratch meets it.
+/// as they were.
 #[derive(Clone, Copy, Debug, PartialEq, Eq)]
 pub struct Cells {
     /// Two layers; fewer are refused.
@@ -233,45 +212,14 @@ fn window_from(unit: &ffi::UnitNumbers) -> Option<Window> {
     })
 }
 
-/// The three figures and the month to value, which is out of its range where it is `none` by itself.
-fn months_numbers(months: Option<Monthly>) -> [u64; 4] {
-    months.map_or([ffi::NONE; 4], |m| {
-        [m.starts, m.hours, m.mwh, Some(m.valued)].map(limit_number)
-    })
-}
-
-/// A record that was read has the month to value exactly where it has a month figure.
-fn months_from(unit: &ffi::UnitNumbers) -> Option<Monthly> {
-    (unit.valued != ffi::NONE).then_some(Monthly {
-        starts: limit_from(unit.mstarts),
-        hours: limit_from(unit.mhours),
-        mwh: limit_from(unit.mmwh),
-        valued: unit.valued,
-    })
-}
-
 impl Unit {
     /// The word of its permitted hours.
     pub fn word(&self) -> Option<u64> {
         self.window.map(|window| window.word)
     }
 
-    /// The unit with other month figures, without the group where none is left.
-    pub fn with_months(self, change: impl FnOnce(&mut Monthly)) -> Unit {
-        let months = self.months.map(|mut monthly| {
-            change(&mut monthly);
-            monthly
-        });
-        let limits = |m: &Monthly| [m.starts, m.hours, m.mwh].iter().any(Option::is_some);
-        Unit {
-            months: months.filter(limits),
-            ..self
-        }
-    }
-
     fn numbers(self) -> ffi::UnitNumbers {
         let [year, month, day, window] = window_numbers(self.window);
-        let [mstarts, mhours, mmwh, valued] = months_numbers(self.months);
         ffi::UnitNumbers {
             block: self.block,
             pmin: self.pmin,
@@ -290,10 +238,6 @@ impl Unit {
             month,
             day,
             window,
-            mstarts,
-            mhours,
-            mmwh,
-            valued,
         }
     }
 
@@ -313,7 +257,6 @@ impl Unit {
             hours: limit_from(unit.hours),
             mwh: limit_from(unit.mwh),
             window: window_from(&unit),
-            months: months_from(&unit),
         }
     }
 }
@@ -532,14 +475,6 @@ pub fn clock_hours(year: u64, month: u64, day: u64, hours: &mut [u64]) -> Result
     let answer =
         unsafe { ffi::ralwinga_clock_hours(year, month, day, hours.as_mut_ptr(), hours.len()) };
     unless_refused(answer.number, answer.count)
-}
-
-/// The calendar month of an interval, counted from 1, where interval 1 begins at midnight of a date.
-pub fn month(year: u64, month: u64, day: u64, interval: u64) -> Result<Month, Refusal> {
-    // Sound: only numbers go over.
-    let answer = unsafe { ffi::ralwinga_month(year, month, day, interval) };
-    let (number, begins) = (answer.month, answer.begins);
-    unless_refused(answer.number, Month { number, begins })
 }
 
 /// The listing of a plan into the front of `out`: its bytes. `word` is that of its unit's permitted hours.

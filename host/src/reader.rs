@@ -13,7 +13,7 @@ pub use ranges::horizon;
 use crate::amounts::grouped;
 use crate::text::{leading_table, reserve, two_tables, Cell, Fault, FirstTable, ReadError, Value};
 use crate::{assess, cells, read_into};
-use crate::{Case, Monthly, Refusal, Unit, Window};
+use crate::{Case, Refusal, Unit, Window};
 use ranges::{first_out, in_order, price_range, WINDOW_IN_ORDER};
 use std::array;
 use std::io::{BufRead, BufReader, Read};
@@ -36,20 +36,7 @@ pub const UNIT_NAMES: [&str; 13] = [
 /// All of them stand beside `UNIT_NAMES`, or none.
 pub const WINDOW_NAMES: [&str; 4] = ["year", "month", "day", "window"];
 
-/// Any of them may stand beside the others.
-pub const MONTH_NAMES: [&str; 3] = ["mstarts", "mhours", "mmwh"];
-
-/// It stands exactly when one of `MONTH_NAMES` does.
-pub const VALUED_NAME: &str = "valued";
-
-/// All the names that a case can have, in this sequence.
-fn all_names() -> [&'static str; 21] {
-    let dated = UNIT_NAMES.into_iter().chain(WINDOW_NAMES);
-    let mut names = dated.chain(MONTH_NAMES).chain([VALUED_NAME]);
-    array::from_fn(|_| names.next().expect("as many as there are"))
-}
-
-/// The case of a text of any length, or the refusal, with its place where it is 1, 2, 3, 5, 12 or 13.
+/// The case of a text of any length, or the refusal, with its place where it is 1, 2, 3, 5 or 12.
 pub fn case_from(mut input: impl Read) -> Result<Case, ReadError> {
     let mut front = Vec::new();
     reserve(&mut front, MOST_BYTES + 1)?;
@@ -112,7 +99,6 @@ fn long_case(input: impl BufRead) -> Result<Case, ReadError> {
     let fault = match refusal {
         Refusal::Range => out_of_case(&row, prices.out),
         Refusal::Date => no_date(&row),
-        Refusal::Months => no_months(&row, &prices.held),
         Refusal::Horizon => prices.count_is_out(line),
         refusal => refusal.into(),
     };
@@ -171,92 +157,37 @@ impl Prices {
     }
 }
 
-/// The line of values of a case: those under `UNIT_NAMES`, and those under `WINDOW_NAMES` and of months where these stand there.
+/// The line of values of a case: those under `UNIT_NAMES`, and those under `WINDOW_NAMES` where these stand there.
 struct UnitRow<'a> {
     unit: [Cell<'a>; 13],
     window: Option<[Cell<'a>; 4]>,
-    months: Option<MonthRow<'a>>,
-}
-
-/// The values of months: those of `MONTH_NAMES` that stand, and the month to value.
-struct MonthRow<'a> {
-    figures: [Option<Cell<'a>>; 3],
-    valued: Cell<'a>,
 }
 
 impl<'a> UnitRow<'a> {
     fn of(table: &'a FirstTable) -> Result<UnitRow<'a>, Fault> {
         let names = table.names()?;
-        let any_of = |group: &[&str]| group.iter().any(|name| names.has(name));
-        let (dated, limited) = (any_of(&WINDOW_NAMES), any_of(&MONTH_NAMES));
-        let mut required = UNIT_NAMES.to_vec();
-        if dated {
-            required.extend(WINDOW_NAMES);
+        if !WINDOW_NAMES.iter().any(|name| names.has(name)) {
+            let unit = table.row(UNIT_NAMES)?;
+            return Ok(UnitRow { unit, window: None });
         }
-        if limited {
-            required.push(VALUED_NAME);
-        }
-        let row = table.standing(all_names(), &required)?;
-        let given = |place: usize| row[place].expect("it is required");
-        let window = dated.then(|| array::from_fn(|i| given(13 + i)));
-        let figures = [row[17], row[18], row[19]];
-        if let (false, Some(field)) = (limited, names.field(VALUED_NAME)) {
-            let figures = MONTH_NAMES.join(", ");
-            let said = format!("{field} stands without a month figure, one of {figures}");
-            return Err(Fault::at(Refusal::Name, field, said));
-        }
+        let names: [&str; 17] = array::from_fn(|i| match i.checked_sub(UNIT_NAMES.len()) {
+            None => UNIT_NAMES[i],
+            Some(i) => WINDOW_NAMES[i],
+        });
+        let row = table.row(names)?;
         Ok(UnitRow {
-            unit: array::from_fn(given),
-            window,
-            months: row[20].map(|valued| MonthRow { figures, valued }),
+            unit: array::from_fn(|i| row[i]),
+            window: Some(array::from_fn(|i| row[UNIT_NAMES.len() + i])),
         })
     }
 
     fn unit(&self) -> Unit {
         let window = self.window.map(|row| row.map(|cell| cell.value));
-        Unit {
-            months: self.months.as_ref().map(MonthRow::monthly),
-            ..unit_of(self.unit.map(|cell| cell.value), window)
-        }
+        unit_of(self.unit.map(|cell| cell.value), window)
     }
 }
 
-impl MonthRow<'_> {
-    fn monthly(&self) -> Monthly {
-        let figures = self.figures.map(|figure| figure.map(|cell| cell.value));
-        monthly_of(figures, self.valued.value)
-    }
-
-    /// The first of its values that is outside its range.
-    fn out(&self) -> Option<Fault> {
-        let asked = |monthly| {
-            let unit = Unit {
-                months: Some(monthly),
-                ..unit_of(in_order(), None)
-            };
-            cells(unit, 1).err()
-        };
-        let alone = |place: usize, value| {
-            let mut figures = [None; 3];
-            figures[place] = Some(value);
-            monthly_of(figures, Some(1))
-        };
-        let figures = self.figures.iter().enumerate();
-        let mut standing = figures.filter_map(|(place, figure)| Some((place, (*figure)?)));
-        let figure = standing.find_map(|(place, cell)| {
-            first_out([MONTH_NAMES[place]], in_order(), &[cell], |[value]| {
-                asked(alone(place, value))
-            })
-        });
-        figure.or_else(|| {
-            first_out([VALUED_NAME], in_order(), &[self.valued], |[value]| {
-                asked(monthly_of([Some(Some(1)), None, None], value))
-            })
-        })
-    }
-}
-
-/// 3, 4, 12, 13 or 5 of a case, by the library: a schedule of no interval is refused for the case's own causes first, and for its length where the case is
+/// 3, 4, 12 or 5 of a case, by the library: a schedule of no interval is refused for the case's own causes first, and for its length where the case is
 /// in order.
 fn judge(unit: Unit, prices: &[i64]) -> Result<(), Refusal> {
     match assess(unit, prices, &[]) {
@@ -312,7 +243,7 @@ pub fn read_schedule(text: &[u8]) -> Result<HandedIn, Fault> {
     of_held(schedule_from(text))
 }
 
-/// The first value of a case that is outside its range: of the unit, of its window, of months, or else the price.
+/// The first value of a case that is outside its range: of the unit, of its window, or else the price.
 fn out_of_case(row: &UnitRow, price: Option<Fault>) -> Fault {
     first_out(UNIT_NAMES, in_order(), &row.unit, |values| {
         cells(unit_of(values, None), 1).err()
@@ -323,7 +254,6 @@ fn out_of_case(row: &UnitRow, price: Option<Fault>) -> Fault {
             cells(unit_of(in_order(), Some(values)), 1).err()
         })
     })
-    .or_else(|| row.months.as_ref()?.out())
     .or(price)
     .unwrap_or(Refusal::Range.into())
 }
@@ -342,49 +272,6 @@ fn no_date(row: &UnitRow) -> Fault {
     }
 }
 
-/// What a month figure lacks, at that figure, or a valued month outside the horizon.
-fn no_months(row: &UnitRow, prices: &[i64]) -> Fault {
-    let Some(months) = &row.months else {
-        return Refusal::Months.into();
-    };
-    for (place, figure) in months.figures.iter().enumerate() {
-        let (Some(Cell { field, .. }), name) = (figure, MONTH_NAMES[place]) else {
-            continue;
-        };
-        // starts, hours and mwh are the last of the unit's names
-        let (beside, of_year) = (UNIT_NAMES[10 + place], row.unit[10 + place].value);
-        let lacks = match (row.window, of_year) {
-            (None, _) => format!("a date: {} are missing", WINDOW_NAMES.join(", ")),
-            (_, None) => format!("a figure of the year: {beside} is none"),
-            _ => continue,
-        };
-        let said = format!("{name} {field} needs {lacks}");
-        return Fault::at(Refusal::Months, *field, said);
-    }
-    let field = months.valued.field;
-    let said = format!(
-        "valued {field} is outside the horizon, which has {}",
-        match months_in(row.unit(), prices) {
-            1 => "1 month".to_string(),
-            several => format!("{several} months"),
-        }
-    );
-    Fault::at(Refusal::Months, field, said)
-}
-
-/// The months of a horizon, of a unit whose month figures lack nothing: the last that the library takes as the valued one.
-fn months_in(unit: Unit, prices: &[i64]) -> u64 {
-    let takes = |valued: &u64| {
-        let months = unit.months.map(|months| Monthly {
-            valued: *valued,
-            ..months
-        });
-        let refused = judge(Unit { months, ..unit }, prices).err();
-        !matches!(refused, Some(Refusal::Months | Refusal::Range))
-    };
-    (1..).take_while(takes).last().unwrap_or(1)
-}
-
 /// A number of a record that has none below 0.
 fn natural(value: Value) -> u64 {
     value
@@ -396,18 +283,7 @@ fn price(value: Value) -> i64 {
     value.unwrap_or(BEYOND as i64)
 }
 
-/// The group of the values under those of `MONTH_NAMES` that stand, where `none` is no figure, and of the month to value.
-fn monthly_of(figures: [Option<Value>; 3], valued: Value) -> Monthly {
-    let [starts, hours, mwh] = figures.map(|figure| figure.map(natural));
-    Monthly {
-        starts,
-        hours,
-        mwh,
-        valued: natural(valued),
-    }
-}
-
-/// The record of the values under `UNIT_NAMES`, and under `WINDOW_NAMES` where these stand there, without month figures.
+/// The record of the values under `UNIT_NAMES`, and under `WINDOW_NAMES` where these stand there.
 fn unit_of(values: [Value; 13], window: Option<[Value; 4]>) -> Unit {
     let limit = |value: Value| value.map(|number| natural(Some(number)));
     let [block, pmin, pmax, mot, mdt, was, held, vec, mlc, suc, starts, hours, mwh] = values;
@@ -434,6 +310,5 @@ fn unit_of(values: [Value; 13], window: Option<[Value; 4]>) -> Unit {
                 word,
             }
         }),
-        months: None,
     }
 }

@@ -11,7 +11,6 @@ pub enum Refusal {
     Levels = 11,
     Shape = 4,
     Date = 12,
-    Months = 13,
     Horizon = 5,
     Segments = 6,
     Length = 7,
@@ -22,14 +21,13 @@ pub enum Refusal {
 
 impl Refusal {
     /// In the order in which causes are given.
-    pub const ALL: [Refusal; 13] = [
+    pub const ALL: [Refusal; 12] = [
         Refusal::Form,
         Refusal::Name,
         Refusal::Range,
         Refusal::Levels,
         Refusal::Shape,
         Refusal::Date,
-        Refusal::Months,
         Refusal::Horizon,
         Refusal::Segments,
         Refusal::Length,
@@ -52,7 +50,7 @@ impl Refusal {
         *Refusal::ALL
             .iter()
             .find(|refusal| refusal.number() == number)
-            .expect("the library gives numbers from 1 to 13")
+            .expect("the library gives numbers from 1 to 12")
     }
 
     pub fn meaning(self) -> &'static str {
@@ -63,9 +61,6 @@ impl Refusal {
             Refusal::Levels => "the levels do not rise strictly",
             Refusal::Shape => "pmin is over pmax, or pmax times block is over 500 MW",
             Refusal::Date => "the date does not exist",
-            Refusal::Months => {
-                "a month figure has no date or no figure of the year beside it, or the valued month is outside the horizon"
-            }
             Refusal::Horizon => "there are no prices, or more than a case may have",
             Refusal::Segments => "the segments' MW do not add up",
             Refusal::Length => "a slice is too short, or lists are of unequal length",

@@ -2,9 +2,8 @@
 //! intervals, and one that breaks a rule passes where that rule is lifted.
 
 use crate::amounts::{quarters, time_of_day, PER_HOUR};
-use crate::calendar::Calendar;
 use crate::reader::BEYOND;
-use crate::{assess, clock_hour, Case, Refusal, Unit, Window};
+use crate::{assess, clock_hour, Case, Refusal, Unit};
 
 /// The rules of a case, in the order in which they are asked for.
 #[derive(Clone, Copy, Debug, PartialEq, Eq)]
@@ -15,30 +14,21 @@ pub enum Rule {
     Starts,
     Hours,
     Mwh,
-    MonthStarts,
-    MonthHours,
-    MonthMwh,
     Window,
 }
 
-/// The word of every hour.
-const FULL: u64 = (1 << 24) - 1;
-
 impl Rule {
-    pub const ALL: [Rule; 10] = [
+    pub const ALL: [Rule; 7] = [
         Rule::Output,
         Rule::OnTime,
         Rule::DownTime,
         Rule::Starts,
         Rule::Hours,
         Rule::Mwh,
-        Rule::MonthStarts,
-        Rule::MonthHours,
-        Rule::MonthMwh,
         Rule::Window,
     ];
 
-    /// The unit without this rule. Outputs are always judged, and a month's figure is lifted wherever the year's is. The date stays: months need it.
+    /// The unit without this rule. Outputs are always judged.
     fn lifted(self, unit: Unit) -> Unit {
         match self {
             Rule::Output => unit,
@@ -53,23 +43,12 @@ impl Rule {
                 ..unit
             },
             Rule::Mwh => Unit { mwh: None, ..unit },
-            Rule::MonthStarts => unit.with_months(|months| months.starts = None),
-            Rule::MonthHours => unit.with_months(|months| months.hours = None),
-            Rule::MonthMwh => unit.with_months(|months| months.mwh = None),
             Rule::Window => Unit {
-                window: unit.window.map(|window| Window {
-                    word: FULL,
-                    ..window
-                }),
+                window: None,
                 ..unit
             },
         }
     }
-}
-
-/// The unit with its first month valued, which is in every horizon. No schedule is judged by the month that is valued.
-fn first_valued(unit: Unit) -> Unit {
-    unit.with_months(|months| months.valued = 1)
 }
 
 /// A rule that is broken, and the first interval at which it is, counted from 1.
@@ -84,14 +63,15 @@ pub fn first_broken(case: &Case, schedule: &[u64]) -> Option<Broken> {
     let breaks = |unit: Unit, n: usize| {
         assess(unit, &case.prices[..n], &schedule[..n]) == Err(Refusal::NotKept)
     };
-    let whole = first_valued(case.unit);
     let intervals: Vec<usize> = (1..=schedule.len()).collect();
-    let kept = intervals.partition_point(|n| !breaks(whole, *n));
+    let kept = intervals.partition_point(|n| !breaks(case.unit, *n));
     let interval = *intervals.get(kept)?;
     // all rules behind one are lifted, then all but it and those before, and so on: the one with which it fails is the first
     let lifted_behind = |place: usize| {
         let behind = &Rule::ALL[place + 1..];
-        behind.iter().fold(whole, |unit, rule| rule.lifted(unit))
+        behind
+            .iter()
+            .fold(case.unit, |unit, rule| rule.lifted(unit))
     };
     let place = (0..Rule::ALL.len()).find(|place| breaks(lifted_behind(*place), interval))?;
     Some(Broken {
@@ -135,35 +115,9 @@ impl Broken {
                 let (mwh, most) = (quarters(front.iter().sum()), limit(unit.mwh));
                 format!("{mwh} MWh are used, and mwh is {most}")
             }
-            Rule::MonthStarts => {
-                let begins = month_begins(unit, self.interval);
-                let start = starts(unit, front) - starts(unit, &front[..begins]);
-                let most = limit(unit.months.and_then(|months| months.starts));
-                format!("this is start {start} of its month, and mstarts is {most}")
-            }
-            Rule::MonthHours => {
-                let month = &front[month_begins(unit, self.interval)..];
-                let on = month.iter().filter(|mw| **mw > 0).count() as u64;
-                let most = limit(unit.months.and_then(|months| months.hours));
-                let hours = quarters(on);
-                format!("{hours} run-hours are used in its month, and mhours is {most}")
-            }
-            Rule::MonthMwh => {
-                let month = &front[month_begins(unit, self.interval)..];
-                let most = limit(unit.months.and_then(|months| months.mwh));
-                let mwh = quarters(month.iter().sum());
-                format!("{mwh} MWh are used in its month, and mmwh is {most}")
-            }
             Rule::Window => shut(unit, self.interval),
         }
     }
-}
-
-/// The place, counted from 0, at which the month of an interval begins.
-fn month_begins(unit: &Unit, interval: usize) -> usize {
-    let calendar = Calendar::of(unit, interval);
-    let months = calendar.dated().map(|dated| dated.months());
-    months.map_or(0, |months| months.last().map_or(0, |month| month.start))
 }
 
 fn limit(limit: Option<u64>) -> String {

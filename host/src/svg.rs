@@ -1,7 +1,6 @@
 //! Drawings for a person to look at: prices and output over the intervals here, where a run tells its times and earnings where the pointer is on it,
-//! and the hours that are not permitted are shaded; what is longer than a month by `blocks`; a bid curve in `curve`.
+//! and the hours that are not permitted are shaded; a bid curve in `curve`.
 
-mod blocks;
 pub mod curve;
 
 use crate::amounts::{dollars, quarters, time_of_day, PER_DAY, PER_HOUR};
@@ -9,9 +8,7 @@ use crate::calendar::{Calendar, Dated};
 use crate::explanation::Explanation;
 use crate::markup::escaped;
 use crate::runs::Run;
-use blocks::{blocks, height, Block};
 use std::fmt::Write;
-use std::ops::Range;
 
 const WIDTH: f64 = 1400.0;
 const LEFT: f64 = 80.0;
@@ -44,12 +41,24 @@ impl Panel {
         self.top + self.height * (self.high - value) / (self.high - self.low)
     }
 
-    fn new(top: f64, height: f64, (low, high): (f64, f64)) -> Panel {
+    fn of_prices(prices: &[i64]) -> Panel {
+        let low = prices.iter().copied().min().unwrap_or(0).min(0);
+        let high = prices.iter().copied().max().unwrap_or(0).max(low + 100);
         Panel {
-            top,
-            height,
-            low,
-            high,
+            top: PRICE_TOP,
+            height: PRICE_HEIGHT,
+            low: in_dollars(low),
+            high: in_dollars(high),
+        }
+    }
+
+    fn of_outputs(schedule: &[u64]) -> Panel {
+        let most = schedule.iter().copied().max().unwrap_or(0).max(1);
+        Panel {
+            top: OUTPUT_TOP,
+            height: OUTPUT_HEIGHT,
+            low: 0.0,
+            high: most as f64,
         }
     }
 }
@@ -58,62 +67,60 @@ fn in_dollars(cents: i64) -> f64 {
     cents as f64 / 100.0
 }
 
-/// Prices above, output in MW below, a line where each day begins (or some hours of a day), and the runs; a block of that to each month of a long horizon.
-pub fn draw(prices: &[i64], schedule: &[u64], told: &Explanation) -> String {
-    let blocks = blocks(prices, schedule, told);
-    let mut out = String::new();
-    heading(&mut out, told, height(&blocks));
-    let shut = told.calendar.dated().map_or(Vec::new(), |dated| {
-        said_of_hours(&mut out, dated);
-        dated.shut()
-    });
-    for block in &blocks {
-        shade(&mut out, block, &told.calendar, &shut);
-        times(&mut out, block, &told.calendar);
-        axis(&mut out, &block.prices, "$/MWh");
-        axis(&mut out, &block.outputs, "MW");
-        lines(&mut out, block, prices, schedule);
-        for (run, number) in told.runs.iter().zip(1..) {
-            if let Some(part) = block.part_of(&(run.first()..run.last() + 1)) {
-                reach(
-                    &mut out,
-                    block,
-                    part,
-                    tip_lines(&told.calendar, run, number),
-                );
-            }
+/// Where intervals stand across the drawing.
+struct Across {
+    intervals: usize,
+}
+
+impl Across {
+    fn x(&self, place: usize) -> f64 {
+        LEFT + (WIDTH - LEFT - RIGHT) * place as f64 / self.intervals.max(1) as f64
+    }
+
+    /// The corners of a line that stays level through each interval.
+    fn steps(&self, levels: impl Iterator<Item = f64>) -> String {
+        let mut line = String::new();
+        for (i, y) in levels.enumerate() {
+            let _ = write!(line, "{:.1},{y:.1} {:.1},{y:.1} ", self.x(i), self.x(i + 1));
         }
+        line.trim_end().to_string()
+    }
+}
+
+/// Prices above, output in MW below, a line where each day begins (or some hours of a day), and the runs.
+pub fn draw(prices: &[i64], schedule: &[u64], told: &Explanation) -> String {
+    let across = Across {
+        intervals: prices.len(),
+    };
+    let (price_panel, output_panel) = (Panel::of_prices(prices), Panel::of_outputs(schedule));
+    let mut out = String::new();
+    heading(&mut out, told);
+    if let Some(dated) = told.calendar.dated() {
+        shade(&mut out, &across, told, dated);
+    }
+    times(&mut out, &across, &told.calendar);
+    axis(&mut out, &price_panel, "$/MWh");
+    axis(&mut out, &output_panel, "MW");
+    let line = across.steps(prices.iter().map(|p| price_panel.y(in_dollars(*p))));
+    let _ = writeln!(
+        out,
+        r##"<path d="M{line}" fill="none" stroke="#1f5fa8" stroke-width="1"/>"##
+    );
+    let base = output_panel.y(0.0);
+    let line = across.steps(schedule.iter().map(|mw| output_panel.y(*mw as f64)));
+    let _ = writeln!(
+        out,
+        r##"<path d="M{LEFT:.1},{base:.1} L{line} L{:.1},{base:.1} Z" fill="#e08a2e" fill-opacity="0.75" stroke="#a85f14" stroke-width="0.6"/>"##,
+        across.x(schedule.len())
+    );
+    for (run, number) in told.runs.iter().zip(1..) {
+        reach(&mut out, &across, &told.calendar, run, number);
     }
     out.push_str("</svg>\n");
     out
 }
 
-/// What a block is of, its prices and its output.
-fn lines(out: &mut String, block: &Block, prices: &[i64], schedule: &[u64]) {
-    if let Some(said) = &block.said {
-        let y = block.top() - 14.0;
-        let _ = writeln!(
-            out,
-            r##"<text class="month" x="{LEFT}" y="{y:.1}" font-size="13">{said}</text>"##
-        );
-    }
-    let level = |price: &i64| block.prices.y(in_dollars(*price));
-    let line = block.steps(prices[block.places.clone()].iter().map(level));
-    let _ = writeln!(
-        out,
-        r##"<path d="M{line}" fill="none" stroke="#1f5fa8" stroke-width="1"/>"##
-    );
-    let base = block.outputs.y(0.0);
-    let level = |mw: &u64| block.outputs.y(*mw as f64);
-    let line = block.steps(schedule[block.places.clone()].iter().map(level));
-    let _ = writeln!(
-        out,
-        r##"<path d="M{LEFT:.1},{base:.1} L{line} L{:.1},{base:.1} Z" fill="#e08a2e" fill-opacity="0.75" stroke="#a85f14" stroke-width="0.6"/>"##,
-        block.x(block.places.end)
-    );
-}
-
-fn heading(out: &mut String, told: &Explanation, height: f64) {
+fn heading(out: &mut String, told: &Explanation) {
     let [_, hours, mwh] = told.usages;
     let from = told.calendar.dated().map(|d| format!(" from {}", d.date()));
     let said = format!(
@@ -124,16 +131,16 @@ fn heading(out: &mut String, told: &Explanation, height: f64) {
         quarters(hours.used),
         quarters(mwh.used),
     );
-    open(out, &said, height);
+    open(out, &said);
     let _ = writeln!(out, "{STYLE}");
 }
 
 /// A white sheet with a line above.
-fn open(out: &mut String, said: &str, height: f64) {
+fn open(out: &mut String, said: &str) {
     let _ = writeln!(
         out,
-        r##"<svg xmlns="http://www.w3.org/2000/svg" width="{WIDTH}" height="{height}" viewBox="0 0 {WIDTH} {height}" font-family="sans-serif" font-size="12">
-<rect width="{WIDTH}" height="{height}" fill="white"/>
+        r##"<svg xmlns="http://www.w3.org/2000/svg" width="{WIDTH}" height="{HEIGHT}" viewBox="0 0 {WIDTH} {HEIGHT}" font-family="sans-serif" font-size="12">
+<rect width="{WIDTH}" height="{HEIGHT}" fill="white"/>
 <text x="{LEFT}" y="28" font-size="17">{said}</text>"##
     );
 }
@@ -144,7 +151,7 @@ const NOTICE_LETTERS: usize = 150;
 /// The drawing of what has none: a sheet with what it is of, why there is none, and the line with the place or what would help.
 pub fn notice(title: &str, why: &str, said: &str) -> String {
     let mut out = String::new();
-    open(&mut out, &escaped(title), HEIGHT);
+    open(&mut out, &escaped(title));
     let lines = wrapped(why).into_iter().chain(wrapped(said));
     for (line, row) in lines.zip(1u8..) {
         let (y, line) = (PRICE_TOP + 24.0 * f64::from(row), escaped(&line));
@@ -177,20 +184,20 @@ fn wrapped(text: &str) -> Vec<String> {
 /// The least width at which a run can be pointed at.
 const LEAST_REACH: f64 = 4.0;
 
-/// The stretch of a block that is a run's, and its tip.
-fn reach(out: &mut String, block: &Block, run: Range<usize>, tip: [String; 3]) {
-    let (from, to, top) = (block.x(run.start), block.x(run.end), block.top());
+/// The stretch of the drawing that is a run's, and its tip.
+fn reach(out: &mut String, across: &Across, calendar: &Calendar, run: &Run, number: usize) {
+    let (from, to) = (across.x(run.first()), across.x(run.last() + 1));
     let (middle, width) = ((from + to) / 2.0, (to - from).max(LEAST_REACH));
     let x = (middle - TIP_WIDTH / 2.0).clamp(LEFT, WIDTH - RIGHT - TIP_WIDTH);
     let _ = writeln!(
         out,
-        r##"<g class="run" tabindex="0"><rect class="reach" x="{:.1}" y="{top}" width="{width:.1}" height="{:.1}"/>
-<g class="tip"><rect x="{x:.1}" y="{top}" width="{TIP_WIDTH}" height="{TIP_HEIGHT}" rx="4" fill="white" stroke="#a85f14"/>"##,
+        r##"<g class="run" tabindex="0"><rect class="reach" x="{:.1}" y="{PRICE_TOP}" width="{width:.1}" height="{:.1}"/>
+<g class="tip"><rect x="{x:.1}" y="{PRICE_TOP}" width="{TIP_WIDTH}" height="{TIP_HEIGHT}" rx="4" fill="white" stroke="#a85f14"/>"##,
         middle - width / 2.0,
-        block.bottom() - top
+        BOTTOM - PRICE_TOP
     );
-    for (said, row) in tip.iter().zip(1u8..) {
-        let (x, y) = (x + 10.0, top + 19.0 * f64::from(row));
+    for (said, row) in tip_lines(calendar, run, number).iter().zip(1u8..) {
+        let (x, y) = (x + 10.0, PRICE_TOP + 19.0 * f64::from(row));
         let _ = writeln!(out, r##"<text x="{x:.1}" y="{y:.1}">{said}</text>"##);
     }
     out.push_str("</g></g>\n");
@@ -227,22 +234,22 @@ const STEPS: [usize; 8] = [4, 8, 12, 24, 48, PER_DAY, 2 * PER_DAY, 4 * PER_DAY];
 const MOST_MARKS: usize = 16;
 
 /// A line where each day begins, or each few hours of a short case, with the time or the day.
-fn times(out: &mut String, block: &Block, calendar: &Calendar) {
-    let fits = |step: &usize| block.intervals.div_ceil(*step) <= MOST_MARKS;
+fn times(out: &mut String, across: &Across, calendar: &Calendar) {
+    let fits = |step: &usize| across.intervals.div_ceil(*step) <= MOST_MARKS;
     let step = STEPS.into_iter().find(fits).unwrap_or(8 * PER_DAY);
     let (marks, size) = match calendar {
-        Calendar::Days => (counted_marks(block, step), ""),
-        Calendar::Dates(dated) => (dated_marks(block, dated, step), DATE_SIZE),
+        Calendar::Days => (counted_marks(across.intervals, step), ""),
+        Calendar::Dates(dated) => (dated_marks(across, dated, step), DATE_SIZE),
     };
     for Mark { place, said } in marks {
-        let at = block.x(place);
-        upright(out, at, block.top(), block.bottom());
+        let at = across.x(place);
+        upright(out, at);
         if let Some(said) = said {
             let _ = writeln!(
                 out,
                 r##"<text x="{:.1}" y="{}"{size} fill="#444444">{said}</text>"##,
                 at + 3.0,
-                block.bottom() + 18.0,
+                BOTTOM + 18.0,
             );
         }
     }
@@ -255,17 +262,16 @@ struct Mark {
 }
 
 /// The marks of days that are counted.
-fn counted_marks(block: &Block, step: usize) -> Vec<Mark> {
+fn counted_marks(intervals: usize, step: usize) -> Vec<Mark> {
     let said = |place: usize| match place % PER_DAY {
         0 => format!("day {}", place / PER_DAY + 1),
         quarters => time_of_day(quarters),
     };
-    let first = block.places.start;
-    let places = block.places.clone().step_by(step.min(PER_DAY));
-    places
+    (0..intervals)
+        .step_by(step.min(PER_DAY))
         .map(|place| Mark {
             place,
-            said: (place - first).is_multiple_of(step).then(|| said(place)),
+            said: (place % step == 0).then(|| said(place)),
         })
         .collect()
 }
@@ -276,7 +282,7 @@ const DATE_WIDTH: f64 = 67.0;
 
 /// The marks by the clock, on which a day can be an hour shorter or longer than 24. Nothing is said where it would run off the sheet, or into the date
 /// before it, as 03:00 would two hours behind the midnight of a day without hour 2.
-fn dated_marks(block: &Block, dated: &Dated, step: usize) -> Vec<Mark> {
+fn dated_marks(across: &Across, dated: &Dated, step: usize) -> Vec<Mark> {
     let (hours, days) = (
         (step.min(PER_DAY) / PER_HOUR) as u64,
         step.div_ceil(PER_DAY),
@@ -284,8 +290,7 @@ fn dated_marks(block: &Block, dated: &Dated, step: usize) -> Vec<Mark> {
     let mut day = 0;
     let mut date_ends = 0.0;
     let mut marks = Vec::new();
-    for place in block.places.clone() {
-        let moment = &dated.moments()[place];
+    for (place, moment) in dated.moments().iter().enumerate() {
         day += usize::from(moment.begins_day());
         if !moment.begins_hour() || !moment.hour.is_multiple_of(hours) {
             continue;
@@ -294,7 +299,7 @@ fn dated_marks(block: &Block, dated: &Dated, step: usize) -> Vec<Mark> {
             true => ((day - 1) % days == 0).then(|| moment.date.to_string()),
             false => Some(moment.time()),
         };
-        let (from, to) = (block.x(place), block.x(place) + DATE_WIDTH);
+        let (from, to) = (across.x(place), across.x(place) + DATE_WIDTH);
         let said = said.filter(|_| date_ends <= from && to <= WIDTH);
         if moment.begins_day() && said.is_some() {
             date_ends = to;
@@ -304,46 +309,41 @@ fn dated_marks(block: &Block, dated: &Dated, step: usize) -> Vec<Mark> {
     marks
 }
 
-/// A line that says when the unit may run.
-fn said_of_hours(out: &mut String, dated: &Dated) {
+/// A shade over the intervals in which the unit may not run, and a line that says when it may.
+fn shade(out: &mut String, across: &Across, told: &Explanation, dated: &Dated) {
     let _ = writeln!(
         out,
         r##"<text class="window" x="{LEFT}" y="{:.1}" fill="#444444">{}; shaded where not</text>"##,
         PRICE_TOP - 14.0,
         dated.permitted()
     );
-}
-
-/// A shade over the intervals in which the unit may not run.
-fn shade(out: &mut String, block: &Block, calendar: &Calendar, shut: &[Range<usize>]) {
-    for stretch in shut.iter().filter_map(|stretch| block.part_of(stretch)) {
-        let (from, to, top) = (block.x(stretch.start), block.x(stretch.end), block.top());
+    for stretch in dated.shut() {
+        let (from, to) = (across.x(stretch.start), across.x(stretch.end));
         let _ = writeln!(
             out,
-            r##"<rect class="shut" x="{from:.1}" y="{top}" width="{:.1}" height="{:.1}" fill="#888888" fill-opacity="0.2"><title>not permitted: {} to {}</title></rect>"##,
+            r##"<rect class="shut" x="{from:.1}" y="{PRICE_TOP}" width="{:.1}" height="{:.1}" fill="#888888" fill-opacity="0.2"><title>not permitted: {} to {}</title></rect>"##,
             to - from,
-            block.bottom() - top,
-            calendar.beginning(stretch.start),
-            calendar.ending(stretch.end - 1),
+            BOTTOM - PRICE_TOP,
+            told.calendar.beginning(stretch.start),
+            told.calendar.ending(stretch.end - 1),
         );
     }
 }
 
 /// A pale line from top to bottom.
-fn upright(out: &mut String, at: f64, top: f64, bottom: f64) {
+fn upright(out: &mut String, at: f64) {
     let _ = writeln!(
         out,
-        r##"<line x1="{at:.1}" y1="{top}" x2="{at:.1}" y2="{bottom}" stroke="#dddddd"/>"##
+        r##"<line x1="{at:.1}" y1="{PRICE_TOP}" x2="{at:.1}" y2="{BOTTOM}" stroke="#dddddd"/>"##
     );
 }
 
-/// About so many values stand beside a panel, fewer where it is low.
+/// About so many values stand beside a panel.
 const LEVELS: f64 = 5.0;
-const LEVEL_HEIGHT: f64 = 24.0;
 
 /// The round numbers from the bottom of a panel to its top.
 fn levels(panel: &Panel) -> impl Iterator<Item = f64> {
-    let least = (panel.high - panel.low) / LEVELS.min(panel.height / LEVEL_HEIGHT);
+    let least = (panel.high - panel.low) / LEVELS;
     let power = 10f64.powf(least.log10().floor());
     let step = [1.0, 2.0, 5.0, 10.0]
         .map(|round| round * power)

@@ -50,7 +50,7 @@ fn schedules_near_and_far() {
         let answer = handed_in(&folder, &text, &paper::table(&schedule));
         assert_eq!(answer, line(expected), "{text}\n{schedule:?}");
     }
-    each_came_up(&seen, &[0, 3, 7, 10, 12, 13]);
+    each_came_up(&seen, &[0, 3, 7, 10, 12]);
 }
 
 /// What `plan` prints is passed, with what follows the table and without, and earns what it says.
@@ -186,9 +186,8 @@ fn the_order_of_causes() {
     assert!(!Refusal::Name.precedes(Refusal::Name));
     assert_eq!(
         Refusal::ALL.map(Refusal::number),
-        [1, 2, 3, 11, 4, 12, 13, 5, 6, 7, 8, 9, 10]
+        [1, 2, 3, 11, 4, 12, 5, 6, 7, 8, 9, 10]
     );
-    assert!(Refusal::Shape.precedes(Refusal::Date) && Refusal::Date.precedes(Refusal::Months));
-    assert!(Refusal::Months.precedes(Refusal::Horizon));
+    assert!(Refusal::Shape.precedes(Refusal::Date) && Refusal::Date.precedes(Refusal::Horizon));
     assert!(Refusal::Levels.precedes(Refusal::Shape) && Refusal::Range.precedes(Refusal::Levels));
 }

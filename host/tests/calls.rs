@@ -2,18 +2,14 @@
 
 mod support;
 
-use ralwinga::{assess, cells, plan_into, report_into, value};
-use ralwinga::{Case, Cells, Monthly, Report, Unit};
+use ralwinga::{assess, cells, plan_into, report_into, value, Case, Cells, Report, Unit};
 use support::{
-    any_case, any_schedule, damage, each_came_up, long_case, longer_month_case, month_case, paper,
-    recursion, small_case,
+    any_case, any_schedule, damage, each_came_up, long_case, paper, recursion, small_case,
 };
 use support::{Lent, Random, Seen};
 
 const CASES: usize = 100_000;
 const LONG_CASES: usize = 600;
-const MONTH_CASES: usize = 20_000;
-const LONGER_MONTH_CASES: usize = 500;
 
 fn number<T>(answer: Result<T, ralwinga::Refusal>) -> Result<T, u64> {
     answer.map_err(|refusal| refusal.number())
@@ -131,7 +127,7 @@ fn planning_and_valuing() {
             tables += usize::from(used == table);
         }
     }
-    each_came_up(&seen, &[0, 3, 4, 5, 7, 8, 9, 12, 13]);
+    each_came_up(&seen, &[0, 3, 4, 5, 7, 8, 9, 12]);
     assert!(
         layers > CASES / 10 && tables > CASES / 10,
         "{layers} plans in two layers, {tables} in the long table"
@@ -155,7 +151,19 @@ fn longer_cases() {
     let mut refused = 0;
     for _ in 0..LONG_CASES {
         let (unit, prices) = long_case(&mut random);
-        let expected = recursion::reported(&unit, &prices).ok_or(9);
+        let expected = match recursion::best(&unit, &prices) {
+            None => Err(9),
+            Some((profit, plan)) => {
+                let profit_of =
+                    |unit| recursion::best(&unit, &prices).map(|(earned, _)| earned.into());
+                let report = Report {
+                    count: plan.len(),
+                    profit,
+                    outcomes: paper::outcomes_by(&unit, profit_of),
+                };
+                Ok((report, plan))
+            }
+        };
         refused += usize::from(expected.is_err());
         let Cells { needed, table } = paper::cells(&unit, prices.len());
         let between = needed + random.below((table - needed) as u64) as usize;
@@ -168,115 +176,6 @@ fn longer_cases() {
         refused > 0 && refused < LONG_CASES / 2,
         "{refused} refusals"
     );
-}
-
-/// How many cases were refused, and how many are worth less where another month is valued.
-#[derive(Debug, Default)]
-struct Found {
-    refused: usize,
-    by_month: usize,
-}
-
-impl Found {
-    fn take(&mut self, unit: &Unit, prices: &[i64], report: Option<Report>) {
-        self.refused += usize::from(report.is_none());
-        let other = unit.months.map(|m| 3 - m.valued);
-        let months = paper::months(unit, prices.len());
-        let (Some(report), Some(valued)) = (report, other.filter(|m| months.contains(m))) else {
-            return;
-        };
-        let months = unit.months.map(|m| Monthly { valued, ..m });
-        let other = recursion::reported(&Unit { months, ..*unit }, prices);
-        let (other, _) = other.expect("no month figure is another");
-        self.by_month += usize::from(other.outcomes != report.outcomes);
-    }
-
-    /// Of so many cases some are refused and most are not, and the valued month counts.
-    fn are_of(&self, cases: usize) {
-        println!("of {cases} cases: {self:?}");
-        assert!(self.refused > 0 && self.refused < cases / 2, "{self:?}");
-        assert!(self.by_month > cases / 100, "{self:?}");
-    }
-}
-
-/// Cases over a month's end beside enumeration.
-#[test]
-fn months_near_their_end() {
-    let mut random = Random::new(14);
-    let mut found = Found::default();
-    for _ in 0..MONTH_CASES {
-        let (unit, prices) = month_case(&mut random);
-        let Cells { needed, table } = paper::cells(&unit, prices.len());
-        let length = match random.below(5) {
-            0 => needed - 1,
-            1 if table < 50_000 => table,
-            2 => needed + random.below(9) as usize,
-            _ => needed,
-        };
-        let scratch: Vec<i64> = (0..length).map(|_| random.between(-9, 9)).collect();
-        let schedule: Vec<u64> = (0..prices.len()).map(|_| random.below(1000)).collect();
-        if length < needed {
-            assert_eq!(try_plan(unit, &prices, &scratch, &schedule), Err(8));
-            continue;
-        }
-        let expected = paper::reported(&unit, &prices);
-        let answer = reported_from(unit, &prices, length);
-        assert_eq!(answer, expected, "{unit:?} {prices:?}");
-        let outcomes = value(unit, &prices, &mut scratch.clone());
-        let expected = expected.map(|(report, _)| report);
-        assert_eq!(number(outcomes), expected.map(|report| report.outcomes));
-        found.take(&unit, &prices, expected.ok());
-    }
-    found.are_of(MONTH_CASES);
-}
-
-/// Schedules about a month's end, handed in: a run that goes over it has its start in the first month and its hours in both.
-#[test]
-fn handing_in_over_a_month() {
-    let mut random = Random::new(15);
-    let mut seen: Seen = Default::default();
-    for _ in 0..MONTH_CASES {
-        let (unit, prices) = month_case(&mut random);
-        let open = paper::permitted(&unit, prices.len());
-        let on = 1 + random.below(4);
-        let schedule: Vec<u64> = open
-            .iter()
-            .map(|open| match *open && random.below(5) < on {
-                true => unit.block * unit.pmin,
-                false => 0,
-            })
-            .collect();
-        let expected = paper::assessed(&unit, &prices, &schedule);
-        seen[expected.err().map_or(0, |n| n as usize)] += 1;
-        assert_eq!(
-            number(assess(unit, &prices, &schedule)),
-            expected,
-            "{unit:?} {schedule:?}"
-        );
-    }
-    each_came_up(&seen, &[0, 10]);
-}
-
-/// Longer cases over a month's end beside the recursion, in each size that is not too long and between them.
-#[test]
-fn longer_cases_over_a_month() {
-    let mut random = Random::new(16);
-    let mut found = Found::default();
-    for _ in 0..LONGER_MONTH_CASES {
-        let (unit, prices) = longer_month_case(&mut random);
-        let expected = recursion::reported(&unit, &prices).ok_or(9);
-        let Cells { needed, table } = paper::cells(&unit, prices.len());
-        let between = needed + random.below(1000) as usize;
-        let lengths = [needed, between.min(table - 1), table];
-        for length in lengths.into_iter().filter(|length| *length < 3_000_000) {
-            let answer = reported_from(unit, &prices, length);
-            assert_eq!(answer, expected, "{length} {unit:?}");
-        }
-        assert_eq!(reported_from(unit, &prices, needed - 1), Err(8));
-        let report = expected.ok().map(|(report, _)| report);
-        found.take(&unit, &prices, report);
-    }
-    found.are_of(LONGER_MONTH_CASES);
 }
 
 #[test]
@@ -293,7 +192,7 @@ fn handing_in() {
         seen[expected.err().map_or(0, |n| n as usize)] += 1;
         assert_eq!(number(assess(unit, &prices, &schedule)), expected);
     }
-    each_came_up(&seen, &[0, 3, 4, 5, 7, 10, 12, 13]);
+    each_came_up(&seen, &[0, 3, 4, 5, 7, 10, 12]);
 }
 
 #[test]

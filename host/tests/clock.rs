@@ -1,14 +1,11 @@
-//! The clock hour and the month of intervals from every date on beside the calendar of the tests, and that one beside dates known from almanacs; and the
-//! host's calendar beside the library's months.
+//! The clock hour of every date beside the calendar of the tests, and that one beside dates known from almanacs.
 
 mod support;
 
-use ralwinga::calendar::Calendar;
-use ralwinga::{clock_hour, clock_hours, month, Month, Unit, Window};
-use support::calendar::{changes, days_after, exists, months, shown, Date};
-use support::{c1, FULL};
+use ralwinga::{clock_hour, clock_hours};
+use support::calendar::{changes, days_after, exists, shown, Date};
 
-const MOST_INTERVALS: u64 = 35_136;
+const MOST_INTERVALS: u64 = 2976;
 
 /// Every date from 2007 to 2099.
 fn every_date() -> impl Iterator<Item = Date> {
@@ -105,7 +102,7 @@ fn three_days_from_every_date() {
 
 /// Into January of 2100 too.
 #[test]
-fn a_year_across_every_new_year() {
+fn a_month_across_every_new_year() {
     for year in 2007..=2099 {
         (1..=31).for_each(|day| agrees((year, 12, day), MOST_INTERVALS));
     }
@@ -118,81 +115,6 @@ fn a_month_from_every_date_of_some_years() {
     every_date()
         .filter(|(year, _, _)| years.contains(year))
         .for_each(|date| agrees(date, MOST_INTERVALS));
-}
-
-/// Where each month of so many intervals begins, counted from 1.
-fn begins(date: Date, intervals: usize) -> Vec<u64> {
-    let counted = months(date, intervals);
-    let begins = |i: &usize| *i == 0 || counted[*i] != counted[i - 1];
-    (0..intervals)
-        .filter(begins)
-        .map(|i| i as u64 + 1)
-        .collect()
-}
-
-/// The months that the host's calendar has of so many intervals.
-fn months_of_the_host((year, month, day): Date, intervals: usize) -> Vec<u64> {
-    let window = Some(Window {
-        year,
-        month,
-        day,
-        word: FULL,
-    });
-    let unit = Unit {
-        window,
-        ..c1().unit
-    };
-    let calendar = Calendar::of(&unit, intervals);
-    let months = calendar.dated().expect("a date").months();
-    let ends = months.last().map(|month| month.end);
-    assert_eq!(ends, Some(intervals));
-    months.iter().map(|month| month.start as u64 + 1).collect()
-}
-
-/// The library's month at the first and last interval of each month and at one between, and the host's calendar beside it.
-fn months_agree(date: Date, intervals: u64) {
-    let begins = begins(date, intervals as usize);
-    assert_eq!(months_of_the_host(date, intervals as usize), begins);
-    let ends = begins[1..].iter().map(|begin| begin - 1);
-    let ends = ends.chain([intervals]);
-    for ((first, last), number) in begins.iter().zip(ends).zip(1..) {
-        let begins = *first;
-        let (year, of_year, day) = date;
-        for interval in [begins, begins + (last - begins) / 3, last] {
-            let answer = month(year, of_year, day, interval);
-            assert_eq!(answer, Ok(Month { number, begins }), "{date:?}, {interval}");
-        }
-    }
-}
-
-/// 35 days have a month's end in them.
-#[test]
-fn the_next_month_from_every_date() {
-    every_date().for_each(|date| months_agree(date, 35 * 96));
-}
-
-/// Into January of 2100 too.
-#[test]
-fn thirteen_months_from_every_date_of_some_years() {
-    for year in [2007, 2024, 2031, 2099] {
-        let of_year = every_date().filter(|(y, month, day)| {
-            *y == year && (*day < 4 || *day > 26 || [3, 11].contains(month))
-        });
-        of_year.for_each(|date| months_agree(date, MOST_INTERVALS));
-    }
-}
-
-/// One interval after the other, about the ends of the months in which time changes.
-#[test]
-fn months_interval_by_interval() {
-    for date in (2007..=2099).flat_map(changes) {
-        let (year, of_year, day) = date;
-        let counted = months(date, 3072);
-        for (number, interval) in counted.iter().zip(1..) {
-            let answer = month(year, of_year, day, interval).expect("a date in order");
-            assert_eq!(answer.number, *number, "{date:?}, {interval}");
-        }
-    }
 }
 
 /// 3 or 12 of a date and an interval, or none.
@@ -208,12 +130,6 @@ fn refused(date: Date, interval: u64) -> Option<u64> {
     }
 }
 
-/// The number with which the month of an interval is refused.
-fn month_refused((year, of_year, day): Date, interval: u64) -> Option<u64> {
-    let answer = month(year, of_year, day, interval);
-    answer.err().map(|refusal| refusal.number())
-}
-
 #[test]
 fn what_is_refused() {
     let mut seen = [0; 13];
@@ -223,7 +139,6 @@ fn what_is_refused() {
         let number = answer.err().map(|refusal| refusal.number());
         let expected = refused(date, interval);
         assert_eq!(number, expected, "{date:?}, interval {interval}");
-        assert_eq!(month_refused(date, interval), expected, "{date:?}");
         if interval <= MOST_INTERVALS + 1 {
             let mut hours = vec![CANARY; interval as usize];
             let number = clock_hours(year, month, day, &mut hours).err();

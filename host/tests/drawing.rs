@@ -2,10 +2,9 @@
 
 mod support;
 
-use ralwinga::{cells, plan_into, Cells, Unit, Window};
+use ralwinga::{Unit, Window};
 use support::calendar::{changes, days_after, shown, Date, Shown};
-use support::{any_window, c1, dated, month, paper, ralwinga, text_of, year_case};
-use support::{Folder, Random, C1, FULL};
+use support::{any_window, c1, dated, month, paper, ralwinga, text_of, Folder, Random, C1, FULL};
 
 const LEFT: f64 = 80.0;
 const WIDTH: f64 = 1290.0;
@@ -268,121 +267,6 @@ fn months_about_changes_and_ends() {
             agrees(&drawn(&folder, &text), &unit, intervals);
         }
     }
-}
-
-/// The blocks of a year: the top of the first, how far apart they are, and how high; the quarter-hours that fill their width.
-const BLOCK_TOP: usize = 86;
-const BLOCK_PITCH: usize = 236;
-const BLOCK_HEIGHT: usize = 172;
-const BLOCK_INTERVALS: usize = 2976;
-
-/// From the left side of each rectangle of a class at this height to its right side.
-fn sides(svg: &str, class: &str, top: usize) -> Vec<(f64, f64)> {
-    let (class, y) = (format!("class=\"{class}\""), format!(" y=\"{top}\""));
-    let lines = svg.lines();
-    let lines = lines.filter(|line| line.contains(&class) && line.contains(&y));
-    lines
-        .map(|line| {
-            let rect = line.split_once("<rect").expect("a rectangle").1;
-            assert_eq!(number(rect, "height"), BLOCK_HEIGHT as f64);
-            let x = number(rect, "x");
-            (x, x + number(rect, "width"))
-        })
-        .collect()
-}
-
-/// One block of a year against the calendar and the plan: what is shaded, which runs there are, the labels and the line above.
-fn block_agrees(svg: &str, unit: &Unit, plan: &[u64], number: usize) {
-    let w = unit.window.expect("a date");
-    let shown = shown((w.year, w.month, w.day), plan.len());
-    let months = paper::months(unit, plan.len());
-    let first = months.iter().position(|month| *month == number as u64);
-    let first = first.expect("a month");
-    let count = months.iter().filter(|m| **m == number as u64).count();
-    let top = BLOCK_TOP + BLOCK_PITCH * (number - 1);
-    let permitted = &paper::permitted(unit, plan.len())[first..first + count];
-    let shut = sides(svg, "shut", top).into_iter();
-    let shut: Vec<(usize, usize)> = shut
-        .map(|(from, to)| (place(from, BLOCK_INTERVALS), place(to, BLOCK_INTERVALS)))
-        .collect();
-    assert_eq!(shut, stretches(permitted), "{number}");
-    let off: Vec<bool> = plan[first..first + count]
-        .iter()
-        .map(|mw| *mw == 0)
-        .collect();
-    let runs = stretches(&off);
-    let drawn = sides(svg, "reach", top);
-    assert_eq!(drawn.len(), runs.len());
-    // a short run is drawn wider, so that it can be pointed at
-    for ((left, right), (from, to)) in drawn.into_iter().zip(runs) {
-        let x = |place: usize| LEFT + WIDTH * place as f64 / BLOCK_INTERVALS as f64;
-        assert!((left - x(from)).abs() < 2.1 && (right - x(to)).abs() < 2.1);
-    }
-    let labels = block_labels(svg, top);
-    assert!(labels.len() > count / 200, "{labels:?}");
-    for (place, said) in labels {
-        assert_eq!(said, called(&shown, first + place));
-    }
-    let (year, month, _) = shown[first].date;
-    let caption = format!("font-size=\"13\">{year}-{month:02}: ");
-    assert_eq!(svg.matches(&caption).count(), 1, "{caption}");
-}
-
-/// The labels of time under a block with the places of their intervals in it.
-fn block_labels(svg: &str, top: usize) -> Vec<(usize, String)> {
-    let at = format!("y=\"{}\"", top + BLOCK_HEIGHT + 18);
-    let lines = svg.lines().filter(|line| line.contains(&at));
-    lines
-        .map(|line| {
-            let said = line.split(['<', '>']).nth(2).expect("what it says");
-            let place = place(number(line, "x") - LABEL_X, BLOCK_INTERVALS);
-            (place, said.to_string())
-        })
-        .collect()
-}
-
-/// A block to each month of a year, and nothing behind them.
-#[test]
-fn a_year_in_blocks() {
-    let folder = Folder::new("drawing-year");
-    let mut random = Random::new(94);
-    for _ in 0..3 {
-        let (unit, prices) = year_case(&mut random);
-        let text = text_of(&mut random, &unit, &prices);
-        let svg = drawn(&folder, &text);
-        let Cells { needed, .. } = cells(unit, prices.len()).expect("a case in order");
-        let mut plan = vec![0; prices.len()];
-        plan_into(unit, &prices, &mut vec![0; needed], &mut plan).expect("a plan");
-        let months = paper::months(&unit, plan.len())[plan.len() - 1] as usize;
-        assert_eq!(svg.matches("class=\"month\"").count(), months);
-        (1..=months).for_each(|month| block_agrees(&svg, &unit, &plan, month));
-        let height = BLOCK_TOP + BLOCK_PITCH * (months - 1) + BLOCK_HEIGHT + 50;
-        assert!(svg.contains(&format!("height=\"{height}\" viewBox")));
-    }
-}
-
-/// Without a date a block has 31 counted days.
-#[test]
-fn a_year_of_counted_days() {
-    let folder = Folder::new("drawing-days");
-    let svg = drawn(&folder, &free(35_136));
-    let captions: Vec<&str> = svg
-        .lines()
-        .filter(|line| line.contains("class=\"month\""))
-        .map(|line| line.split(['<', '>']).nth(2).expect("what it says"))
-        .collect();
-    assert_eq!(captions.len(), 12);
-    assert_eq!(
-        [captions[0], captions[11]],
-        ["days 1 to 31", "days 342 to 366"]
-    );
-    assert!(
-        svg.contains(">day 32<") && svg.contains(">day 366<"),
-        "{svg}"
-    );
-    // a month's drawing is one block, which has no line above it
-    assert!(!drawn(&folder, &free(2976)).contains("class=\"month\""));
-    assert!(drawn(&folder, &free(2977)).contains(">days 32 to 32<"));
 }
 
 /// Days are counted where there is no date, and nothing is shaded; nor is it where every hour is permitted.

@@ -3,10 +3,8 @@
 mod support;
 
 use ralwinga::{cells, plan_into, Outcome, Unit};
-use support::paper::Run;
 use support::{
-    answer_on, calendar, dated, long_case, month, month_case, paper, recursion, small_case,
-    text_of, year_case,
+    answer_on, calendar, dated, long_case, month, paper, recursion, small_case, text_of,
 };
 use support::{Random, C1};
 
@@ -204,55 +202,9 @@ fn check_usage(told: &[&str], unit: &Unit, plan: &[u64]) {
     }
 }
 
-/// The lines of the months against the plan, and behind them the line for all.
-fn check_months(told: &[&str], unit: &Unit, plan: &[u64]) {
-    let w = unit.window.expect("a date");
-    let m = unit.months.expect("month figures");
-    let months = calendar::months((w.year, w.month, w.day), plan.len());
-    let shown = calendar::shown((w.year, w.month, w.day), plan.len());
-    let (all, told) = told.split_last().expect("a line for all");
-    assert_eq!(Some(told.len() as u64), months.last().copied());
-    let started = |i: usize| {
-        plan[i] > 0
-            && if i == 0 {
-                unit.was == 0
-            } else {
-                plan[i - 1] == 0
-            }
-    };
-    let used_in = |places: &[usize]| {
-        [
-            4 * places.iter().filter(|i| started(**i)).count() as u64,
-            places.iter().filter(|i| plan[**i] > 0).count() as u64,
-            places.iter().map(|i| plan[*i]).sum(),
-        ]
-    };
-    let check = |line: &str, name: &str, used: [u64; 3], limits: [Option<u64>; 3]| {
-        let words: Vec<&str> = line.split_whitespace().collect();
-        assert_eq!((words[0], words.len()), (name, 7), "{line}");
-        for i in 0..3 {
-            let (told, left) = (words[1 + 2 * i], words[2 + 2 * i]);
-            assert_eq!(quarters(told), used[i] as i64, "{line}");
-            match limits[i] {
-                None => assert_eq!(left, "none"),
-                Some(most) => assert_eq!(quarters(left), 4 * most as i64 - used[i] as i64),
-            }
-        }
-    };
-    for (line, number) in told.iter().zip(1..) {
-        let places: Vec<usize> = (0..plan.len()).filter(|i| months[*i] == number).collect();
-        let (year, month, _) = shown[places[0]].date;
-        let name = format!("{year}-{month:02}");
-        check(line, &name, used_in(&places), [m.starts, m.hours, m.mwh]);
-    }
-    let places: Vec<usize> = (0..plan.len()).collect();
-    let limits = [unit.starts, unit.hours, unit.mwh];
-    check(all, "all", used_in(&places), limits);
-}
-
 /// The lines of the adders against the outcomes by recursion.
 fn check_adders(told: &[&str], unit: &Unit, prices: &[i64]) {
-    let profit_of = |run: Run| recursion::best(&run, prices).map(|(earned, _)| earned.into());
+    let profit_of = |unit: Unit| recursion::best(&unit, prices).map(|(earned, _)| earned.into());
     let outcomes = paper::outcomes_by(unit, profit_of);
     let amounts = [outcomes.starts, outcomes.hours, outcomes.mwh].map(adder);
     let bids = [
@@ -322,16 +274,9 @@ fn check(
         .split("\n\n")
         .map(|part| part.lines().collect())
         .collect();
-    let (months, others): (Vec<_>, Vec<_>) = paragraphs
-        .iter()
-        .partition(|lines| lines[0].starts_with("month "));
-    let [head, runs, usage, adders] = others.as_slice() else {
+    let [head, runs, usage, adders] = paragraphs.as_slice() else {
         panic!("{said}");
     };
-    assert_eq!(months.len(), usize::from(unit.months.is_some()), "{said}");
-    if let Some(months) = months.first() {
-        check_months(&months[1..], unit, &plan);
-    }
     let told = head[0].split_whitespace().nth(1).expect("the profit");
     assert_eq!(quarter_cents(told), profit, "{said}");
     check_window(head, unit);
@@ -347,23 +292,10 @@ fn small_cases_by_enumeration() {
     let mut planned = 0;
     for _ in 0..SMALL_CASES {
         let (unit, prices) = small_case(&mut random);
-        let best = paper::best(&unit.into(), &prices);
-        let best = best.map(|(profit, plan)| (profit as i64, plan));
+        let best = paper::best(&unit, &prices).map(|(profit, plan)| (profit as i64, plan));
         planned += usize::from(check(&unit, &prices, &mut random, best));
     }
     assert!(planned > SMALL_CASES / 2, "{planned} plans");
-}
-
-#[test]
-fn cases_over_a_month_by_recursion() {
-    let mut random = Random::new(53);
-    let mut planned = 0;
-    for _ in 0..LONG_CASES {
-        let (unit, prices) = month_case(&mut random);
-        let best = recursion::best(&unit.into(), &prices);
-        planned += usize::from(check(&unit, &prices, &mut random, best));
-    }
-    assert!(planned > LONG_CASES / 2, "{planned} plans");
 }
 
 #[test]
@@ -372,41 +304,10 @@ fn longer_cases_by_recursion() {
     let mut planned = 0;
     for _ in 0..LONG_CASES {
         let (unit, prices) = long_case(&mut random);
-        let best = recursion::best(&unit.into(), &prices);
+        let best = recursion::best(&unit, &prices);
         planned += usize::from(check(&unit, &prices, &mut random, best));
     }
     assert!(planned > LONG_CASES / 2, "{planned} plans");
-}
-
-/// Years: the paragraph of the months and the line of all of them, and the usage of the year.
-#[test]
-fn years_by_the_library() {
-    let mut random = Random::new(54);
-    for _ in 0..3 {
-        let (unit, prices) = year_case(&mut random);
-        let (profit, plan) = by_the_library_in_layers(&unit, &prices);
-        let text = text_of(&mut random, &unit, &prices);
-        let answer = answer_on(&["explain", "-"], text.as_bytes());
-        let said = String::from_utf8(answer.stdout).expect("text");
-        let paragraphs: Vec<Vec<&str>> = said.split("\n\n").map(|p| p.lines().collect()).collect();
-        let [head, runs, usage, months, _] = paragraphs.as_slice() else {
-            panic!("{said}");
-        };
-        let told = head[0].split_whitespace().nth(1).expect("the profit");
-        assert_eq!(quarter_cents(told), profit, "{said}");
-        check_window(head, &unit);
-        check_runs(&runs[1..], &unit, &prices, &plan);
-        check_usage(&usage[1..], &unit, &plan);
-        check_months(&months[1..], &unit, &plan);
-    }
-}
-
-/// A year's profit and plan, from the cells that it needs.
-fn by_the_library_in_layers(unit: &Unit, prices: &[i64]) -> (i64, Vec<u64>) {
-    let cells = cells(*unit, prices.len()).expect("a case in order");
-    let (mut scratch, mut schedule) = (vec![0; cells.needed], vec![0; prices.len()]);
-    let answer = plan_into(*unit, prices, &mut scratch, &mut schedule);
-    (answer.expect("a plan").1, schedule)
 }
 
 /// A month's profit as the listing has it, and times on a day behind the first.

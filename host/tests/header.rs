@@ -2,11 +2,11 @@
 
 mod support;
 
-use ralwinga::{Case, Cells, Monthly, Unit, Window};
+use ralwinga::{Case, Cells, Unit, Window};
 use std::path::{Path, PathBuf};
 use std::process::Command;
 use support::points::{any_points, text_of_points};
-use support::{answer_on, any_case, c1, calendar, paper, run_on, text_of, Folder, Random, FULL};
+use support::{answer_on, any_case, c1, paper, run_on, text_of, Folder, Random, FULL};
 
 const CASES: usize = 200;
 
@@ -52,18 +52,14 @@ fn a_host_in_c() {
 /// `none` as a number.
 const NONE: u64 = u64::MAX;
 
-/// The numbers of a record, each of the four of its window and of months too.
+/// The numbers of a record, each of the four of its window too.
 fn numbers_of_unit(u: &Unit) -> Vec<u64> {
     let limits = [u.starts, u.hours, u.mwh].map(|limit| limit.unwrap_or(NONE));
     let window = u.window.map(|w| [w.year, w.month, w.day, w.word]);
     let others = [
         u.block, u.pmin, u.pmax, u.mot, u.mdt, u.was, u.held, u.vec, u.mlc, u.suc,
     ];
-    let months = u.months.map_or([NONE; 4], |m| {
-        [m.starts, m.hours, m.mwh, Some(m.valued)].map(|figure| figure.unwrap_or(NONE))
-    });
-    let window = window.unwrap_or([NONE; 4]);
-    [&others[..], &limits, &window, &months].concat()
+    [&others[..], &limits, &window.unwrap_or([NONE; 4])].concat()
 }
 
 #[test]
@@ -71,33 +67,17 @@ fn a_record_in_c() {
     let folder = Folder::new("c-read");
     let program = compiled(&folder, "read.c");
     let mut random = Random::new(13);
-    let (mut with, mut monthly, mut refused) = (0, 0, 0);
+    let (mut with, mut refused) = (0, 0);
     for _ in 0..CASES {
         let Case { unit, prices } = any_case(&mut random);
         let text = text_of(&mut random, &unit, &prices).into_bytes();
-        if text.len() > 12_288 {
-            continue;
-        }
         let written = paper::writable(&unit, &prices).then_some(()).ok_or(1);
         let expected = match written.and_then(|()| paper::judge_case(&unit, &prices)) {
             Ok(()) => [vec![0, prices.len() as u64], numbers_of_unit(&unit)].concat(),
-            // zeros, of date, word and valued month too, and `none` for limitations, those of a month too
-            Err(number) => {
-                let limits = vec![NONE; 3];
-                let zeros = |count| vec![0; count];
-                [
-                    vec![number],
-                    zeros(11),
-                    limits.clone(),
-                    zeros(4),
-                    limits,
-                    zeros(1),
-                ]
-                .concat()
-            }
+            // zeros, of date and word too, and `none` for limitations
+            Err(number) => [vec![number], vec![0; 11], vec![NONE; 3], vec![0; 4]].concat(),
         };
         with += usize::from(expected[0] == 0 && unit.window.is_some());
-        monthly += usize::from(expected[0] == 0 && unit.months.is_some());
         refused += usize::from(expected[0] > 0);
         let answer = run_on(Command::new(&program), &text);
         let said = String::from_utf8(answer.stdout).expect("text");
@@ -107,8 +87,8 @@ fn a_record_in_c() {
         assert_eq!(numbers.collect::<Vec<u64>>(), expected, "{unit:?}");
     }
     assert!(
-        with > 20 && monthly > 10 && refused > 20,
-        "{with} windows, {monthly} with month figures, {refused} refused"
+        with > 20 && refused > 20,
+        "{with} windows, {refused} refused"
     );
 }
 
@@ -192,114 +172,6 @@ fn a_window_in_c() {
     // none of the four, and one of them
     assert!(numbers_of([NONE; 4]).starts_with("0,168,588,0,0,6,400000,"));
     assert!(numbers_of([NONE, 2, 3, 1]).starts_with("3,0,0,3,3,0,0,"));
-}
-
-/// What the host in C is to print for C1's unit over the last day of February and half an hour of March, with these four.
-fn numbers_of_months(four: [u64; 4]) -> String {
-    let [mstarts, mhours, mmwh, valued] = four;
-    let figure = |number| (number != NONE).then_some(number);
-    let unit = Unit {
-        window: Some(Window {
-            year: 2024,
-            month: 2,
-            day: 29,
-            word: 1 << 23 | 1,
-        }),
-        months: (four != [NONE; 4]).then_some(Monthly {
-            starts: figure(mstarts),
-            hours: figure(mhours),
-            mwh: figure(mmwh),
-            valued,
-        }),
-        ..c1().unit
-    };
-    let prices: Vec<i64> = (0..98).map(|t| 1000 * (t % 10)).collect();
-    let judged = paper::reported(&unit, &prices);
-    let judged = judged.map(|(report, _)| (paper::cells(&unit, prices.len()), report));
-    match judged {
-        Ok((Cells { needed, table }, report)) => {
-            let profit = report.profit;
-            format!("0,{needed},{table},0,0,98,{profit},0,0,{profit}")
-        }
-        Err(n) => format!("{n},0,0,{n},{n},0,0,{n},{n},0"),
-    }
-}
-
-/// Any of the four at `none`, out of its range or in it: `valued` is given exactly when a month figure is, else 3.
-#[test]
-fn months_in_c() {
-    let folder = Folder::new("c-months");
-    let program = compiled(&folder, "months.c");
-    let mut given = Vec::new();
-    for mstarts in [NONE, NONE - 1, 0, 1, 2, 2976, 2977] {
-        for mhours in [NONE, 0, 1, 744, 745] {
-            for mmwh in [NONE, 0, 372_001] {
-                let valued = [NONE, NONE - 1, 0, 1, 2, 3, 13, 14];
-                given.extend(valued.map(|valued| [mstarts, mhours, mmwh, valued]));
-            }
-        }
-    }
-    let lines: Vec<String> = given
-        .iter()
-        .map(|four| four.map(|number| number.to_string()).join(" "))
-        .collect();
-    let answer = run_on(Command::new(&program), lines.join("\n").as_bytes());
-    let said = String::from_utf8(answer.stdout).expect("text");
-    assert_eq!(said.lines().count(), given.len());
-    for (four, line) in given.into_iter().zip(said.lines()) {
-        assert_eq!(line, numbers_of_months(four), "{four:?}");
-    }
-    assert!(numbers_of_months([NONE, NONE, NONE, 1]).starts_with("3,"));
-    assert!(numbers_of_months([1, NONE, NONE, NONE]).starts_with("3,"));
-    assert!(numbers_of_months([1, NONE, NONE, 3]).starts_with("13,"));
-    assert!(numbers_of_months([1, NONE, 0, 1]).starts_with("13,"));
-}
-
-/// What the host in C is to print for the month of an interval: both numbers are 0 with a refusal.
-fn numbers_of_month([year, month, day, interval]: [u64; 4]) -> String {
-    let date = (year, month, day);
-    let in_range = (2007..=2099).contains(&year)
-        && (1..=12).contains(&month)
-        && (1..=31).contains(&day)
-        && (1..=35_136).contains(&interval);
-    if !in_range {
-        return "3,0,0".to_string();
-    }
-    if !calendar::exists(date) {
-        return "12,0,0".to_string();
-    }
-    let months = calendar::months(date, interval as usize);
-    let number = months[months.len() - 1];
-    let before = months.iter().filter(|month| **month < number).count();
-    format!("0,{number},{}", before + 1)
-}
-
-#[test]
-fn a_month_in_c() {
-    let folder = Folder::new("c-month");
-    let program = compiled(&folder, "month.c");
-    let mut given = Vec::new();
-    for year in [0, 2006, 2007, 2024, 2099, 2100, NONE] {
-        for month in [0, 1, 2, 3, 11, 12, 13, NONE] {
-            for day in [0, 1, 28, 29, 30, 31, 32, NONE] {
-                let intervals = [0, 1, 96, 97, 193, 2976, 2977, 35_136, 35_137, NONE];
-                given.extend(intervals.map(|interval| [year, month, day, interval]));
-            }
-        }
-    }
-    let lines: Vec<String> = given
-        .iter()
-        .map(|four| four.map(|number| number.to_string()).join(" "))
-        .collect();
-    let answer = run_on(Command::new(&program), lines.join("\n").as_bytes());
-    let said = String::from_utf8(answer.stdout).expect("text");
-    assert_eq!(said.lines().count(), given.len());
-    for (four, line) in given.into_iter().zip(said.lines()) {
-        assert_eq!(line, numbers_of_month(four), "{four:?}");
-    }
-    assert_eq!(numbers_of_month([2026, 1, 31, 97]), "0,2,97");
-    assert_eq!(numbers_of_month([2024, 3, 1, 2973]), "0,2,2973");
-    assert_eq!(numbers_of_month([2099, 12, 31, 97]), "0,2,97");
 }
 
 #[test]

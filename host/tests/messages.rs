@@ -5,8 +5,7 @@ mod support;
 
 use ralwinga::rules::{first_broken, Broken, Rule};
 use ralwinga::{assess, clock_hour, Case, Refusal};
-use support::{answer_on, any_schedule, dated, limited_by_month, long_case, month, month_case};
-use support::{paper, ralwinga, run_on};
+use support::{answer_on, any_schedule, dated, long_case, month, paper, ralwinga, run_on};
 use support::{small_case, Folder, Random, C1};
 
 fn said(words: &[&str], text: &[u8], number: u64) -> String {
@@ -112,7 +111,7 @@ fn lines_that_end_with_cr_lf() {
 
 /// C1 with one thing put for another, the number, and what is said of it.
 #[rustfmt::skip]
-const SAID: [(&str, &str, u64, &str); 18] = [
+const SAID: [(&str, &str, u64, &str); 17] = [
     ("9000", "90.00", 1, "line 6, column 1: '90.00' is no value: prices are whole cents per MWh ("),
     ("9000", "-.5", 1, "'-.5' is no value: prices are whole cents per MWh ("),
     ("3000,", "30.00,", 1, "line 2, column 16: '30.00' is no value: vec is in whole cents per MWh ("),
@@ -126,11 +125,10 @@ const SAID: [(&str, &str, u64, &str); 18] = [
     ("9000", "090", 1, "'090' is no value: none, or 1 to 10 digits without a needless 0 in front ("),
     ("mot", "mto", 2, "line 1, column 17: 'mto' is unknown (did you mean 'mot'?), 'mot' is missing ("),
     ("starts,", "start,", 2, "'start' is unknown (did you mean 'starts'?), 'starts' is missing ("),
-    ("mot", "sun", 2, "'sun' is unknown, 'mot' is missing ("),
-    ("mot", "wind", 2, "'wind' is unknown (did you mean 'window'?), 'mot' is missing ("),
+    ("mot", "wind", 2, "'wind' is unknown, 'mot' is missing ("),
     ("10,1,2,2", "10,1,2,97", 3, "line 2, column 8: mot '97' is outside its range, 1 to 96 ("),
     ("3000,", "2000001,", 3, "vec '2000001' is outside its range, 0 to 2000000 ("),
-    (",2,2,none", ",35137,2,none", 3, "starts '35137' is outside its range, 0 to 35136, or none ("),
+    (",2,2,none", ",2977,2,none", 3, "starts '2977' is outside its range, 0 to 2976, or none ("),
 ];
 
 #[test]
@@ -149,7 +147,7 @@ fn what_is_said_of_a_case() {
         5,
     );
     assert!(
-        line.contains("line 5: no price is here; a case has 1 to 35,136 prices"),
+        line.contains("line 5: no price is here; a case has 1 to 2,976 prices"),
         "{line}"
     );
 }
@@ -193,43 +191,11 @@ fn what_is_said_of_a_schedule() {
     );
 }
 
-/// C1's unit from the last day of February on, with month figures.
-#[test]
-fn what_is_said_of_a_month() {
-    let folder = Folder::new("handed-in-months");
-    let assessed = |figures: &[(&str, u64)], on: &[usize]| {
-        let head = C1.split_inclusive('\n').take(4).collect::<String>();
-        let head = head.replacen(",2,2,none", ",9,9,900", 1);
-        let text = head + &"1000\n".repeat(100);
-        let text = limited_by_month(&dated(&text, (2024, 2, 29), (1 << 24) - 1), figures, 2);
-        let file = folder.file("case.csv", text);
-        let mut schedule = [0; 100];
-        on.iter().for_each(|interval| schedule[interval - 1] = 20);
-        let file = file.to_str().expect("text");
-        let listing = paper::table(&schedule);
-        said(&["assess", file, "-"], listing.as_bytes(), 10)
-    };
-    let two = [10, 11, 20, 21, 97, 98];
-    #[rustfmt::skip]
-    let told = [
-        (("mstarts", 1), &two[..], "line 21: interval 20, 20 MW: this is start 2 of its month, and mstarts is 1 ("),
-        (("mhours", 1), &[92, 93, 94, 95, 96, 97], "line 97: interval 96, 20 MW: 1.25 run-hours are used in its month, and mhours is 1 ("),
-        (("mmwh", 19), &two, "line 22: interval 21, 20 MW: 20 MWh are used in its month, and mmwh is 19 ("),
-    ];
-    for (figures, on, told) in told {
-        let line = assessed(&[figures], on);
-        assert!(line.contains(told), "{line}");
-    }
-}
-
 /// The first rule that is broken, from one interval to the next, by the specification's sentences.
 fn by_walking(case: &Case, schedule: &[u64]) -> Option<Broken> {
     let u = &case.unit;
     let (mut on, mut lasted) = (u.was == 1, u.held);
     let (mut starts, mut hours, mut mwh) = (0, 0, 0);
-    let months = paper::months(u, schedule.len());
-    let figures = u.months.map_or([None; 3], |m| [m.starts, m.hours, m.mwh]);
-    let mut in_month = [0; 3];
     for (interval, mw) in (1..).zip(schedule) {
         let broken = |rule| Some(Broken { interval, rule });
         let blocks = mw / u.block;
@@ -242,12 +208,6 @@ fn by_walking(case: &Case, schedule: &[u64]) -> Option<Broken> {
         starts += u64::from(on && !was_on);
         hours += u64::from(on);
         mwh += mw;
-        if interval > 1 && months[interval - 1] != months[interval - 2] {
-            in_month = [0; 3];
-        }
-        in_month[0] += u64::from(on && !was_on);
-        in_month[1] += u64::from(on);
-        in_month[2] += mw;
         let over =
             |used: u64, limit: Option<u64>, times: u64| limit.is_some_and(|l| used > times * l);
         let shut = u.window.is_some_and(|w| {
@@ -260,9 +220,6 @@ fn by_walking(case: &Case, schedule: &[u64]) -> Option<Broken> {
             (over(starts, u.starts, 1), Rule::Starts),
             (over(hours, u.hours, 4), Rule::Hours),
             (over(mwh, u.mwh, 4), Rule::Mwh),
-            (over(in_month[0], figures[0], 1), Rule::MonthStarts),
-            (over(in_month[1], figures[1], 4), Rule::MonthHours),
-            (over(in_month[2], figures[2], 4), Rule::MonthMwh),
             (shut, Rule::Window),
         ];
         if let Some((_, rule)) = rules.into_iter().find(|(breaks, _)| *breaks) {
@@ -275,19 +232,13 @@ fn by_walking(case: &Case, schedule: &[u64]) -> Option<Broken> {
 #[test]
 fn the_rule_that_is_broken() {
     let mut random = Random::new(77);
-    let mut seen = [0; 11];
+    let mut seen = [0; 8];
     for i in 0..40_000 {
-        let (unit, prices) = match i % 3 {
+        let (unit, prices) = match i % 2 {
             0 => small_case(&mut random),
-            1 => month_case(&mut random),
             _ => long_case(&mut random),
         };
-        let mut schedule = any_schedule(&mut random, &unit, prices.len());
-        if i % 3 == 1 && !random.one_in(5) {
-            let open = paper::permitted(&unit, schedule.len());
-            let shut = schedule.iter_mut().zip(open).filter(|(_, open)| !open);
-            shut.for_each(|(mw, _)| *mw = 0);
-        }
+        let schedule = any_schedule(&mut random, &unit, prices.len());
         let case = Case { unit, prices };
         let judged = assess(case.unit, &case.prices, &schedule);
         if schedule.len() != case.prices.len() {
@@ -306,7 +257,7 @@ fn the_rule_that_is_broken() {
             seen[place.expect("a rule")] += 1;
             assert!(broken.said(&case, &schedule).starts_with("interval "));
         } else {
-            seen[10] += 1;
+            seen[7] += 1;
         }
     }
     println!("rules broken, in their order, and none: {seen:?}");

@@ -7,7 +7,7 @@ use ralwinga::amounts::dollars;
 use std::path::{Path, PathBuf};
 use support::browser::Browser;
 use support::points::WORKED;
-use support::{dated, limited_by_month, month, paper, ralwinga, Folder, Random, C1, FULL};
+use support::{dated, month, paper, ralwinga, Folder, Random, C1, FULL};
 
 /// The page of a case and what the command prints beside it.
 fn page(folder: &Folder, name: &str, case: &str) -> (PathBuf, String) {
@@ -112,57 +112,6 @@ fn pages_of_plans() {
             agrees(&browser, &listing);
             planned += 1;
         }
-    }
-}
-
-/// Used and left by month and in all: two starts a month from 31 January on, of four.
-#[test]
-fn months_in_a_table() {
-    let folder = Folder::new("page-months");
-    let browser = Browser::new();
-    let (head, _) = C1.split_once("price\n").expect("prices");
-    let head = head.replacen(",2,2,none", ",4,none,none", 1);
-    let mut prices = vec![1000; 100];
-    for (at, price) in [(9, 9000), (29, 8000), (49, 7000), (96, 6500)] {
-        prices[at..at + 2].fill(price);
-    }
-    let prices: String = prices.iter().map(|price| format!("{price}\n")).collect();
-    let text = dated(&format!("{head}price\n{prices}"), (2026, 1, 31), FULL);
-    let text = limited_by_month(&text, &[("mstarts", 2)], 1);
-    let (file, listing) = page(&folder, "peaks.csv", &text);
-    opened(&browser, &file);
-    agrees(&browser, &listing);
-    let months = [
-        ["2026-01", "2", "0", "1", "none", "20", "none"],
-        ["2026-02", "1", "1", "0.5", "none", "10", "none"],
-        ["all", "3", "1", "1.5", "none", "30", "none"],
-    ];
-    assert_eq!(table(&browser, "months", "tr"), months);
-    let without = page(&folder, "c1.csv", C1).0;
-    opened(&browser, &without);
-    let tables = browser.text("document.querySelectorAll('#months').length");
-    assert_eq!(tables, "0");
-}
-
-/// The drawing of a year has a block to each month, and above it what its row has.
-#[test]
-fn a_year_on_the_page() {
-    let folder = Folder::new("page-year");
-    let browser = Browser::new();
-    let (unit, prices) = support::year_case(&mut Random::new(62));
-    let text = support::text_of(&mut Random::new(1), &unit, &prices);
-    let (file, listing) = page(&folder, "year.csv", &text);
-    opened(&browser, &file);
-    assert_eq!(text_at(&browser, "#listing"), listing);
-    let months = paper::months(&unit, prices.len())[prices.len() - 1];
-    let rows = table(&browser, "months", "tr");
-    assert_eq!(rows.len() as u64, months + 1);
-    let blocks = browser.text("document.querySelectorAll('svg .month').length");
-    assert_eq!(blocks, months.to_string());
-    let captions = browser
-        .text("[...document.querySelectorAll('svg .month')].map(t => t.textContent).join('\\\\n')");
-    for (caption, row) in captions.lines().zip(&rows) {
-        assert!(caption.starts_with(&format!("{}: {} ", row[0], row[1])));
     }
 }
 

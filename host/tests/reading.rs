@@ -4,9 +4,8 @@
 mod support;
 
 use ralwinga::reader::{read_case, read_long_case};
-use ralwinga::{read_into, Case, Monthly, Refusal, Unit, Window};
-use support::{any_case, any_window, c1, columns_of, damage_text, dated, each_came_up};
-use support::{limited_by_month, small_case};
+use ralwinga::{read_into, Case, Refusal, Unit, Window};
+use support::{any_case, any_window, c1, columns_of, damage_text, dated, each_came_up, small_case};
 use support::{text_of, text_with, Lent, Random, Seen, C1};
 
 const CASES: usize = 100_000;
@@ -54,12 +53,12 @@ fn both_readers_agree() {
             answer.as_ref().map_err(|r| *r),
             "{shown}"
         );
-        // the command's reader gives the proved one's number, and a place for each of 1 to 3, for a date, for months and for the number of prices
+        // the command's reader gives the proved one's number, and a place for each of 1 to 3, for a date and for the number of prices
         assert_eq!(read_case(&text), long, "{shown}");
         let placed = long.is_err_and(|fault| fault.place.is_some());
-        assert_eq!(placed, [1, 2, 3, 5, 12, 13].contains(&refused), "{shown}");
+        assert_eq!(placed, [1, 2, 3, 5, 12].contains(&refused), "{shown}");
     }
-    each_came_up(&seen, &[0, 1, 2, 3, 4, 5, 12, 13]);
+    each_came_up(&seen, &[0, 1, 2, 3, 4, 5, 12]);
 }
 
 #[test]
@@ -116,112 +115,6 @@ fn all_four_or_none() {
             };
             let case = read_by_both(&text);
             assert_eq!(case.map(|case| case.unit.window), window, "{text}");
-        }
-    }
-}
-
-/// The month figures and the month to value, of C1 from a date on.
-const MONTHS: Monthly = Monthly {
-    starts: Some(1),
-    hours: Some(3),
-    mwh: Some(4),
-    valued: 1,
-};
-
-/// Each choice of the four names of months, with a date and without, and each of the year's figures there or not.
-#[test]
-fn any_of_three_and_the_valued_month() {
-    let mut random = Random::new(84);
-    let mut seen: Seen = Default::default();
-    let prices = c1().prices;
-    for chosen in (0u32..256).cycle().take(256 * 20) {
-        let bit = |i: u32| chosen >> i & 1 == 1;
-        let of_year = |i: u32| bit(i).then_some(2);
-        let unit = Unit {
-            starts: of_year(5),
-            hours: of_year(6),
-            mwh: of_year(7),
-            window: bit(4).then_some(WINDOW),
-            months: Some(MONTHS),
-            ..c1().unit
-        };
-        let mut columns = columns_of(&unit);
-        let four = columns.split_off(columns.len() - 4);
-        let standing = four.into_iter().zip(0..).filter(|(_, i)| bit(*i));
-        columns.extend(standing.map(|(column, _)| column));
-        let text = text_with(&mut random, columns, &prices);
-        let figure = |i, figure: Option<u64>| figure.filter(|_| bit(i));
-        let monthly = Monthly {
-            starts: figure(0, MONTHS.starts),
-            hours: figure(1, MONTHS.hours),
-            mwh: figure(2, MONTHS.mwh),
-            valued: 1,
-        };
-        let some = (0..3).any(bit);
-        let lacks = !bit(4) || (0..3).any(|i| bit(i) && !bit(5 + i));
-        let expected = match (some, bit(3)) {
-            (true, true) if lacks => Err(13),
-            (true, true) => Ok(Some(monthly)),
-            (false, false) => Ok(None),
-            _ => Err(2),
-        };
-        seen[expected.err().unwrap_or(0) as usize] += 1;
-        let case = read_by_both(&text);
-        assert_eq!(case.map(|case| case.unit.months), expected, "{text}");
-    }
-    each_came_up(&seen, &[0, 2, 13]);
-}
-
-/// A month figure is no `none`, and the ends of the ranges.
-#[test]
-fn month_figures_and_their_ranges() {
-    let mut random = Random::new(85);
-    for (place, name, most) in [
-        (0, "mstarts", 2976),
-        (1, "mhours", 744),
-        (2, "mmwh", 372_000),
-    ] {
-        let mut figures = [None; 3];
-        figures[place] = Some(1);
-        let [starts, hours, mwh] = figures;
-        let valued = 1;
-        let unit = Unit {
-            mwh: Some(9),
-            window: Some(WINDOW),
-            months: Some(Monthly {
-                starts,
-                hours,
-                mwh,
-                valued,
-            }),
-            ..c1().unit
-        };
-        let most = most.to_string();
-        let beyond = (most.parse::<u64>().expect("a number") + 1).to_string();
-        for (value, expected) in [("none", 3), ("-1", 3), ("0", 0), (&most, 0), (&beyond, 3)] {
-            let mut columns = columns_of(&unit);
-            let column = columns.iter_mut().find(|(n, _)| *n == name);
-            column.expect("the name stands").1 = value.to_string();
-            let text = text_with(&mut random, columns, &c1().prices);
-            let number = read_by_both(&text).err().unwrap_or(0);
-            assert_eq!(number, expected, "{text}");
-        }
-        for (value, expected) in [
-            ("none", 3),
-            ("0", 3),
-            ("1", 0),
-            ("2", 13),
-            ("13", 13),
-            ("14", 3),
-        ] {
-            let mut columns = columns_of(&unit);
-            columns.last_mut().expect("valued").1 = value.to_string();
-            let text = text_with(&mut random, columns.clone(), &c1().prices);
-            assert_eq!(read_by_both(&text).err().unwrap_or(0), expected, "{text}");
-            // an empty horizon counts as 1 here
-            let text = text_with(&mut random, columns, &[]);
-            let expected = if expected == 0 { 5 } else { expected };
-            assert_eq!(read_by_both(&text).err(), Some(expected), "{text}");
         }
     }
 }
@@ -365,7 +258,7 @@ const FAULTS: [(&str, &str, u64, &str); 18] = [
     ("10,1,2,2", "10,1,2,97", 3, "line 2, column 8: mot '97' is outside its range, 1 to 96 ("),
     ("10,1,2,2", "10,2,2,97", 3, "line 2, column 8: mot '97' is outside its range, 1 to 96 ("),
     ("10,1,2", "10,none,2", 3, "line 2, column 4: pmin 'none' is outside its range, 1 to 500 ("),
-    ("2,none", "2,-1", 3, "line 2, column 36: mwh '-1' is outside its range, 0 to 4392000, or none ("),
+    ("2,none", "2,-1", 3, "line 2, column 36: mwh '-1' is outside its range, 0 to 372000, or none ("),
     ("8000", "200001", 3, "line 7, column 1: price '200001' is outside its range, -200000 to 200000 ("),
     ("8000", "none", 3, "line 7, column 1: price 'none' is outside its range, -200000 to 200000 ("),
 ];
@@ -405,45 +298,6 @@ fn places_of_faults_in_a_date() {
     for (from, to, number, said) in DATED_FAULTS {
         assert!(in_order.contains(from), "{from}");
         let text = in_order.replacen(from, to, 1);
-        let fault = read_case(text.as_bytes()).expect_err(&text);
-        assert_eq!(fault.refusal.number(), number, "{text}");
-        let line = fault.to_string();
-        assert!(line.starts_with(said), "{line}");
-        assert!(line.ends_with(&format!("({})", fault.refusal)), "{line}");
-    }
-}
-
-/// C1 from 3 February 2024 on with mstarts 1 and valued 1, and one thing put for another.
-#[rustfmt::skip]
-const MONTH_FAULTS: [(&str, &str, u64, &str); 9] = [
-    ("mstarts", "mstart", 2, "line 1, column 85: 'mstart' is unknown (did you mean 'mstarts'?)"),
-    ("mstarts", "mhours,mhours", 2, "line 1, column 92: 'mhours' is repeated"),
-    (",mstarts,valued\n10,1,2,2,2,0,2,3000,30000,5000,2,2,none,2024,2,3,1,1,1", ",mstarts\n10,1,2,2,2,0,2,3000,30000,5000,2,2,none,2024,2,3,1,1", 2, "line 1: 'valued' is missing"),
-    (",mstarts,valued\n10,1,2,2,2,0,2,3000,30000,5000,2,2,none,2024,2,3,1,1,1", ",valued\n10,1,2,2,2,0,2,3000,30000,5000,2,2,none,2024,2,3,1,1", 2, "line 1, column 85: 'valued' stands without a month figure, one of mstarts, mhours, mmwh"),
-    (",3,1,1,1\n", ",3,1,2977,1\n", 3, "line 2, column 52: mstarts '2977' is outside its range, 0 to 2976 ("),
-    (",3,1,1,1\n", ",3,1,none,1\n", 3, "line 2, column 52: mstarts 'none' is outside its range, 0 to 2976 ("),
-    (",3,1,1,1\n", ",3,1,1,14\n", 3, "line 2, column 54: valued '14' is outside its range, 1 to 13 ("),
-    (",3,1,1,1\n", ",3,1,1,2\n", 13, "line 2, column 54: valued '2' is outside the horizon, which has 1 month ("),
-    (",5000,2,2,", ",5000,none,2,", 13, "line 2, column 55: mstarts '1' needs a figure of the year: starts is none ("),
-];
-
-#[test]
-fn places_of_faults_in_months() {
-    let in_order = limited_by_month(&dated(C1, (2024, 2, 3), 1), &[("mstarts", 1)], 1);
-    assert!(read_case(in_order.as_bytes()).is_ok());
-    let undated = limited_by_month(C1, &[("mstarts", 1)], 1);
-    let fault = read_case(undated.as_bytes()).expect_err(&undated);
-    let said =
-        "line 2, column 41: mstarts '1' needs a date: year, month, day, window are missing (";
-    assert!(fault.to_string().starts_with(said), "{fault}");
-    for (from, to, number, said) in MONTH_FAULTS {
-        assert!(in_order.contains(from), "{from}");
-        let text = match to {
-            "mhours,mhours" => in_order
-                .replacen(from, to, 1)
-                .replacen(",1,1,1\n", ",1,1,1,1\n", 1),
-            _ => in_order.replacen(from, to, 1),
-        };
         let fault = read_case(text.as_bytes()).expect_err(&text);
         assert_eq!(fault.refusal.number(), number, "{text}");
         let line = fault.to_string();

@@ -4,7 +4,7 @@ mod support;
 
 use ralwinga::amounts::grouped;
 use ralwinga::reader::read_case;
-use ralwinga::{cells, Monthly, Unit};
+use ralwinga::{cells, Unit};
 use std::fs;
 use std::path::Path;
 use std::process::{Command, Output};
@@ -125,9 +125,7 @@ fn told() -> Vec<String> {
     );
     let refused = run(&["assess", "unit.csv", "unit.listing.csv"]).stderr;
     messages.push_str(&String::from_utf8_lossy(&refused));
-    let months = shell(&examples("readme-year"), "ralwinga months year.csv");
-    let months = String::from_utf8(months.stdout).expect("text");
-    vec![table(&[]), table(&["--raw"]), messages, months]
+    vec![table(&[]), table(&["--raw"]), messages]
 }
 
 /// Every block is read, or is printed for one that is.
@@ -337,48 +335,6 @@ fn the_cells_of_a_month() {
         let row = |line: &&str| line.contains(&layers) && line.contains(&table);
         let text = command_document();
         assert_eq!(text.lines().filter(row).count(), 1, "{layers} {table}");
-    }
-}
-
-/// The years of the table of memory.
-#[test]
-fn the_cells_of_a_year() {
-    let dated = beginning(&CASES[1..]).into_iter().next();
-    let dated = dated.expect("a case with a date in docs/CASE.md");
-    let year = read_case(dated.as_bytes()).expect("a case in order").unit;
-    for (starts, hours, mwh) in [
-        ((Some(300), None), (None, None), (None, None)),
-        ((Some(300), Some(30)), (None, None), (None, None)),
-        ((None, None), (Some(2000), None), (None, None)),
-        ((None, None), (Some(2000), Some(200)), (None, None)),
-        ((None, None), (None, None), (Some(12_000), Some(1200))),
-        ((None, None), (None, None), (Some(60_000), Some(6000))),
-    ] {
-        let monthly = Monthly {
-            starts: starts.1,
-            hours: hours.1,
-            mwh: mwh.1,
-            valued: 1,
-        };
-        let limited = Unit {
-            block: 5,
-            mot: 4,
-            mdt: 4,
-            starts: starts.0,
-            hours: hours.0,
-            mwh: mwh.0,
-            months: Some(monthly),
-            ..year
-        };
-        // without a figure there is no group
-        let limited = limited.with_months(|_| ());
-        let layers = sized(cells(limited, 35_040).expect("a case in order").needed);
-        let rows = command_document().lines();
-        assert_eq!(
-            rows.filter(|row| row.contains(&layers)).count(),
-            1,
-            "{layers}"
-        );
     }
 }
 

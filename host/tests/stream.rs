@@ -4,7 +4,7 @@
 mod support;
 
 use ralwinga::reader::{horizon, read_case, read_long_case};
-use ralwinga::{Monthly, Refusal, Window};
+use ralwinga::{Refusal, Window};
 use std::fs;
 use std::io::Write;
 use std::path::Path;
@@ -12,7 +12,7 @@ use std::process::{Command, Output};
 use support::{columns_of, dated, each_came_up, month, small_case, text_with};
 use support::{limited, Folder, Random, Seen, C1};
 
-const CASES: usize = 1000;
+const CASES: usize = 3000;
 
 /// C1's lines up to the name of the prices.
 fn head() -> String {
@@ -21,16 +21,16 @@ fn head() -> String {
 
 #[test]
 fn the_horizon_is_the_librarys() {
-    assert_eq!(horizon(), 35_136);
+    assert_eq!(horizon(), 2976);
     let text = |prices| head() + &"9000\n".repeat(prices);
     assert_eq!(
-        read_case(text(35_136).as_bytes()).map(|case| case.prices.len()),
-        Ok(35_136)
+        read_case(text(2976).as_bytes()).map(|case| case.prices.len()),
+        Ok(2976)
     );
     for (prices, said) in [
-        (0, "line 5: no price is here; a case has 1 to 35,136 prices (refused, 5: "),
-        (35_137, "line 35141: 35,137 prices, and a case has at most 35,136: this is the first too many (refused, 5: "),
-        (50_000, "line 35141: 50,000 prices, and a case has at most 35,136: this is the first too many (refused, 5: "),
+        (0, "line 5: no price is here; a case has 1 to 2,976 prices (refused, 5: "),
+        (2977, "line 2981: 2,977 prices, and a case has at most 2,976: this is the first too many (refused, 5: "),
+        (12_000, "line 2981: 12,000 prices, and a case has at most 2,976: this is the first too many (refused, 5: "),
     ] {
         let fault = read_case(text(prices).as_bytes()).expect_err("too many or none");
         assert_eq!(fault.refusal, Refusal::Horizon);
@@ -39,30 +39,19 @@ fn the_horizon_is_the_librarys() {
 }
 
 /// The numbers of a case's causes in the order in which they are given.
-const NUMBERS: [u64; 7] = [1, 2, 3, 4, 12, 13, 5];
+const NUMBERS: [u64; 6] = [1, 2, 3, 4, 12, 5];
 
 /// The columns of a unit from a date on, with these causes of `NUMBERS` in them.
-fn columns_with(random: &mut Random, holds: &[bool; 7]) -> Vec<(&'static str, String)> {
-    let [_, name, _, shape, date, months, _] = *holds;
+fn columns_with(random: &mut Random, holds: &[bool; 6]) -> Vec<(&'static str, String)> {
+    let [_, name, _, shape, date, _] = *holds;
     let (mut unit, _) = small_case(random);
-    let (year, month, day, word) = (2024, 2, if date { 30 } else { 1 }, 5);
+    let (year, month, day, word) = (2024, 2, if date { 30 } else { 2 }, 5);
     unit.window = Some(Window {
         year,
         month,
         day,
         word,
     });
-    // beside no figure of the year, or valued in the thirteenth month, which a year from the first day of February on does not come to
-    let (starts, valued) = random.from(&[(None, 1), (Some(2), 13)]);
-    unit.months = months.then_some(Monthly {
-        starts: Some(1),
-        hours: None,
-        mwh: None,
-        valued,
-    });
-    if months {
-        unit.starts = starts;
-    }
     if shape {
         (unit.pmin, unit.pmax) = (9, 8);
     }
@@ -73,12 +62,12 @@ fn columns_with(random: &mut Random, holds: &[bool; 7]) -> Vec<(&'static str, St
     columns
 }
 
-/// The lines of a month's or a year's prices or of more, with these causes in them, each anywhere.
-fn prices_with(random: &mut Random, holds: &[bool; 7]) -> String {
-    let [form, _, range, _, _, _, count] = *holds;
+/// The lines of a month's prices or of more, with these causes in them, each anywhere.
+fn prices_with(random: &mut Random, holds: &[bool; 6]) -> String {
+    let [form, _, range, _, _, count] = *holds;
     let intervals = match count {
-        true => random.from(&[35_137, 36_000, 50_000]),
-        false => random.from(&[2500, 2976, 35_136]),
+        true => random.from(&[2977, 3000, 9000]),
+        false => random.from(&[2500, 2976]),
     };
     let mut prices = vec!["-1000"; intervals as usize];
     if range {
@@ -90,13 +79,13 @@ fn prices_with(random: &mut Random, holds: &[bool; 7]) -> String {
     prices.join("\n") + "\n"
 }
 
-/// Texts of a month, of a year and of more with some of the causes in them: the first in the order is given, wherever it stands.
+/// Texts of a month and of more with some of the causes in them: the first in the order is given, wherever it stands.
 #[test]
 fn numbers_of_long_texts() {
     let mut random = Random::new(61);
     let mut seen: Seen = Default::default();
     for _ in 0..CASES {
-        let holds: [bool; 7] = std::array::from_fn(|_| random.one_in(4));
+        let holds: [bool; 6] = std::array::from_fn(|_| random.one_in(4));
         let columns = columns_with(&mut random, &holds);
         let head = text_with(&mut random, columns, &[]);
         let text = head + &prices_with(&mut random, &holds);
@@ -109,7 +98,7 @@ fn numbers_of_long_texts() {
         assert_eq!(answer, read_long_case(text.as_bytes()));
         seen[expected as usize] += 1;
     }
-    each_came_up(&seen, &[0, 1, 2, 3, 4, 5, 12, 13]);
+    each_came_up(&seen, &[0, 1, 2, 3, 4, 5, 12]);
 }
 
 /// All that the command has for texts of 20 and of 200 MB.

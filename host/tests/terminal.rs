@@ -2,10 +2,9 @@
 
 mod support;
 
-use ralwinga::{Monthly, Unit};
 use std::path::PathBuf;
 use std::process::Command;
-use support::{month, ralwinga, text_of, year_case, Folder, Random};
+use support::{month, ralwinga, Folder};
 
 /// A month whose cells take some tenths of a second.
 fn long_month() -> String {
@@ -56,37 +55,6 @@ fn a_case_in_two_layers() {
         .filter_map(|before| before.rsplit("] ").next()?.parse().ok())
         .collect();
     assert!(shares.len() > 2 && shares[0] < 50, "{shares:?}");
-    assert!(shown.contains("\nprofit,"), "{shown}");
-}
-
-/// A year with month figures that takes a second or more: how long is said before, and the share that is done rises and is not at its end too soon.
-#[test]
-fn a_year_with_month_figures() {
-    let folder = Folder::new("terminal-year");
-    let (unit, prices) = year_case(&mut Random::new(63));
-    let unit = Unit {
-        mot: 4,
-        mdt: 4,
-        starts: None,
-        hours: Some(250),
-        mwh: None,
-        months: unit.months.map(|m| Monthly {
-            starts: None,
-            hours: Some(30),
-            mwh: None,
-            ..m
-        }),
-        ..unit
-    };
-    let file = folder.file("year.csv", text_of(&mut Random::new(1), &unit, &prices));
-    let shown = on_a_terminal("", std::slice::from_ref(&file));
-    assert!(shown.contains(" s to plan"), "{shown}");
-    let shares: Vec<u32> = shown
-        .split("%, about ")
-        .filter_map(|before| before.rsplit("] ").next()?.parse().ok())
-        .collect();
-    assert!(shares.len() > 2 && shares[0] < 50, "{shares:?}");
-    assert!(shares.windows(2).all(|two| two[0] <= two[1]), "{shares:?}");
     assert!(shown.contains("\nprofit,"), "{shown}");
 }
 

@@ -197,13 +197,19 @@ fn any_unit(random: &mut Random) -> Unit {
         hours: None,
         mwh: None,
         window: None,
-        months: None,
     }
 }
 
 /// The report and the plan by the recursion, or 9.
 fn by_recursion(unit: &Unit, prices: &[i64]) -> Result<(Report, Vec<u64>), u64> {
-    recursion::reported(unit, prices).ok_or(9)
+    let (profit, plan) = recursion::best(unit, prices).ok_or(9u64)?;
+    let profit_of = |unit| recursion::best(&unit, prices).map(|(earned, _)| earned.into());
+    let report = Report {
+        count: plan.len(),
+        profit,
+        outcomes: paper::outcomes_by(unit, profit_of),
+    };
+    Ok((report, plan))
 }
 
 /// Words for any hour, for those about the changes, for days and nights, and for every other hour.

@@ -15,8 +15,10 @@ use Rattle.commitment.specs.declared.Checked.{Checked}
 use Rattle.commitment.specs.declared.Checked.TheVariants.{Passed, Refused}
 use Rattle.commitment.specs.declared.UnitRecord.{UnitRecord}
 use Rattle.commitment.specs.Causes.{◌else◌, unless, first_of}
-use Rattle.commitment.specs.Cells.{cells_needed, met}
+use Rattle.commitment.specs.Cells.{cells_needed}
+use Rattle.commitment.specs.Ranges.{prices_kept}
 use Rattle.commitment.proofs.Causes.{checked_then, in-turn, then-passed}
+use Rattle.commitment.proofs.Passing.{Passing, passing}
 use Rattle.casefile.specs.declared.CaseRead.TheVariants as read
 use Rattle.casefile.specs.Answers.{read_case, read_prices}
 use Rattle.casefile.specs.Reading.{unit_in, prices_in, written_checks, room_checks, written_checked, text_checked}
@@ -25,7 +27,6 @@ use Rattle.planner.specs.Planning.{lent_checked, schedule_checks, schedule_check
 use Rattle.planner.proofs.Lent.{lent-turn, plan-turn}
 use Rattle.answers.specs.Answering.{all_found}
 use Rattle.answers.specs.Sizes.{price_room, cell_room}
-use Rattle.answers.proofs.Rooms.{prices-fit}
 
 module _ (text : List ℕ) where
   abbrev unit : UnitRecord
@@ -39,19 +40,22 @@ module _ (text : List ℕ) where
 
   -- 8 and 9
   abbrev worked : Checked
-  worked = first_of ((met (cells_needed unit count) cell_room else Scratch) ∷ schedule_checks unit prices)
+  worked = first_of ((leb (cells_needed unit count) cell_room else Scratch) ∷ schedule_checks unit prices)
 
   all-in-turn : all_found text ≡ checked_then (written_checked text) worked
   unfolding all_found written_checked
-  all-in-turn = in-turn (written_checks text) ((met (cells_needed unit count) cell_room else Scratch) ∷ schedule_checks unit prices)
+  all-in-turn = in-turn (written_checks text) ((leb (cells_needed unit count) cell_room else Scratch) ∷ schedule_checks unit prices)
 
   all-by : {k : Checked} → written_checked text ≡ k → all_found text ≡ checked_then k worked
   all-by e = all-in-turn ∙ ap (λ (k : Checked). checked_then k worked) e
 
   -- ---- the prices of a text in which no cause was found fit, so that reading gives no 7
 
+  written-passing : written_checked text ≡ Passed → Passing unit (prices_kept prices) count
+  written-passing e = passing unit (prices_kept prices) count (written-passed text e).checks
+
   room_for : written_checked text ≡ Passed → leb count price_room ≡ true
-  room_for e = le-leb count price_room (prices-fit text (written-passed text e).form)
+  room_for e = le-leb count price_room (omega (arith, (written-passing e).order.checked))
 
   turn : {k : Checked} → written_checked text ≡ k → text_checked text price_room ≡ checked_then k (first_of (room_checks text price_room))
   turn e = text_in-turn text price_room ∙ ap (λ (k : Checked). checked_then k (first_of (room_checks text price_room))) e
@@ -71,11 +75,11 @@ module _ (text : List ℕ) where
 
   pub planned-in-room : written_checked text ≡ Passed → (entries : ℕ) → count ≤ entries → plan_checked unit prices cell_room entries ≡ all_found text
   planned-in-room e entries long =
-      let lent : lent_checked unit prices (leb count entries) cell_room ≡ unless (met (cells_needed unit count) cell_room) Scratch Passed =
+      let lent : lent_checked unit prices (leb count entries) cell_room ≡ unless (leb (cells_needed unit count) cell_room) Scratch Passed =
       lent-turn unit prices (leb count entries) cell_room ∙ rw ((written-passed text e).checks, le-leb count entries long) in
       plan-turn unit prices cell_room entries
       ∙ ap (λ (k : Checked). checked_then k (schedule_checked unit prices)) lent
-      ∙ eight (met (cells_needed unit count) cell_room)
+      ∙ eight (leb (cells_needed unit count) cell_room)
       ∙ sym (all-by e)
     where
       eight : (t : Bool) → checked_then (unless t Scratch Passed) (schedule_checked unit prices) ≡ unless t Scratch (schedule_checked unit prices)
@@ -103,7 +107,7 @@ module _ (text : List ℕ) where
       record {
         unit-is = sym k.1;
         count-is = sym k.2;
-        fits = omega (arith, k.2, prices-fit text (written-passed text passed).form);
+        fits = omega (arith, k.2, (written-passing passed).order.checked);
         front =
             λ slice long.
             ap₂ (λ (m : ℕ) (l : List ℤ). take m l) (sym k.2) (sym (answer-read text slice (ap (text_checked text) long ∙ k.0)).1)

@@ -1,5 +1,5 @@
 -- The answer to the text of a case (specification 12, 14, 15): what is found of it, the lines printed, and the number and the bytes answered.
-use Rattle.std.specs.Prelude.{List, ◌∷◌, ◌++◌, ℕ, ℤ, length}
+use Rattle.std.specs.Prelude.{List, ◌∷◌, ◌++◌, ℕ, leb, ℤ, length}
 use Rattle.commitment.specs.declared.Cause.TheVariants.{Scratch}
 use Rattle.commitment.specs.declared.Checked.{Checked}
 use Rattle.commitment.specs.declared.Permit.{Permit}
@@ -7,7 +7,7 @@ use Rattle.commitment.specs.declared.Permit.TheVariants.{AnyHour, Within}
 use Rattle.commitment.specs.declared.UnitRecord.{UnitRecord}
 use Rattle.commitment.specs.Best.{best}
 use Rattle.commitment.specs.Causes.{number_of, Check, ◌else◌, first_of}
-use Rattle.commitment.specs.Cells.{cells_needed, met}
+use Rattle.commitment.specs.Cells.{cells_needed}
 use Rattle.commitment.specs.Valuing.{outcomes_of}
 use Rattle.casefile.specs.Reading.{unit_in, prices_in, written_checks}
 use Rattle.listing.specs.declared.HourWord.{HourWord}
@@ -26,7 +26,7 @@ use Rattle.answers.specs.Sizes.{cell_room}
 abbrev pub answer_checks : List ℕ → List Check
 answer_checks text =
     written_checks text
-    ++ ((met (cells_needed (unit_in text) (length (prices_in text))) cell_room else Scratch) ∷ schedule_checks (unit_in text) (prices_in text))
+    ++ ((leb (cells_needed (unit_in text) (length (prices_in text))) cell_room else Scratch) ∷ schedule_checks (unit_in text) (prices_in text))
 
 unfoldable pub all_found : List ℕ → Checked
 all_found text = first_of (answer_checks text)

@@ -15,4 +15,4 @@ cell_room = 4000
 
 -- the bytes printed
 abbrev pub out_room : ℕ
-out_room = 55442
+out_room = 26930

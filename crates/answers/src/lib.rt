@@ -16,7 +16,7 @@ use planner::Reported;
 // What the program has room for. specs/Sizes.antt has the same.
 pub const TEXT_ROOM: usize = casetext::form::MOST_BYTES + 1;
 
-pub const OUT_ROOM: usize = 55442;
+pub const OUT_ROOM: usize = 26930;
 
 pub const PRICE_ROOM: usize = 6144;
 

@@ -1,27 +1,22 @@
 -- The totals of a walk stay small: so much for each interval.
 use mathlib.Core.Path.{◌≡◌}
 use mathlib.Core.Bool.{Bool, true, false, ◌&&◌}
-use mathlib.Core.List.{List}
 use Prim.Native.Nat.{ℕ, zero, suc, ◌+◌, ◌*◌, ◌%◌, ◌≤◌}
 use native.Mathlib.Nat.{mul-le-mul_right}
 use native.Mathlib.Omega.{arith}
 use borrow.Author.Tests.{leb-true}
 use lib.Dec.{leb, eqb}
 use lib.IntN.{ℤ, pos, nat_abs}
-use lib.ListN.{get_or}
 use Rattle.commitment.specs.Bounds.{most_mw, most_held, most_suc, most_price, most_intervals}
 use Rattle.integers.proofs.Ranges.{Within, within-at, within-weaken, within-sum, within-diff, abs-within}
 use Rattle.commitment.specs.declared.UnitRecord.{UnitRecord}
 use Rattle.commitment.specs.Profit.{earned, start_cost}
 use Rattle.commitment.specs.Ranges.{ranges_kept, shape_kept}
 use Rattle.commitment.specs.Schedule.{is_output}
-use Rattle.lists.specs.Every.{every}
 use Rattle.lists.proofs.Conjunctions.{both}
-use Rattle.lists.proofs.Every.{every-at}
 use Rattle.commitment.proofs.Margins.{margin-within, most_margin}
 use Rattle.commitment.proofs.Ranges.{in-range, in-shape}
 use Rattle.assessment.specs.declared.Walk.{Walk}
-use Rattle.assessment.specs.Counting.{Outputs}
 use Rattle.assessment.specs.Walking.{Small, advanced, stepped, opening_walk}
 
 -- the most that one interval can bring: its margin, and a start
@@ -54,9 +49,6 @@ module _ (u : UnitRecord) (ranges : ranges_kept u ≡ true) (shape : shape_kept 
       let top = g.pmax * g.block in
       let f = both (eqb (suc m % g.block) 0 && leb (g.pmin * g.block) (suc m)) (leb (suc m) top) e in
       omega (arith, leb-true (suc m) top f.1, (in-shape g shape).most)
-
-  pub outputs-small : (s : List ℕ) → every (is_output u.generator) s ≡ true → Outputs s
-  outputs-small s e i h = output-most (get_or s i 0) (every-at (is_output u.generator) 0 s i e h)
 
   pub opening-bounded : Bounded 0 (opening_walk u.opening)
   opening-bounded =

@@ -11,11 +11,11 @@ use Rattle.lists.proofs.Fills.{drop-next}
 use Rattle.calendar.specs.Months.{year_intervals}
 use Rattle.commitment.specs.declared.Limits.{Limits}
 use Rattle.commitment.specs.Bounds.{most_mw}
-use Rattle.commitment.specs.Counting.{starts_in, on_intervals, output_sum, on_after}
-use Rattle.commitment.specs.Months.{Month, keeps_month, keeps_months}
+use Rattle.commitment.specs.Keeping.{starts_in, on_intervals, output_sum}
+use Rattle.commitment.specs.Months.{Month, on_after, keeps_in, keeps_months}
 use Rattle.commitment.specs.Cuts.{months_between}
 use Rattle.commitment.proofs.Cutting.{between_next}
-use Rattle.assessment.specs.declared.by_month.Counts.{Counts}
+use Rattle.assessment.specs.declared.months.Counts.{Counts}
 use Rattle.assessment.specs.Counting.{counts, counts_of, counted, Room, Outputs}
 
 -- ---- an output that is 0, and one that is not, as the code tests them
@@ -105,14 +105,14 @@ module _ (limits : Limits) (cuts : List ℕ) (count : ℕ) (s : List ℕ) where
   month_part k = between (get_or cuts k 0) (get_or cuts (k + 1) 0) s
 
   pub kept_next : (k : ℕ) (on : Bool) → k < count → get_or cuts k 0 ≤ get_or cuts (k + 1) 0
-      → kept_from k on ≡ (keeps_month limits on (month_part k) && kept_from (k + 1) (on_after on (month_part k)))
+      → kept_from k on ≡ (keeps_in limits on (month_part k) && kept_from (k + 1) (on_after on (month_part k)))
   kept_next k on h up =
       let from = get_or cuts k 0 in
       let to = get_or cuts (k + 1) 0 in
       let rest : from + (to - from) ≡ to = omega arith in
       ap (λ (months : List Month). keeps_months months on (drop from s)) (between_next limits cuts k count h)
       ∙ ap
-      (λ (later : List ℕ). keeps_month limits on (month_part k) && keeps_months (months_between limits cuts (k + 1) (count - (k + 1))) (on_after on (month_part k)) later)
+      (λ (later : List ℕ). keeps_in limits on (month_part k) && keeps_months (months_between limits cuts (k + 1) (count - (k + 1))) (on_after on (month_part k)) later)
       (drop-drop (to - from) from s ∙ ap (λ (j : ℕ). drop j s) rest)
 
   pub kept-end : (k : ℕ) (on : Bool) → count ≤ k → kept_from k on ≡ true

@@ -1,11 +1,10 @@
 -- What it says of a schedule that it was passed.
-use mathlib.Core.Path.{◌≡◌, refl, sym, ap, ap₂, subst, ◌∙◌}
-use mathlib.Core.Bool.{Bool, true, ◌&&◌}
+use mathlib.Core.Path.{◌≡◌, refl, sym, ap, ap₂, ◌∙◌}
+use mathlib.Core.Bool.{Bool, ◌&&◌}
 use mathlib.Core.List.{List}
 use mathlib.Core.Logic.{◌↔◌}
 use Prim.Native.Nat.{ℕ}
 use native.Mathlib.Omega.{arith}
-use borrow.Author.Tests.{eqb-true}
 use lib.IntN.{ℤ}
 use lib.ListN.{length}
 use lib.Dec.{eqb}
@@ -14,7 +13,7 @@ use Rattle.commitment.specs.declared.Checked.{Checked}
 use Rattle.commitment.specs.declared.Checked.TheVariants.{Passed, Refused}
 use Rattle.commitment.specs.declared.UnitRecord.{UnitRecord}
 use Rattle.commitment.specs.Causes.{unless}
-use Rattle.commitment.specs.Keeping.{keeps_in, months_for, keeps_case}
+use Rattle.commitment.specs.Keeping.{keeps_case}
 use Rattle.commitment.specs.Profit.{profit}
 use Rattle.commitment.specs.Ranges.{prices_kept, case_checks, case_checked}
 use Rattle.lists.specs.Every.{every}
@@ -37,22 +36,6 @@ pub hand-in-turn : (u : UnitRecord) (prices : List ℤ) (s : List ℕ)
 unfolding hand_in_checked case_checked
 hand-in-turn u prices s = in-turn (case_checks u (prices_kept prices) (length prices)) (handed_checks u prices s)
 
--- a schedule that keeps the case is a rival: it is as long as the prices, so that its months are those of the case
-pub rival-exactly : (u : UnitRecord) (prices : List ℤ) (s : List ℕ)
-    → ((is_schedule u.generator (length prices) s && keeps_case u s) ≡ true) ↔ Rival u prices s
-rival-exactly u prices s = (told, λ r. ap₂ ◌&&◌ r.schedule (subst Kept (sym (long r.schedule)) r.kept))
-  where
-    Kept : ℕ → Type 0
-    Kept n = keeps_in u (months_for u n) s ≡ true
-
-    long : is_schedule u.generator (length prices) s ≡ true → length s ≡ length prices
-    long e = eqb-true (length s) (length prices) (both (eqb (length s) (length prices)) (every (is_output u.generator) s) e).0
-
-    told : (is_schedule u.generator (length prices) s && keeps_case u s) ≡ true → Rival u prices s
-    told e =
-        let k = both (is_schedule u.generator (length prices) s) (keeps_case u s) e in
-        record { schedule = k.0; kept = subst Kept (long k.0) k.1 }
-
 -- passed exactly when no cause of the case holds, the schedule keeps it, and the profit is formula (7)'s
 pub passed-exactly : (u : UnitRecord) (prices : List ℤ) (s : List ℕ) (p : ℤ)
     → (assessed u prices s ≡ answer.Profit p) ↔ ((case_checked u (prices_kept prices) (length prices) ≡ Passed) × Rival u prices s × (profit u prices s ≡ p))
@@ -64,11 +47,12 @@ passed-exactly u prices s p = (told, given)
         let b = then-passed (case_checked u (prices_kept prices) (length prices)) (handed_in u prices s) (sym (hand-in-turn u prices s) ∙ a.0) in
         let c = unless-passed (eqb (length s) (length prices)) Length _ b.1 in
         let d = unless-passed (is_schedule u.generator (length prices) s && keeps_case u s) NotKept Passed c.1 in
-        (b.0, (rival-exactly u prices s).0 d.0, a.1)
+        let k = both (is_schedule u.generator (length prices) s) (keeps_case u s) d.0 in
+        (b.0, record { schedule = k.0; kept = k.1 }, a.1)
 
     given : (case_checked u (prices_kept prices) (length prices) ≡ Passed) × Rival u prices s × (profit u prices s ≡ p) → assessed u prices s ≡ answer.Profit p
     given h =
         let long = (both (eqb (length s) (length prices)) (every (is_output u.generator) s) h.1.schedule).0 in
         let handed : handed_in u prices s ≡ Passed =
-        ap₂ (λ (a b : Bool). unless a Length (unless b NotKept Passed)) long ((rival-exactly u prices s).1 h.1) in
+        ap₂ (λ (a b : Bool). unless a Length (unless b NotKept Passed)) long (ap₂ ◌&&◌ h.1.schedule h.1.kept) in
         ap (λ (k : Checked). assessed_by k (profit u prices s)) (hand-in-turn u prices s ∙ ap₂ checked_then h.0 handed) ∙ ap answer.Profit h.2

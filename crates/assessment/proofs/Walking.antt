@@ -7,19 +7,17 @@ use native.Mathlib.Nat.{add-zero, zero-add}
 use native.Mathlib.Numerals.{add-one}
 use native.Mathlib.Omega.{arith}
 use borrow.Author.Tests.{eq-eqb}
-use lib.Dec.{leb, eqb}
+use lib.Dec.{leb}
 use lib.IntN.{ℤ, pos, ◌+ℤ◌, ◌-ℤ◌, +ℤ_idl}
 use lib.ListN.{length, drop, get_or, drop_of_length-le}
-use Rattle.lists.proofs.Conjunctions.{both}
 use Rattle.lists.proofs.Fills.{drop-next}
 use Rattle.integers.proofs.Linear.{zarith, zsum, zdiff, up_pos, dn-pos}
 use Rattle.commitment.specs.declared.Cause.TheVariants.{NotKept}
 use Rattle.commitment.specs.declared.Checked.TheVariants.{Passed}
 use Rattle.commitment.specs.declared.UnitRecord.{UnitRecord}
 use Rattle.commitment.specs.Causes.{unless}
-use Rattle.commitment.specs.Counting.{was_on, starts_in, on_intervals, output_sum}
-use Rattle.commitment.specs.Keeping.{runs_last, spells_last, keeps_starts, keeps_runs, keeps_spells, keeps_hours, keeps_mwh, keeps_window}
-use Rattle.commitment.specs.Keeping.{keeps_year, keeps_case}
+use Rattle.commitment.specs.Keeping.{was_on, starts_in, runs_last, spells_last, on_intervals, output_sum}
+use Rattle.commitment.specs.Keeping.{keeps_starts, keeps_runs, keeps_spells, keeps_hours, keeps_mwh, keeps_window, keeps_case}
 use Rattle.commitment.specs.Profit.{earned, earned_in, start_cost, profit}
 use Rattle.lists.specs.Every.{every}
 use Rattle.commitment.specs.Schedule.{is_output, is_schedule}
@@ -29,7 +27,7 @@ use Rattle.assessment.specs.declared.Walk.{Walk}
 use Rattle.assessment.specs.declared.Walked.{Walked}
 use Rattle.assessment.specs.declared.Walked.TheVariants.{Whole, Broken}
 use Rattle.assessment.specs.Assessed.{assessed_by}
-use Rattle.assessment.specs.Walking.{opening_walk, may_follow, stepped, walk_from, settled, concluded, keeps_monthly, months_also}
+use Rattle.assessment.specs.Walking.{opening_walk, may_follow, stepped, walk_from, settled, concluded}
 
 abbrev standing : Bool → ℕ → ℕ → ℕ → ℕ → ℤ → Walk
 standing on spent starts running output p =
@@ -193,10 +191,10 @@ module _ (u : UnitRecord) where
       ∙ ap (λ (t : Bool). assessed_by (unless t NotKept Passed) (profit u prices s))
       (in_order (keeps_starts u s) (keeps_runs u s) (keeps_spells u s) (keeps_hours u s) (keeps_mwh u s) (every (is_output u.generator) s)))
 
-  -- where the schedule is off wherever it is shut, the rules are all of the year's
+  -- where the schedule is off wherever it is shut, the rules are all
   pub hours-also : (prices : List ℤ) (s : List ℕ) → keeps_window u s ≡ true
       → assessed_by (unless (is_schedule u.generator (length prices) s && keeps_rules s) NotKept Passed) (profit u prices s)
-      ≡ assessed_by (unless (is_schedule u.generator (length prices) s && keeps_year u s) NotKept Passed) (profit u prices s)
+      ≡ assessed_by (unless (is_schedule u.generator (length prices) s && keeps_case u s) NotKept Passed) (profit u prices s)
   hours-also prices s off =
       ap (λ (k : Bool). assessed_by (unless (is_schedule u.generator (length prices) s && k) NotKept Passed) (profit u prices s))
       (sym (ap (λ (w : Bool). keeps_rules s && w) off ∙ and-true (keeps_rules s)))
@@ -206,31 +204,6 @@ module _ (u : UnitRecord) where
       → assessed_by (unless (is_schedule u.generator (length prices) s && keeps_case u s) NotKept Passed) (profit u prices s) ≡ Refused NotKept
   hours-broken prices s on =
       ap (λ (k : Bool). assessed_by (unless k NotKept Passed) (profit u prices s))
-      (ap (λ (w : Bool). is_schedule u.generator (length prices) s && (keeps_rules s && w && keeps_monthly u s)) on
-      ∙ ap (λ (k : Bool). is_schedule u.generator (length prices) s && (k && keeps_monthly u s)) (and-false (keeps_rules s))
+      (ap (λ (w : Bool). is_schedule u.generator (length prices) s && (keeps_rules s && w)) on
+      ∙ ap (λ (k : Bool). is_schedule u.generator (length prices) s && k) (and-false (keeps_rules s))
       ∙ and-false (is_schedule u.generator (length prices) s))
-
-  -- ---- the months, where all else is kept
-
-  also : (t k : Bool) (p : ℤ) → months_also k (assessed_by (unless t NotKept Passed) p) ≡ assessed_by (unless (t && k) NotKept Passed) p
-  also true true p = refl
-  also true false p = refl
-  also false k p = refl
-
-  pub months-also : (prices : List ℤ) (s : List ℕ)
-      → months_also (keeps_monthly u s) (assessed_by (unless (is_schedule u.generator (length prices) s && keeps_year u s) NotKept Passed) (profit u prices s))
-      ≡ assessed_by (unless (is_schedule u.generator (length prices) s && keeps_case u s) NotKept Passed) (profit u prices s)
-  months-also prices s =
-      also (is_schedule u.generator (length prices) s && keeps_year u s) (keeps_monthly u s) (profit u prices s)
-      ∙ ap (λ (k : Bool). assessed_by (unless k NotKept Passed) (profit u prices s))
-      (and_assoc (is_schedule u.generator (length prices) s) (keeps_year u s) (keeps_monthly u s))
-
-  -- a schedule that earns a profit has outputs of the unit
-  pub outputs-of : (n : ℕ) (s : List ℕ) (t : Bool) (p q : ℤ)
-      → assessed_by (unless (is_schedule u.generator n s && t) NotKept Passed) p ≡ Profit q → every (is_output u.generator) s ≡ true
-  outputs-of n s t p q e =
-      (both (eqb (length s) n) (every (is_output u.generator) s) (both (is_schedule u.generator n s) t (passed (is_schedule u.generator n s && t) e)).0).1
-    where
-      passed : (k : Bool) → assessed_by (unless k NotKept Passed) p ≡ Profit q → k ≡ true
-      passed true e = refl
-      passed false e = let z : ◌≡◌ {A = ℕ} 0 1 = cc in absurd (omega arith)

@@ -1,8 +1,9 @@
 -- What the part of a schedule in one month spends, interval by interval.
 use Rattle.std.specs.Prelude.{Bool, true, false, cond, List, ℕ, zero, suc, ◌+◌, ◌^◌, ◌≤◌, ◌<◌, length, get_or}
 use Rattle.commitment.specs.Bounds.{most_mw}
-use Rattle.commitment.specs.Counting.{starts_in, on_intervals, output_sum, on_after}
-use Rattle.assessment.specs.declared.by_month.Counts.{Counts}
+use Rattle.commitment.specs.Keeping.{starts_in, on_intervals, output_sum}
+use Rattle.commitment.specs.Months.{on_after}
+use Rattle.assessment.specs.declared.months.Counts.{Counts}
 
 abbrev pub counts : Bool → ℕ → ℕ → ℕ → Counts
 counts on starts running output = record { on = on; starts = starts; running = running; output = output }

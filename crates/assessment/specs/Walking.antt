@@ -1,16 +1,14 @@
 -- The walk over a schedule, interval by interval: where the unit stands and what it has spent and earned so far.
-use Rattle.std.specs.Prelude.{◌≡◌, Bool, true, false, ◌&&◌, cond, List, [], ◌∷◌, ℕ, zero, suc, ◌+◌, ◌^◌, ◌<◌, leb, ℤ, pos, nat_abs, ◌+ℤ◌, ◌-ℤ◌, length}
+use Rattle.std.specs.Prelude.{◌≡◌, Bool, true, false, ◌&&◌, cond, List, [], ◌∷◌, ℕ, zero, suc, ◌+◌, ◌^◌, ◌<◌, leb, ℤ, pos, nat_abs, ◌+ℤ◌, ◌-ℤ◌}
 use Rattle.commitment.specs.declared.Opening.{Opening}
 use Rattle.commitment.specs.declared.Generator.{Generator}
 use Rattle.commitment.specs.declared.Limits.{Limits}
 use Rattle.commitment.specs.declared.Limitation.{Limitation}
 use Rattle.commitment.specs.declared.Cause.TheVariants.{NotKept}
 use Rattle.commitment.specs.declared.UnitRecord.{UnitRecord}
-use Rattle.commitment.specs.Counting.{was_on}
+use Rattle.commitment.specs.Keeping.{was_on}
 use Rattle.commitment.specs.Bounds.{most_mwh}
 use Rattle.commitment.specs.Limits.{within, limit_kept, limit_for}
-use Rattle.commitment.specs.Keeping.{months_for}
-use Rattle.commitment.specs.Months.{keeps_months}
 use Rattle.commitment.specs.Profit.{earned, start_cost}
 use Rattle.commitment.specs.Schedule.{is_output}
 use Rattle.assessment.specs.declared.Assessed.{Assessed}
@@ -69,15 +67,6 @@ settled limits starts running output p = cond (spent_within limits starts runnin
 abbrev pub concluded : UnitRecord → Walked → Assessed
 concluded u (Whole at) = settled u.limits at.starts at.running at.output at.profit
 concluded u Broken = Refused NotKept
-
--- in every calendar month each month figure
-abbrev pub keeps_monthly : UnitRecord → List ℕ → Bool
-keeps_monthly u s = keeps_months (months_for u (length s)) (was_on u.opening) s
-
--- what the months say of a schedule that keeps all else
-abbrev pub months_also : Bool → Assessed → Assessed
-months_also kept (Profit p) = cond kept (Profit p) (Refused NotKept)
-months_also kept (Refused cause) = Refused cause
 
 -- limitations whose counts are small numbers
 abbrev pub SmallLimits : Limits → Type 0

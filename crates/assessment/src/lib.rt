@@ -1,22 +1,20 @@
 // A schedule handed in: its profit, or why it is refused. One pass over the two slices, and one over the schedule for the permit's hours (mod hours); one
-// for the figures of its months (mod by_month). proofs/ has their laws (Walking, Intervals, Bounds, Shut, Counting) and what it says of a schedule that it
+// for the figures of its months (mod months). proofs/ has their laws (Walking, Intervals, Bounds, Shut, Counting) and what it says of a schedule that it
 // was passed (Passed).
 
-mod by_month;
 mod hours;
+mod months;
 
-ghost use Rattle.std.specs.Prelude.{◌≡◌, true, ◌^◌, ◌≤◌, ◌<◌, ℤ, nat_abs, length};
+ghost use Rattle.std.specs.Prelude.{◌≡◌, true, ◌^◌, ◌≤◌, ◌<◌, nat_abs, length};
 ghost use Rattle.commitment.specs.declared.Checked.TheVariants as checked;
 ghost use Rattle.commitment.specs.Limits.{within, limit_kept};
 ghost use Rattle.commitment.specs.Profit as profits;
 ghost use Rattle.commitment.specs.Bounds.{most_mw, most_mwh, most_price};
-ghost use Rattle.commitment.specs.Ranges.{generator_kept, ranges_kept, shape_kept, prices_kept, case_checked, InOrder};
+ghost use Rattle.commitment.specs.Ranges.{generator_kept, ranges_kept, shape_kept, prices_kept, case_checked};
 ghost use Rattle.commitment.specs.Schedule.{is_output};
 ghost use Rattle.assessment.specs.Assessed.{assessed, assessed_by, handed_in, assessed_number, assessed_profit};
 ghost use Rattle.assessment.specs.Walking.{opening_walk, spell_kept, may_follow, stepped, walk_from};
-ghost use Rattle.assessment.specs.declared.Assessed.TheVariants as answers;
-ghost use Rattle.assessment.specs.Counting.{Outputs};
-ghost use Rattle.assessment.specs.Walking.{spent_within, settled, concluded, keeps_monthly, months_also, SmallLimits, Small};
+ghost use Rattle.assessment.specs.Walking.{spent_within, settled, concluded, SmallLimits, Small};
 ghost use Rattle.assessment.specs.Walking as walking;
 
 use commitment::{Cause, Checked, Generator, Limit, Limits, UnitRecord};
@@ -44,7 +42,7 @@ pub enum Walked {
     Broken,
 }
 
-// The profit of a schedule handed in; or 3, 4, 12, 13, 5, 7 (another length than the prices) or 10 (it does not keep the case).
+// The profit of a schedule handed in; or 3, 4, 12, 5, 7 (another length than the prices) or 10 (it does not keep the case).
 pub fn assess(unit: UnitRecord, prices: &[i64], schedule: &[u64]) -> Assessed
     ensures { result ≡ assessed unit prices.now schedule.now }
 {
@@ -88,30 +86,7 @@ fn of_case(unit: UnitRecord, prices: &[i64], schedule: &[u64]) -> Assessed
     if !hours::hours_kept(unit, schedule) {
         return Assessed::Refused(Cause::NotKept);
     }
-    let answer = conclude(unit, walk_whole(unit, prices, schedule));
-    with_months(unit, schedule, answer)
-}
-
-// The months come last: a schedule that was refused may have outputs of any size.
-fn with_months(unit: UnitRecord, schedule: &[u64], answer: Assessed) -> Assessed
-    requires in_order { (InOrder unit (length schedule.now)) × (1 ≤ length schedule.now) }
-    requires outputs { (p : ℤ) → answer ≡ answers.Profit p → Outputs schedule.now }
-    ensures { result ≡ months_also (keeps_monthly unit schedule.now) answer }
-{
-    match answer {
-        Assessed::Profit(profit) => if_monthly(unit, schedule, profit),
-        Assessed::Refused(cause) => Assessed::Refused(cause),
-    }
-}
-
-fn if_monthly(unit: UnitRecord, schedule: &[u64], profit: i64) -> Assessed
-    requires { (InOrder unit (length schedule.now)) × (1 ≤ length schedule.now) × (Outputs schedule.now) }
-    ensures { result ≡ months_also (keeps_monthly unit schedule.now) (answers.Profit profit) }
-{
-    if by_month::keeps_monthly(unit, schedule) {
-        return Assessed::Profit(profit);
-    }
-    Assessed::Refused(Cause::NotKept)
+    conclude(unit, walk_whole(unit, prices, schedule))
 }
 
 // What the limitations say of the totals.

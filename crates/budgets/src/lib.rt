@@ -1,8 +1,8 @@
 // From the record of a unit to what the table counts in: figures and budgets, the opening cell, the cells of two layers and of the long table.
 
-ghost use Rattle.std.specs.Prelude.{◌≡◌, true, ◌+◌, ◌*◌, ◌≤◌};
+ghost use Rattle.std.specs.Prelude.{◌≡◌, true, ◌+◌, ◌*◌, ◌^◌, ◌≤◌, ◌<◌};
 ghost use Rattle.commitment.specs.Bounds.{most_mwh, most_intervals};
-ghost use Rattle.commitment.specs.Cells.{in_counts, most_counts, layer_cells, month_count_for, month_cells, cells_needed, cells_long, cells_given};
+ghost use Rattle.commitment.specs.Cells.{in_counts, most_counts, layer_cells, cells_needed, cells_long};
 ghost use Rattle.commitment.specs.Cells as cells;
 ghost use Rattle.commitment.specs.Limits.{limit_kept};
 ghost use Rattle.commitment.specs.Ranges.{generator_kept, ranges_kept, InOrder};
@@ -11,9 +11,6 @@ ghost use Rattle.optimality.specs.Cells.{taken_of, counts_of, figures_of, openin
 
 use commitment::{Generator, Limit, Limitation, UnitRecord};
 use optimality::{Budgets, Cell, Figures};
-
-// The most cells that a need can have; one above it is not met. specs/Bounds.antt of `commitment` has the same.
-const MOST_CELLS: usize = 1000000000000000000;
 
 // The figures of a case of n intervals, with the most that a cell can have left of each limitation.
 pub fn figures_of(unit: UnitRecord, n: usize) -> Figures
@@ -97,7 +94,7 @@ fn counted(g: Generator, n: usize, which: Limitation, limit: Limit) -> usize
 }
 
 // A figure in starts, in on-intervals, in whole blocks of one interval.
-pub fn in_counts(g: Generator, which: Limitation, figure: u64) -> usize
+fn in_counts(g: Generator, which: Limitation, figure: u64) -> usize
     requires { (generator_kept g ≡ true) × (figure ≤ most_mwh) }
     ensures { result ≡ in_counts g which figure }
 {
@@ -144,58 +141,26 @@ pub fn lowered(figure: u64) -> u64
     9 * figure / 10
 }
 
-// The cells of scratch that a case of n intervals needs: two layers. A need above 10^18 is given as the largest number.
+// The cells of scratch that a case of n intervals needs: two layers.
 pub fn cells_needed(unit: UnitRecord, n: usize) -> usize
     requires { InOrder unit n }
-    ensures { result ≡ cells_given (cells_needed unit n) }
+    ensures { result ≡ cells_needed unit n }
 {
     cells_over(unit, n, 1)
 }
 
-// The cells of its long table, likewise.
+// The cells of its long table.
 pub fn cells_long(unit: UnitRecord, n: usize) -> usize
     requires { InOrder unit n }
-    ensures { result ≡ cells_given (cells_long unit n) }
+    ensures { result ≡ cells_long unit n }
 {
     cells_over(unit, n, n)
 }
 
-// The layers of a case of n intervals, for so many of them, times what the month figures ask for.
+// The layers of a case of n intervals, for so many of them, where they fit 64 bits.
 fn cells_over(unit: UnitRecord, n: usize, intervals: usize) -> usize
-    requires { (InOrder unit n) × (intervals ≤ most_intervals) }
-    ensures { result ≡ cells_given ((intervals + 1) * layer_cells unit n * month_cells unit n) }
+    requires { (InOrder unit n) × (intervals ≤ most_intervals) × ((intervals + 1) * layer_cells unit n < 2 ^ 64) }
+    ensures { result ≡ (intervals + 1) * layer_cells unit n }
 {
-    let layer = geometry::layer_cells(figures_of(unit, n));
-    let table = integers::capped_product(MOST_CELLS, layer, intervals + 1);
-    times_months(unit, n, table)
-}
-
-// A product on the way may not fit, so each is given up beyond the most that a need can have.
-fn times_months(unit: UnitRecord, n: usize, cells: usize) -> usize
-    requires { InOrder unit n }
-    ensures { result ≡ cells_given (cells * month_cells unit n) }
-{
-    let starts = month_count(unit, n, Limitation::Starts) + 1;
-    let hours = month_count(unit, n, Limitation::Hours) + 1;
-    let mwh = month_count(unit, n, Limitation::Mwh) + 1;
-    let first = integers::capped_product(MOST_CELLS, cells, starts);
-    let second = integers::capped_product(MOST_CELLS, first, hours);
-    integers::capped_product(MOST_CELLS, second, mwh)
-}
-
-// What a month figure comes to, as the table counts.
-pub fn month_count(unit: UnitRecord, n: usize, which: Limitation) -> usize
-    requires { InOrder unit n }
-    ensures { result ≡ month_count_for unit n which }
-{
-    let months = unit.months;
-    let limit = commitment::month_limit(months, which);
-    counted(unit.generator, n, which, limit)
-}
-
-// Whether so many cells serve a need, as the two calls above give it.
-pub fn met(need: usize, lent: usize) -> bool
-    ensures { result ≡ cells.met need lent }
-{
-    (need <= MOST_CELLS) & (need <= lent)
+    geometry::table_cells(figures_of(unit, n), intervals)
 }

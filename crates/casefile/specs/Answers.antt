@@ -4,7 +4,6 @@ use Rattle.commitment.specs.declared.Checked.{Checked}
 use Rattle.commitment.specs.declared.Checked.TheVariants.{Passed}
 use Rattle.commitment.specs.declared.Checked.TheVariants as checked
 use Rattle.commitment.specs.declared.Limit.TheVariants.{None}
-use Rattle.commitment.specs.declared.Months.TheVariants.{Unlimited}
 use Rattle.commitment.specs.declared.Permit.TheVariants.{AnyHour}
 use Rattle.commitment.specs.declared.UnitRecord.{UnitRecord}
 use Rattle.commitment.specs.Causes.{number_of}
@@ -40,8 +39,7 @@ read_prices text slice = prices_left (text_checked text (length slice)) (prices_
 unfoldable pub read_part : List ℕ → ℕ → List ℤ
 read_part text room = front_part (text_checked text room) (prices_in text)
 
--- ---- the number, the count and the record of an answer: on a refusal every other number is 0, every limitation `none`, every hour permitted, no
--- month limited
+-- ---- the number, the count and the record of an answer: on a refusal every other number is 0, every limitation `none`, every hour permitted
 
 abbrev pub no_unit : UnitRecord
 no_unit =
@@ -51,7 +49,6 @@ no_unit =
       opening = record { was = 0; held = 0 };
       limits = record { starts = None; hours = None; mwh = None };
       permit = AnyHour;
-      months = Unlimited;
     }
 
 abbrev pub read_number : CaseRead → ℕ

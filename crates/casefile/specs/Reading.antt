@@ -12,9 +12,6 @@ use Rattle.commitment.specs.declared.Limits.{Limits}
 use Rattle.commitment.specs.declared.Permit.{Permit}
 use Rattle.commitment.specs.declared.Permit.TheVariants.{AnyHour, Within}
 use Rattle.commitment.specs.declared.Window.{Window}
-use Rattle.commitment.specs.declared.Monthly.{Monthly}
-use Rattle.commitment.specs.declared.Months.{Months}
-use Rattle.commitment.specs.declared.Months.TheVariants.{Unlimited, Limited}
 use Rattle.commitment.specs.declared.UnitRecord.{UnitRecord}
 use Rattle.commitment.specs.Causes.{Check, ◌else◌, first_of}
 use Rattle.commitment.specs.Ranges.{prices_kept, case_checks, case_checked}
@@ -25,7 +22,7 @@ use Rattle.tabletext.specs.Tables.{standing, under}
 use Rattle.casetext.specs.Form.{unit_head, unit_row, price_head, price_rows, form_kept, names_kept}
 use Rattle.casetext.specs.Names.{block_name, pmin_name, pmax_name, mot_name, mdt_name, was_name, held_name}
 use Rattle.casetext.specs.Names.{vec_name, mlc_name, suc_name, starts_name, hours_name, mwh_name}
-use Rattle.casetext.specs.Names.{year_name, month_name, day_name, window_name, mstarts_name, mhours_name, mmwh_name, valued_name, price_name}
+use Rattle.casetext.specs.Names.{year_name, month_name, day_name, window_name, price_name}
 
 -- A number that no range reaches, though ten digits come near. It stands for what a field cannot hold: a number below 0, or `none`
 -- where it may not stand. So the check of the ranges refuses these too.
@@ -81,24 +78,8 @@ module _ (names values : List (List ℕ)) where
   abbrev pub permit_of : Permit
   permit_of = cond (standing 1 names year_name) (Within window_of) AnyHour
 
-  -- a month figure is a number where its name stands
-  abbrev pub figure_of : List ℕ → Limit
-  figure_of name = cond (standing 1 names name) (At (whole name)) None
-
-  abbrev pub monthly_of : Monthly
-  monthly_of =
-      record {
-        limits = record { starts = figure_of mstarts_name; hours = figure_of mhours_name; mwh = figure_of mmwh_name };
-        valued = whole valued_name;
-      }
-
-  -- the month to value stands exactly where a month figure does, so that it tells
-  abbrev pub months_given : Months
-  months_given = cond (standing 1 names valued_name) (Limited monthly_of) Unlimited
-
   abbrev pub unit_of : UnitRecord
-  unit_of =
-      record { generator = generator_of; costs = costs_of; opening = opening_of; limits = limits_of; permit = permit_of; months = months_given }
+  unit_of = record { generator = generator_of; costs = costs_of; opening = opening_of; limits = limits_of; permit = permit_of }
 
 unfoldable pub unit_in : List ℕ → UnitRecord
 unit_in text = unit_of (fields_of (unit_head text)) (fields_of (unit_row text))

@@ -4,13 +4,11 @@ ghost use Rattle.std.specs.Prelude.{◌≡◌};
 ghost use Rattle.tabletext.specs.Pieces.{fields_of};
 ghost use Rattle.tabletext.specs.Tables.{under};
 ghost use Rattle.casefile.specs.Reading.{natural_of, whole_of, limit_of, generator_of, costs_of, opening_of, limits_of};
-ghost use Rattle.casefile.specs.Reading.{date_of, window_of, permit_of, figure_of, monthly_of, months_given, unit_of, unit_in};
+ghost use Rattle.casefile.specs.Reading.{date_of, window_of, permit_of, unit_of, unit_in};
 
 use calendar::Date;
 use casetext::parts;
-use commitment::{
-    Costs, Generator, Limit, Limits, Monthly, Months, Opening, Permit, UnitRecord, Window,
-};
+use commitment::{Costs, Generator, Limit, Limits, Opening, Permit, UnitRecord, Window};
 use tabletext::{Value, tables};
 
 // The record stands in the first two lines, names and values.
@@ -31,14 +29,12 @@ fn unit_under(names: &[u8], values: &[u8]) -> UnitRecord
     let opening = opening_under(names, values);
     let limits = limits_under(names, values);
     let permit = permit_under(names, values);
-    let months = months_under(names, values);
     UnitRecord {
         generator,
         costs,
         opening,
         limits,
         permit,
-        months,
     }
 }
 
@@ -109,38 +105,6 @@ fn date_under(names: &[u8], values: &[u8]) -> Date
         month: whole_under(b"month", names, values),
         day: whole_under(b"day", names, values),
     }
-}
-
-// The month to value stands exactly where a month figure does, so that it tells.
-fn months_under(names: &[u8], values: &[u8]) -> Months
-    ensures { result ≡ months_given (fields_of names.now) (fields_of values.now) }
-{
-    if tables::stands(1, names, b"valued") {
-        return Months::Limited(monthly_under(names, values));
-    }
-    Months::Unlimited
-}
-
-fn monthly_under(names: &[u8], values: &[u8]) -> Monthly
-    ensures { result ≡ monthly_of (fields_of names.now) (fields_of values.now) }
-{
-    let limits = Limits {
-        starts: figure_under(b"mstarts", names, values),
-        hours: figure_under(b"mhours", names, values),
-        mwh: figure_under(b"mmwh", names, values),
-    };
-    let valued = whole_under(b"valued", names, values);
-    Monthly { limits, valued }
-}
-
-// A month figure may be missing, and is a number where it stands.
-fn figure_under(name: &[u8], names: &[u8], values: &[u8]) -> Limit
-    ensures { result ≡ figure_of (fields_of names.now) (fields_of values.now) name.now }
-{
-    if tables::stands(1, names, name) {
-        return Limit::At(whole_under(name, names, values));
-    }
-    Limit::None
 }
 
 fn whole_under(name: &[u8], names: &[u8], values: &[u8]) -> u64

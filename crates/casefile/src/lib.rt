@@ -4,9 +4,7 @@ ghost use Rattle.std.specs.Prelude.{◌≡◌, length};
 ghost use Rattle.casefile.specs.Answers.{read_by, case_found, read_case, read_prices, read_part, read_number, read_count, read_unit, no_unit};
 ghost use Rattle.casefile.specs.Reading.{unit_in, prices_in, case_in};
 
-use commitment::{
-    Cause, Checked, Costs, Generator, Limit, Limits, Months, Opening, Permit, UnitRecord,
-};
+use commitment::{Cause, Checked, Costs, Generator, Limit, Limits, Opening, Permit, UnitRecord};
 
 #[derive(Drop)]
 pub enum CaseRead {
@@ -14,7 +12,7 @@ pub enum CaseRead {
     Refused(Cause),
 }
 
-// What a text holds, before anything is written: its record and how many prices; or 1, 2, 3, 4, 12, 13 or 5.
+// What a text holds, before anything is written: its record and how many prices; or 1, 2, 3, 4, 12 or 5.
 pub fn found(text: &[u8]) -> CaseRead
     ensures { result ≡ case_found text.now }
 {
@@ -123,7 +121,6 @@ fn no_unit() -> UnitRecord
             mwh: Limit::None,
         },
         permit: Permit::AnyHour,
-        months: Months::Unlimited,
     }
 }
 

@@ -1,3 +1,2 @@
--- Laws: Starts, where the lines of a text start; Formed, what the form of a text says, and how many prices it can have.
+-- Laws: Starts, where the lines of a text start.
 pub mod Starts
-pub mod Formed

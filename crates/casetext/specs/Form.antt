@@ -1,9 +1,9 @@
 -- The lines of a text, its form and its names (specification 11).
-use Rattle.std.specs.Prelude.{Bool, true, false, ◌&&◌, ◌||◌, not, cond, List, [], ◌∷◌, ℕ, leb, length, get_or, drop}
+use Rattle.std.specs.Prelude.{Bool, true, false, ◌&&◌, List, [], ◌∷◌, ℕ, leb, length, get_or, drop}
 use Rattle.lists.specs.Every.{every}
 use Rattle.tabletext.specs.Pieces.{lines_of, last_closed, fields_of}
-use Rattle.tabletext.specs.Tables.{name_line, value_line, standing, named}
-use Rattle.casetext.specs.Names.{unit_names, unit_groups, price_names, mstarts_name, mhours_name, mmwh_name, valued_name}
+use Rattle.tabletext.specs.Tables.{name_line, value_line, named}
+use Rattle.casetext.specs.Names.{unit_names, unit_groups, price_names}
 
 -- the bytes that a text has at most
 abbrev pub most_bytes : ℕ
@@ -46,15 +46,6 @@ form_kept text =
 
 -- ---- 2: the names, each once, in any sequence, and no other
 
--- a month figure stands
-abbrev pub some_monthly : List (List ℕ) → Bool
-some_monthly fields = standing 1 fields mstarts_name || standing 1 fields mhours_name || standing 1 fields mmwh_name
-
--- the month to value stands exactly where one does
-abbrev pub valued_kept : List (List ℕ) → Bool
-valued_kept fields = cond (standing 1 fields valued_name) (some_monthly fields) (not (some_monthly fields))
-
--- the thirteen alone, or with the four of a date, all of them; the month figures, and with them the month to value; and the price's
+-- the thirteen alone, or with the four of a date, all of them; and the price's
 unfoldable pub names_kept : List ℕ → Bool
-names_kept text =
-    named unit_names unit_groups (fields_of (unit_head text)) && valued_kept (fields_of (unit_head text)) && named price_names [] (fields_of (price_head text))
+names_kept text = named unit_names unit_groups (fields_of (unit_head text)) && named price_names [] (fields_of (price_head text))

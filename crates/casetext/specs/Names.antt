@@ -54,18 +54,6 @@ day_name = bytes "day"
 abbrev pub window_name : List ℕ
 window_name = bytes "window"
 
-abbrev pub mstarts_name : List ℕ
-mstarts_name = bytes "mstarts"
-
-abbrev pub mhours_name : List ℕ
-mhours_name = bytes "mhours"
-
-abbrev pub mmwh_name : List ℕ
-mmwh_name = bytes "mmwh"
-
-abbrev pub valued_name : List ℕ
-valued_name = bytes "valued"
-
 abbrev pub price_name : List ℕ
 price_name = bytes "price"
 
@@ -95,7 +83,7 @@ dated_names = year_name ∷ month_name ∷ day_name ∷ window_name ∷ []
 
 -- a name that may be missing is a group of its own
 abbrev pub unit_groups : List (List (List ℕ))
-unit_groups = dated_names ∷ (mstarts_name ∷ []) ∷ (mhours_name ∷ []) ∷ (mmwh_name ∷ []) ∷ (valued_name ∷ []) ∷ []
+unit_groups = dated_names ∷ []
 
 -- the second table has one
 abbrev pub price_names : List (List ℕ)

@@ -4,10 +4,10 @@ ghost use Rattle.std.specs.Prelude.{◌≡◌};
 ghost use Rattle.tabletext.specs.Pieces.{fields_of};
 ghost use Rattle.tabletext.specs.Tables.{named};
 ghost use Rattle.casetext.specs.Names.{unit_names, unit_groups};
-ghost use Rattle.casetext.specs.Form.{valued_kept, names_kept};
+ghost use Rattle.casetext.specs.Form.{names_kept};
 
 use crate::parts;
-use tabletext::{names, tables};
+use tabletext::names;
 
 // Of each table the required names, parted by commas, then its groups, a line each.
 pub fn names_kept(text: &[u8]) -> bool
@@ -15,10 +15,10 @@ pub fn names_kept(text: &[u8]) -> bool
 {
     let unit_head = parts::line(text, 0);
     let price_head = parts::line(text, 3);
-    unit_names(unit_head) & valued_kept(unit_head) & names::names_in(b"price", b"", price_head)
+    unit_names(unit_head) & names::names_in(b"price", b"", price_head)
 }
 
-// The thirteen, the four of a date or none of them, and any of the month figures. A name that may be missing is a line of its own among the groups.
+// The thirteen, and the four of a date or none of them. A name that may be missing is a line of its own among the groups.
 fn unit_names(head: &[u8]) -> bool
     ensures { result ≡ named unit_names unit_groups (fields_of head.now) }
 {
@@ -35,23 +35,6 @@ fn unit_names(head: &[u8]) -> bool
         starts,\
         hours,\
         mwh";
-    let groups = b"year,month,day,window\n\
-        mstarts\n\
-        mhours\n\
-        mmwh\n\
-        valued\n";
+    let groups = b"year,month,day,window\n";
     names::names_in(required, groups, head)
-}
-
-// The month to value stands exactly where a month figure does.
-fn valued_kept(head: &[u8]) -> bool
-    ensures { result ≡ valued_kept (fields_of head.now) }
-{
-    let monthly = tables::stands(1, head, b"mstarts")
-        | tables::stands(1, head, b"mhours")
-        | tables::stands(1, head, b"mmwh");
-    if tables::stands(1, head, b"valued") {
-        return monthly;
-    }
-    !monthly
 }

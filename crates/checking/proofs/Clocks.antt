@@ -16,7 +16,7 @@ use Rattle.calendar.specs.Clock.{clock_after}
 use Rattle.commitment.specs.declared.Cause.TheVariants as cause
 use Rattle.commitment.specs.declared.Checked.{Checked}
 use Rattle.commitment.specs.declared.Checked.TheVariants.{Passed}
-use Rattle.commitment.specs.Bounds.{most_intervals}
+use Rattle.commitment.specs.Bounds.{most_horizon}
 use Rattle.commitment.specs.Ranges.{date_ranged, horizon_kept}
 use Rattle.commitment.proofs.Causes.{unless-passed}
 use Rattle.commitment.proofs.Clocks.{date-within}
@@ -26,18 +26,18 @@ use Rattle.checking.specs.declared.clock.ClockRead.TheVariants.{Hour}
 pub record ClockKept (d : Date) (interval : ℕ) : Type 0 where
   pub dated : Within last_year d
   pub least : 1 ≤ interval
-  pub most : interval ≤ most_intervals
+  pub most : interval ≤ most_horizon
 
 pub clock-kept : (d : Date) (interval : ℕ) → clock_checked d interval ≡ Passed → ClockKept d interval
 clock-kept d interval e =
     let a = unless-passed (date_ranged d && horizon_kept interval) cause.Range _ e in
     let b = unless-passed (exists d) cause.Date Passed a.1 in
     let r = both (date_ranged d) (horizon_kept interval) a.0 in
-    let h = both (leb 1 interval) (leb interval most_intervals) r.1 in
+    let h = both (leb 1 interval) (leb interval most_horizon) r.1 in
     record {
       dated = date-within d r.0 b.0;
       least = leb-true 1 interval h.0;
-      most = leb-true interval most_intervals h.1;
+      most = leb-true interval most_horizon h.1;
     }
 
 -- ---- an hour for each of so many intervals
@@ -80,7 +80,7 @@ entry-is d was i passed h =
     let b = unless-passed (exists d) cause.Date Passed a.1 in
     let r = both (date_ranged d) (horizon_kept (length was)) a.0 in
     let most = (clock-kept d (length was) passed).most in
-    let within : horizon_kept (suc i) ≡ true = simp (le-leb 1 (suc i) (omega arith), le-leb (suc i) most_intervals (omega arith)) in
+    let within : horizon_kept (suc i) ≡ true = simp (le-leb 1 (suc i) (omega arith), le-leb (suc i) most_horizon (omega arith)) in
     let so : clock_checked d (suc i) ≡ Passed = simp (r.0, within, b.0) in
     let at : suc i - 1 ≡ 0 + i = omega arith in
     let hour : ℕ → ℕ = λ i. clock_after d (i / 4) in

@@ -2,7 +2,7 @@
 
 ghost use Rattle.std.specs.Prelude.{◌≡◌, ◌-◌, ◌/◌, ◌≤◌, length};
 ghost use Rattle.calendar.specs.Clock.{clock_after, most_ahead, shown};
-ghost use Rattle.commitment.specs.Bounds.{most_intervals};
+ghost use Rattle.commitment.specs.Bounds.{most_horizon};
 ghost use Rattle.commitment.specs.declared.Checked.TheVariants.{Passed};
 ghost use Rattle.checking.specs.Clock.{clock_checked, clock_hour, clock_number, hour_in, each_from, hours_left};
 
@@ -41,7 +41,7 @@ pub fn hours_into(date: Date, hours: &mut [u64]) -> Checked
 }
 
 // The last of the intervals that are asked for, and the date.
-pub fn check_clock(date: Date, interval: u64) -> Checked
+fn check_clock(date: Date, interval: u64) -> Checked
     ensures { result ≡ clock_checked date interval }
 {
     if !(crate::date_ranged(date) & crate::horizon_kept(interval as usize)) {
@@ -64,7 +64,7 @@ fn hour_of(date: Date, interval: u64) -> u64
 
 // What a clock shows in each of the first intervals.
 fn fill(clock: Clock, hours: &mut [u64])
-    requires { (clock.ahead ≤ most_ahead) × (length hours.old ≤ most_intervals) }
+    requires { (clock.ahead ≤ most_ahead) × (length hours.old ≤ most_horizon) }
     ensures { hours.new ≡ each_from (λ i. shown clock (i / 4)) 0 (length hours.old) }
 {
     let mut i = 0;

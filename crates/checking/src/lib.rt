@@ -1,15 +1,12 @@
-// The check of a case, the first thing that every call does with one; and the clock hour and the month of an interval, whose figures are judged in the
-// same way.
+// The check of a case, the first thing that every call does with one; and the clock hour of an interval, whose figures are judged in the same way.
 
-mod by_month;
 pub mod clock;
-pub mod month;
 
 ghost use Rattle.std.specs.Prelude.{◌≡◌, true};
 ghost use Rattle.calendar.specs.Dates.{exists};
 ghost use Rattle.commitment.specs.Causes.{first_of};
 ghost use Rattle.commitment.specs.Limits.{limit_kept};
-ghost use Rattle.commitment.specs.Ranges.{shape_checks, date_checks, months_checks, horizon_checks, case_checked, generator_kept, opening_kept, costs_kept, limits_kept};
+ghost use Rattle.commitment.specs.Ranges.{shape_checks, date_checks, horizon_checks, case_checked, generator_kept, opening_kept, costs_kept, limits_kept};
 ghost use Rattle.commitment.specs.Ranges.{ranges_kept, date_ranged, window_kept, permit_kept, shape_kept, date_kept, price_kept, prices_kept, horizon_kept};
 
 use calendar::{Date, FIRST_YEAR, PAST_WORDS};
@@ -37,19 +34,19 @@ const MOST_MLC: u64 = 1000000000;
 
 const MOST_SUC: u64 = 4000000000;
 
-const MOST_STARTS: u64 = 35136;
+const MOST_STARTS: u64 = 2976;
 
-const MOST_HOURS: u64 = 8784;
+const MOST_HOURS: u64 = 744;
 
-const MOST_MWH: u64 = 4392000;
+const MOST_MWH: u64 = 372000;
 
 const LEAST_PRICE: i64 = -200000;
 
 const MOST_PRICE: i64 = 200000;
 
-const MOST_INTERVALS: usize = 35136;
+const MOST_HORIZON: usize = 2976;
 
-// The first cause for which a case of so many intervals cannot be worked on, whatever call it is for: 3, 4, 12, 13 or 5. The prices are judged by whoever
+// The first cause for which a case of so many intervals cannot be worked on, whatever call it is for: 3, 4, 12 or 5. The prices are judged by whoever
 // has them, in a slice or in a text. Each test is a function with the rest behind it.
 pub fn check_case(unit: UnitRecord, priced: bool, intervals: usize) -> Checked
     ensures { result ≡ case_checked unit priced intervals }
@@ -73,23 +70,11 @@ fn check_shape(unit: UnitRecord, intervals: usize) -> Checked
 
 // A date in its ranges may still be none of its month.
 fn check_date(unit: UnitRecord, intervals: usize) -> Checked
-    requires { ranges_kept unit ≡ true }
     ensures { result ≡ first_of (date_checks unit intervals) }
 {
     let permit = unit.permit;
     if !date_kept(permit) {
         return Checked::Refused(Cause::Date);
-    }
-    check_months(unit, intervals)
-}
-
-// Where months begin is asked of a date that exists.
-fn check_months(unit: UnitRecord, intervals: usize) -> Checked
-    requires { (ranges_kept unit ≡ true) × (date_kept unit.permit ≡ true) }
-    ensures { result ≡ first_of (months_checks unit intervals) }
-{
-    if !by_month::months_fit(unit, intervals) {
-        return Checked::Refused(Cause::Months);
     }
     check_horizon(intervals)
 }
@@ -108,7 +93,7 @@ fn check_horizon(intervals: usize) -> Checked
 fn horizon_kept(intervals: usize) -> bool
     ensures { result ≡ horizon_kept intervals }
 {
-    (1 <= intervals) & (intervals <= MOST_INTERVALS)
+    (1 <= intervals) & (intervals <= MOST_HORIZON)
 }
 
 // Every field of the record is in its range.
@@ -120,13 +105,7 @@ fn ranges_kept(unit: UnitRecord) -> bool
     let k = unit.costs;
     let limits = unit.limits;
     let permit = unit.permit;
-    let figures = unit.months;
-    generator_kept(g)
-        & opening_kept(o)
-        & costs_kept(k)
-        & limits_kept(limits)
-        & permit_kept(permit)
-        & by_month::months_kept(figures)
+    generator_kept(g) & opening_kept(o) & costs_kept(k) & limits_kept(limits) & permit_kept(permit)
 }
 
 fn generator_kept(g: Generator) -> bool

@@ -91,11 +91,10 @@ module _ (d : Date) (w : Within last_year d) (n : ℕ) (some : 1 ≤ n) where
         (ap₂ ◌-◌ (sym (ends (suc k) (omega arith))) (sym (ends k (omega arith) ∙ ends-inside k (omega arith))))
         (months-are limits (suc k) count (omega arith))
 
-    pub cuts_are : (count : ℕ) → count ≡ last → n ≤ year_intervals → length cuts ≡ suc most_months → CutsOf d n (record { at = cuts; count = count })
+    pub cuts_are : (count : ℕ) → count ≡ last → n ≤ year_intervals → CutsOf d n (record { at = cuts; count = count })
     unfolding months_of
-    cuts_are count is few long =
+    cuts_are count is few =
         record {
-          room = long;
           first = ends 0 (omega arith) ∙ ends-first;
           last = ends count (omega arith) ∙ ends_last count is;
           grow = λ k h. omega (arith, ends k (omega arith), ends (suc k) (omega arith), ends-grow k (omega arith));

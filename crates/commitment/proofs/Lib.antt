@@ -1,6 +1,5 @@
 -- Ranges and Passing: what the checks say as orders of numbers. Causes: the laws of a list of checks. Margins: how much an interval can add.
 -- Clocks: the dates that a clock starts from. Cutting: where the months of a horizon are cut. Tries: how many outputs are tried.
--- Cells: when a need of cells is met.
 pub mod Causes
 pub mod Ranges
 pub mod Passing
@@ -8,4 +7,3 @@ pub mod Margins
 pub mod Clocks
 pub mod Cutting
 pub mod Tries
-pub mod Cells

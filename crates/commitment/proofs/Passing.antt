@@ -3,6 +3,7 @@ use mathlib.Core.Path.{◌≡◌}
 use mathlib.Core.Bool.{Bool, true, ◌&&◌}
 use mathlib.Core.List.{List}
 use Prim.Native.Nat.{ℕ, ◌≤◌}
+use native.Mathlib.Omega.{arith}
 use borrow.Author.Tests.{leb-true}
 use lib.Dec.{leb}
 use lib.IntN.{ℤ, pos, neg_ℤ, nat_abs}
@@ -12,12 +13,11 @@ use Rattle.lists.proofs.Conjunctions.{both}
 use Rattle.lists.proofs.Every.{every-at}
 use Rattle.integers.proofs.Order.{le_z-true}
 use Rattle.integers.proofs.Ranges.{within_signed, abs-within}
-use Rattle.commitment.specs.declared.Cause.TheVariants.{Range, Shape, Date, Months, Horizon}
+use Rattle.commitment.specs.declared.Cause.TheVariants.{Range, Shape, Date, Horizon}
 use Rattle.commitment.specs.declared.Checked.TheVariants.{Passed}
 use Rattle.commitment.specs.declared.UnitRecord.{UnitRecord}
-use Rattle.commitment.specs.Bounds.{most_price, most_intervals}
-use Rattle.commitment.specs.Ranges.{ranges_kept, shape_kept, date_kept, months_fit, price_kept, prices_kept, horizon_kept, case_checked}
-use Rattle.commitment.specs.Ranges.{InOrder, Priced}
+use Rattle.commitment.specs.Bounds.{most_price, most_horizon}
+use Rattle.commitment.specs.Ranges.{ranges_kept, shape_kept, date_kept, price_kept, prices_kept, horizon_kept, case_checked, InOrder, Priced}
 use Rattle.commitment.proofs.Causes.{unless-passed}
 
 price-small : (price : ℤ) → price_kept price ≡ true → nat_abs price ≤ most_price
@@ -33,7 +33,6 @@ pub record Passing (u : UnitRecord) (priced : Bool) (n : ℕ) : Type 0 where
   pub order : InOrder u n
   pub prices : priced ≡ true
   pub some : 1 ≤ n
-  pub months : months_fit u.months u.limits u.permit n ≡ true
 
 pub passing : (u : UnitRecord) (priced : Bool) (n : ℕ) → case_checked u priced n ≡ Passed → Passing u priced n
 unfolding case_checked
@@ -41,13 +40,12 @@ passing u priced n e =
     let a = unless-passed (ranges_kept u && priced) Range _ e in
     let b = unless-passed (shape_kept u.generator) Shape _ a.1 in
     let d = unless-passed (date_kept u.permit) Date _ b.1 in
-    let m = unless-passed (months_fit u.months u.limits u.permit n) Months _ d.1 in
-    let c = unless-passed (horizon_kept n) Horizon Passed m.1 in
+    let c = unless-passed (horizon_kept n) Horizon Passed d.1 in
     let r = both (ranges_kept u) priced a.0 in
-    let h = both (leb 1 n) (leb n most_intervals) c.0 in
+    let h = both (leb 1 n) (leb n most_horizon) c.0 in
+    let checked = leb-true n most_horizon h.1 in
     record {
-      order = record { ranges = r.0; shape = b.0; dated = d.0; short = leb-true n most_intervals h.1 };
+      order = record { ranges = r.0; shape = b.0; dated = d.0; short = omega arith; checked = checked };
       prices = r.1;
       some = leb-true 1 n h.0;
-      months = m.0;
     }

@@ -7,7 +7,6 @@ use borrow.Author.Tests.{leb-true, le-leb}
 use lib.Dec.{leb}
 use Rattle.lists.proofs.Conjunctions.{both}
 use Rattle.calendar.specs.Dates.{first_year, last_year}
-use Rattle.calendar.specs.Months.{most_months}
 use Rattle.commitment.specs.declared.Limit.{Limit}
 use Rattle.commitment.specs.declared.Limit.TheVariants.{None, At}
 use Rattle.commitment.specs.declared.Generator.{Generator}
@@ -19,13 +18,11 @@ use Rattle.commitment.specs.declared.Limitation.TheVariants.{Starts, Hours, Mwh}
 use Rattle.commitment.specs.declared.Permit.{Permit}
 use Rattle.commitment.specs.declared.Permit.TheVariants.{Within}
 use Rattle.commitment.specs.declared.Window.{Window}
-use Rattle.commitment.specs.declared.Monthly.{Monthly}
 use Rattle.commitment.specs.declared.UnitRecord.{UnitRecord}
 use Rattle.commitment.specs.Bounds.{most_mw, most_blocks, most_time, most_held, most_vec, most_mlc, most_suc, most_starts, most_hours, most_mwh}
 use Rattle.commitment.specs.Limits.{limit_kept, limit_for}
-use Rattle.commitment.specs.Bounds.{most_month, most_day, most_word, most_month_starts, most_month_hours, most_month_mwh}
+use Rattle.commitment.specs.Bounds.{most_month, most_day, most_word}
 use Rattle.commitment.specs.Ranges.{generator_kept, opening_kept, costs_kept, limits_kept, window_kept, permit_kept, ranges_kept, shape_kept}
-use Rattle.commitment.specs.Ranges.{some_figure, month_limits_kept, monthly_kept, months_kept}
 
 pub record GeneratorRanges (g : Generator) : Type 0 where
   pub block-least : 1 ≤ g.block
@@ -61,14 +58,6 @@ pub record WindowRanges (w : Window) : Type 0 where
   pub day-least : 1 ≤ w.date.day
   pub day-most : w.date.day ≤ most_day
   pub word-most : w.word ≤ most_word
-
-pub record MonthlyRanges (m : Monthly) : Type 0 where
-  pub some : some_figure m.limits ≡ true
-  pub starts-kept : limit_kept most_month_starts m.limits.starts ≡ true
-  pub hours-kept : limit_kept most_month_hours m.limits.hours ≡ true
-  pub mwh-kept : limit_kept most_month_mwh m.limits.mwh ≡ true
-  pub valued-least : 1 ≤ m.valued
-  pub valued-most : m.valued ≤ most_months
 
 pub generator-ranges : (g : Generator) → generator_kept g ≡ true → GeneratorRanges g
 generator-ranges g e =
@@ -137,22 +126,6 @@ window-ranges w e =
       word-most = leb-true w.word most_word f7.1;
     }
 
-pub monthly-ranges : (m : Monthly) → monthly_kept m ≡ true → MonthlyRanges m
-monthly-ranges m e =
-    let f4 = both _ (leb m.valued most_months) e in
-    let f3 = both _ (leb 1 m.valued) f4.0 in
-    let f2 = both (some_figure m.limits) (month_limits_kept m.limits) f3.0 in
-    let l3 = both _ (limit_kept most_month_mwh m.limits.mwh) f2.1 in
-    let l2 = both (limit_kept most_month_starts m.limits.starts) (limit_kept most_month_hours m.limits.hours) l3.0 in
-    record {
-      some = f2.0;
-      starts-kept = l2.0;
-      hours-kept = l2.1;
-      mwh-kept = l3.1;
-      valued-least = leb-true 1 m.valued f3.1;
-      valued-most = leb-true m.valued most_months f4.1;
-    }
-
 -- a figure in a range is in a wider one
 pub limit-wider : (a b : ℕ) (l : Limit) → a ≤ b → limit_kept a l ≡ true → limit_kept b l ≡ true
 limit-wider a b None h e = refl
@@ -162,7 +135,7 @@ limit-wider a b (At n) h e = le-leb n b (omega (arith, leb-true n a e))
 pub generator-kept : (u : UnitRecord) → ranges_kept u ≡ true → generator_kept u.generator ≡ true
 unfolding ranges_kept
 generator-kept u e =
-    let f5 = both _ (permit_kept u.permit) (both _ (months_kept u.months) e).0 in
+    let f5 = both _ (permit_kept u.permit) e in
     (both (generator_kept u.generator) (opening_kept u.opening) (both _ (costs_kept u.costs) (both _ (limits_kept u.limits) f5.0).0).0).0
 
 -- every field is in its range
@@ -172,13 +145,11 @@ pub record InRange (u : UnitRecord) : Type 0 where
   pub costs : CostsRanges u.costs
   pub limits : LimitsRanges u.limits
   pub permit : permit_kept u.permit ≡ true
-  pub months : months_kept u.months ≡ true
 
 pub in-range : (u : UnitRecord) → ranges_kept u ≡ true → InRange u
 unfolding ranges_kept
 in-range u e =
-    let f6 = both _ (months_kept u.months) e in
-    let f5 = both _ (permit_kept u.permit) f6.0 in
+    let f5 = both _ (permit_kept u.permit) e in
     let f4 = both _ (limits_kept u.limits) f5.0 in
     let f3 = both _ (costs_kept u.costs) f4.0 in
     let f2 = both (generator_kept u.generator) (opening_kept u.opening) f3.0 in
@@ -188,7 +159,6 @@ in-range u e =
       costs = costs-ranges u.costs f3.1;
       limits = limits-ranges u.limits f4.1;
       permit = f5.1;
-      months = f6.1;
     }
 
 pub record Shape (g : Generator) : Type 0 where
@@ -205,8 +175,3 @@ pub limit-small : (u : UnitRecord) → ranges_kept u ≡ true → (which : Limit
 limit-small u h Starts = limit-wider most_starts most_mwh u.limits.starts (omega arith) (in-range u h).limits.starts-kept
 limit-small u h Hours = limit-wider most_hours most_mwh u.limits.hours (omega arith) (in-range u h).limits.hours-kept
 limit-small u h Mwh = (in-range u h).limits.mwh-kept
-
-pub month-limit-small : (m : Monthly) → monthly_kept m ≡ true → (which : Limitation) → limit_kept most_mwh (limit_for m.limits which) ≡ true
-month-limit-small m h Starts = limit-wider most_month_starts most_mwh m.limits.starts (omega arith) (monthly-ranges m h).starts-kept
-month-limit-small m h Hours = limit-wider most_month_hours most_mwh m.limits.hours (omega arith) (monthly-ranges m h).hours-kept
-month-limit-small m h Mwh = limit-wider most_month_mwh most_mwh m.limits.mwh (omega arith) (monthly-ranges m h).mwh-kept

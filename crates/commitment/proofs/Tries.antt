@@ -11,7 +11,7 @@ use lib.ListN.{length}
 use Rattle.lists.specs.Every.{every}
 use Rattle.lists.proofs.Conjunctions.{both}
 use Rattle.commitment.specs.declared.Generator.{Generator}
-use Rattle.commitment.specs.Counting.{output_sum}
+use Rattle.commitment.specs.Keeping.{output_sum}
 use Rattle.commitment.specs.Schedule.{is_output}
 use Rattle.commitment.specs.Tries.{tries_to, tries_for, tries_over}
 

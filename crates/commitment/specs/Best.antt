@@ -5,8 +5,7 @@ use Rattle.commitment.specs.declared.BestProfit.{BestProfit}
 use Rattle.commitment.specs.declared.BestProfit.TheVariants.{Nothing, Profit}
 use Rattle.commitment.specs.declared.Generator.{Generator}
 use Rattle.commitment.specs.declared.UnitRecord.{UnitRecord}
-use Rattle.commitment.specs.Months.{Month}
-use Rattle.commitment.specs.Keeping.{keeps_in, months_for}
+use Rattle.commitment.specs.Keeping.{keeps_case}
 use Rattle.commitment.specs.Profit.{profit}
 
 -- no schedule, or a schedule and what it earns
@@ -53,16 +52,9 @@ abbrev pub first_best : List Plan → Plan
 first_best [] = nothing
 first_best (a ∷ bs) = better a (first_best bs)
 
--- a list of outputs with its profit, where it keeps the horizon's rules and some months; a run of valuing has figures of its own for each month
-abbrev pub candidate_in : UnitRecord → List Month → List ℤ → List ℕ → Plan
-candidate_in u months prices s = cond (keeps_in u months s) (plan s (profit u prices s)) nothing
-
-abbrev pub best_in : UnitRecord → List Month → List ℤ → Plan
-best_in u months prices = first_best (map (candidate_in u months prices) (lists (outputs u.generator) (length prices)))
-
--- the case: its months are those of the calendar
+-- a list of outputs with its profit, where it keeps the case
 abbrev pub candidate : UnitRecord → List ℤ → List ℕ → Plan
-candidate u prices = candidate_in u (months_for u (length prices)) prices
+candidate u prices s = cond (keeps_case u s) (plan s (profit u prices s)) nothing
 
 abbrev pub best : UnitRecord → List ℤ → Plan
-best u prices = best_in u (months_for u (length prices)) prices
+best u prices = first_best (map (candidate u prices) (lists (outputs u.generator) (length prices)))

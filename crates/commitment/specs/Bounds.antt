@@ -30,25 +30,16 @@ most_mlc = 1000000000
 abbrev pub most_suc : ℕ
 most_suc = 4000000000
 
--- ---- the limitations: over the horizon, and in a month
+-- ---- the limitations
 
 abbrev pub most_starts : ℕ
-most_starts = 35136
+most_starts = 2976
 
 abbrev pub most_hours : ℕ
-most_hours = 8784
+most_hours = 744
 
 abbrev pub most_mwh : ℕ
-most_mwh = 4392000
-
-abbrev pub most_month_starts : ℕ
-most_month_starts = 2976
-
-abbrev pub most_month_hours : ℕ
-most_month_hours = 744
-
-abbrev pub most_month_mwh : ℕ
-most_month_mwh = 372000
+most_mwh = 372000
 
 -- ---- the date whose midnight opens interval 1, and the word of permitted hours
 
@@ -66,10 +57,10 @@ most_word = past_words - 1
 abbrev pub most_price : ℕ
 most_price = 200000
 
+abbrev pub most_horizon : ℕ
+most_horizon = 2976
+
+-- ---- the intervals that a table can have: a year, of which the check lets a month through
+
 abbrev pub most_intervals : ℕ
 most_intervals = year_intervals
-
--- ---- the cells of scratch that a need can have: 10^18
-
-abbrev pub most_cells : ℕ
-most_cells = 1000000000000000000

@@ -1,7 +1,7 @@
 -- The causes of a refusal (specification 15): their numbers, and the first of several in the order of a call's list of checks.
 use Rattle.std.specs.Prelude.{Bool, true, false, List, [], ◌∷◌, ℕ}
 use Rattle.commitment.specs.declared.Cause.{Cause}
-use Rattle.commitment.specs.declared.Cause.TheVariants.{Form, Name, Range, Levels, Shape, Date, Months, Horizon, Segments, Length, Scratch, NoSchedule, NotKept}
+use Rattle.commitment.specs.declared.Cause.TheVariants.{Form, Name, Range, Levels, Shape, Date, Horizon, Segments, Length, Scratch, NoSchedule, NotKept}
 use Rattle.commitment.specs.declared.Checked.{Checked}
 use Rattle.commitment.specs.declared.Checked.TheVariants.{Passed, Refused}
 
@@ -13,7 +13,6 @@ number_of Range = 3
 number_of Levels = 11
 number_of Shape = 4
 number_of Date = 12
-number_of Months = 13
 number_of Horizon = 5
 number_of Segments = 6
 number_of Length = 7

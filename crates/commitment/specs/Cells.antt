@@ -1,14 +1,12 @@
 -- The cells of scratch that a case of n intervals needs, and those that it uses (specification 14).
-use Rattle.std.specs.Prelude.{Bool, cond, ◌&&◌, ℕ, ◌+◌, ◌*◌, ◌/◌, min, leb}
-use Rattle.integers.specs.Capped.{capped}
+use Rattle.std.specs.Prelude.{cond, ℕ, ◌+◌, ◌*◌, ◌/◌, min, leb}
 use Rattle.commitment.specs.declared.Limit.{Limit}
 use Rattle.commitment.specs.declared.Limit.TheVariants.{None, At}
 use Rattle.commitment.specs.declared.Limitation.{Limitation}
 use Rattle.commitment.specs.declared.Limitation.TheVariants.{Starts, Hours, Mwh}
 use Rattle.commitment.specs.declared.Generator.{Generator}
 use Rattle.commitment.specs.declared.UnitRecord.{UnitRecord}
-use Rattle.commitment.specs.Bounds.{most_cells}
-use Rattle.commitment.specs.Limits.{limit_for, month_limit}
+use Rattle.commitment.specs.Limits.{limit_for}
 
 -- a is the smaller of starts and n, b of 4 × hours and n, c of 4 × mwh / block rounded down and n × pmax; each is 0 where `none`
 
@@ -36,29 +34,14 @@ abbrev pub layer_cells : UnitRecord → ℕ → ℕ
 layer_cells u n =
     (u.generator.mot + u.generator.mdt) * (count_for u n Starts + 1) * (count_for u n Hours + 1) * (count_for u n Mwh + 1)
 
--- one more than each month figure, counted as a, b and c are, multiplied; 1 without month figures
-abbrev pub month_count_for : UnitRecord → ℕ → Limitation → ℕ
-month_count_for u n which = counted u.generator n which (month_limit u.months which)
-
-unfoldable pub month_cells : UnitRecord → ℕ → ℕ
-month_cells u n = (month_count_for u n Starts + 1) * (month_count_for u n Hours + 1) * (month_count_for u n Mwh + 1)
-
--- two layers: 2 × (mot+mdt) × (a+1) × (b+1) × (c+1), times what the month figures ask for
+-- two layers: 2 × (mot+mdt) × (a+1) × (b+1) × (c+1)
 abbrev pub cells_needed : UnitRecord → ℕ → ℕ
-cells_needed u n = 2 * layer_cells u n * month_cells u n
+cells_needed u n = 2 * layer_cells u n
 
--- the long table, a layer for each interval and one more: (n+1) × (mot+mdt) × (a+1) × (b+1) × (c+1), times the same
+-- the long table, a layer for each interval and one more: (n+1) × (mot+mdt) × (a+1) × (b+1) × (c+1)
 abbrev pub cells_long : UnitRecord → ℕ → ℕ
-cells_long u n = (n + 1) * layer_cells u n * month_cells u n
+cells_long u n = (n + 1) * layer_cells u n
 
--- whether so many cells serve a need; one above 10^18 counts as not met
-unfoldable pub met : ℕ → ℕ → Bool
-met need lent = leb need most_cells && leb need lent
-
--- of a scratch of so many cells the long table is used where its need is met, else two layers
+-- of a scratch of so many cells the long table is used where it fits, else two layers
 abbrev pub cells_used : UnitRecord → ℕ → ℕ → ℕ
-cells_used u n lent = cond (met (cells_long u n) lent) (cells_long u n) (cells_needed u n)
-
--- a size as a call gives it: above 10^18 it is the largest number
-abbrev pub cells_given : ℕ → ℕ
-cells_given size = capped most_cells size
+cells_used u n lent = cond (leb (cells_long u n) lent) (cells_long u n) (cells_needed u n)

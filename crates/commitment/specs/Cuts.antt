@@ -1,5 +1,5 @@
 -- Where the months of a horizon are cut: month k, counted from 0, has the intervals from one cut to the next.
-use Rattle.std.specs.Prelude.{◌≡◌, List, [], ◌∷◌, ℕ, zero, suc, ◌-◌, ◌≤◌, ◌<◌, length, get_or}
+use Rattle.std.specs.Prelude.{◌≡◌, List, [], ◌∷◌, ℕ, zero, suc, ◌-◌, ◌≤◌, ◌<◌, get_or}
 use Rattle.calendar.specs.declared.Date.{Date}
 use Rattle.calendar.specs.Months.{most_months}
 use Rattle.commitment.specs.declared.Limits.{Limits}
@@ -14,7 +14,6 @@ months_between limits cuts k (suc count) =
 
 -- the cuts are those of the calendar, from the horizon's beginning to its end
 pub record CutsOf (d : Date) (n : ℕ) (cuts : Cuts) : Type 0 where
-  pub room : length cuts.at ≡ suc most_months
   pub first : get_or cuts.at 0 0 ≡ 0
   pub last : get_or cuts.at cuts.count 0 ≡ n
   pub grow : (k : ℕ) → k < cuts.count → get_or cuts.at k 0 < get_or cuts.at (suc k) 0

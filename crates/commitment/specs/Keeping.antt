@@ -1,16 +1,24 @@
 -- When a schedule keeps the case (specification 5): one definition for each rule. The Bool is the state before the first interval, on or off,
 -- and `spent` the intervals spent in that state.
-use Rattle.std.specs.Prelude.{Bool, true, false, ◌&&◌, List, [], ◌∷◌, ℕ, zero, suc, ◌/◌, leb, length}
+use Rattle.std.specs.Prelude.{Bool, true, false, ◌&&◌, List, [], ◌∷◌, ℕ, zero, suc, ◌+◌, ◌/◌, leb, eqb}
 use Rattle.calendar.specs.Clock.{clock_after}
 use Rattle.calendar.specs.Words.{allows}
-use Rattle.commitment.specs.declared.Months.{Months}
-use Rattle.commitment.specs.declared.Months.TheVariants.{Unlimited, Limited}
+use Rattle.commitment.specs.declared.Opening.{Opening}
 use Rattle.commitment.specs.declared.Permit.{Permit}
 use Rattle.commitment.specs.declared.Permit.TheVariants.{AnyHour, Within}
 use Rattle.commitment.specs.declared.UnitRecord.{UnitRecord}
-use Rattle.commitment.specs.Counting.{was_on, starts_in, on_intervals, output_sum}
 use Rattle.commitment.specs.Limits.{within}
-use Rattle.commitment.specs.Months.{Month, months_of, keeps_months}
+
+-- the state before interval 1
+abbrev pub was_on : Opening → Bool
+was_on o = eqb o.was 1
+
+-- an interval that is on after one that is off is a start
+abbrev pub starts_in : Bool → List ℕ → ℕ
+starts_in on [] = 0
+starts_in on (zero ∷ s) = starts_in false s
+starts_in false (suc m ∷ s) = suc (starts_in true s)
+starts_in true (suc m ∷ s) = starts_in true s
 
 -- a run lasts at least mot intervals: each run that ends; one still on at the last interval may be shorter
 abbrev pub runs_last : ℕ → Bool → ℕ → List ℕ → Bool
@@ -27,6 +35,15 @@ spells_last mdt true spent (zero ∷ s) = spells_last mdt false 1 s
 spells_last mdt true spent (suc m ∷ s) = spells_last mdt true (suc spent) s
 spells_last mdt false spent (zero ∷ s) = spells_last mdt false (suc spent) s
 spells_last mdt false spent (suc m ∷ s) = leb mdt spent && spells_last mdt true 1 s
+
+abbrev pub on_intervals : List ℕ → ℕ
+on_intervals [] = 0
+on_intervals (zero ∷ s) = on_intervals s
+on_intervals (suc m ∷ s) = suc (on_intervals s)
+
+abbrev pub output_sum : List ℕ → ℕ
+output_sum [] = 0
+output_sum (m ∷ s) = m + output_sum s
 
 -- whether the permit lets the unit run in an interval, counted from 0: the bit of its clock hour is 1
 abbrev pub opens_in : Permit → ℕ → Bool
@@ -62,23 +79,5 @@ keeps_mwh u s = within 4 (output_sum s) u.limits.mwh
 abbrev pub keeps_window : UnitRecord → List ℕ → Bool
 keeps_window u s = off_where_shut (opens_in u.permit) 0 s
 
--- all that is said of the horizon as a whole
-abbrev pub keeps_year : UnitRecord → List ℕ → Bool
-keeps_year u s = keeps_starts u s && keeps_runs u s && keeps_spells u s && keeps_hours u s && keeps_mwh u s && keeps_window u s
-
--- the months of n intervals that a record limits: those of the calendar from its date on, or none without month figures
-abbrev pub months_under : Months → Permit → ℕ → List Month
-months_under Unlimited permit n = []
-months_under (Limited monthly) AnyHour n = []
-months_under (Limited monthly) (Within w) n = months_of w.date monthly.limits n
-
-abbrev pub months_for : UnitRecord → ℕ → List Month
-months_for u n = months_under u.months u.permit n
-
--- the horizon as a whole, and some months with their figures
-abbrev pub keeps_in : UnitRecord → List Month → List ℕ → Bool
-keeps_in u months s = keeps_year u s && keeps_months months (was_on u.opening) s
-
--- in every calendar month each month figure
 abbrev pub keeps_case : UnitRecord → List ℕ → Bool
-keeps_case u s = keeps_in u (months_for u (length s)) s
+keeps_case u s = keeps_starts u s && keeps_runs u s && keeps_spells u s && keeps_hours u s && keeps_mwh u s && keeps_window u s

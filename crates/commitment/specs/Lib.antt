@@ -4,13 +4,12 @@ pub mod Causes
 pub mod Limits
 pub mod Ranges
 pub mod Schedule
-pub mod Counting
-pub mod Months
 pub mod Keeping
 pub mod Windows
 pub mod Profit
 pub mod Order
 pub mod Best
+pub mod Months
 pub mod Cuts
 pub mod Rivals
 pub mod Valuing

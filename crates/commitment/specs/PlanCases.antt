@@ -8,7 +8,6 @@ use Rattle.commitment.specs.declared.Limit.TheVariants as limit
 use Rattle.commitment.specs.declared.Limitation.TheVariants.{Starts, Hours, Mwh}
 use Rattle.commitment.specs.declared.Cause.TheVariants.{NoSchedule}
 use Rattle.commitment.specs.declared.Permit.{Permit}
-use Rattle.commitment.specs.declared.Months.TheVariants.{Unlimited}
 use Rattle.commitment.specs.declared.Permit.TheVariants.{AnyHour}
 use Rattle.commitment.specs.declared.Outcome.{Outcome}
 use Rattle.commitment.specs.declared.Outcome.TheVariants.{Empty, Never, Gap}
@@ -32,7 +31,6 @@ c1-under mot was held starts hours mwh permit =
       opening = record { was = was; held = held };
       limits = record { starts = starts; hours = hours; mwh = mwh };
       permit = permit;
-      months = Unlimited;
     }
 
 abbrev c1-but : ℕ → ℕ → ℕ → Limit → Limit → Limit → UnitRecord

@@ -3,7 +3,7 @@ use Rattle.std.specs.Prelude.{List, [], ◌∷◌, ℕ, zero, suc, ◌*◌, ℤ,
 use Rattle.commitment.specs.declared.Generator.{Generator}
 use Rattle.commitment.specs.declared.Costs.{Costs}
 use Rattle.commitment.specs.declared.UnitRecord.{UnitRecord}
-use Rattle.commitment.specs.Counting.{was_on, starts_in}
+use Rattle.commitment.specs.Keeping.{was_on, starts_in}
 
 -- price × output − vec × (output − least) − mlc, where least is the lowest output
 abbrev pub margin : ℤ → ℕ → ℕ → ℕ → ℕ → ℤ

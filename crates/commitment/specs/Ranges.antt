@@ -1,29 +1,24 @@
 -- The ranges of the unit record and of the prices, and the check of a case before anything is worked out (specification 2, 3).
-use Rattle.std.specs.Prelude.{◌≡◌, Bool, true, false, ◌&&◌, ◌||◌, not, cond, List, [], ◌∷◌, ℕ, ◌*◌, ◌≤◌, ◌<◌, leb, ltb, ℤ, pos, neg_ℤ, nat_abs, length, get_or}
+use Rattle.std.specs.Prelude.{◌≡◌, Bool, true, ◌&&◌, List, [], ◌∷◌, ℕ, ◌*◌, ◌≤◌, ◌<◌, leb, ℤ, pos, neg_ℤ, nat_abs, length, get_or}
 use Rattle.std.specs.Int.Signed.{le_z}
 use Rattle.lists.specs.Every.{every}
 use Rattle.calendar.specs.declared.Date.{Date}
 use Rattle.calendar.specs.Dates.{first_year, last_year, exists}
-use Rattle.calendar.specs.Months.{most_months, year_intervals, month_begins}
 use Rattle.commitment.specs.declared.Generator.{Generator}
 use Rattle.commitment.specs.declared.Costs.{Costs}
 use Rattle.commitment.specs.declared.Opening.{Opening}
-use Rattle.commitment.specs.declared.Limit.{Limit}
 use Rattle.commitment.specs.declared.Limits.{Limits}
 use Rattle.commitment.specs.declared.Permit.{Permit}
 use Rattle.commitment.specs.declared.Permit.TheVariants.{AnyHour, Within}
 use Rattle.commitment.specs.declared.Window.{Window}
-use Rattle.commitment.specs.declared.Monthly.{Monthly}
-use Rattle.commitment.specs.declared.Months.{Months}
-use Rattle.commitment.specs.declared.Months.TheVariants.{Unlimited, Limited}
 use Rattle.commitment.specs.declared.UnitRecord.{UnitRecord}
 use Rattle.commitment.specs.declared.Cause.TheVariants as cause
 use Rattle.commitment.specs.declared.Checked.{Checked}
 use Rattle.commitment.specs.Bounds.{most_mw, most_blocks, most_time, most_held, most_vec, most_mlc}
-use Rattle.commitment.specs.Bounds.{most_suc, most_starts, most_hours, most_mwh, most_price, most_intervals}
-use Rattle.commitment.specs.Bounds.{most_month, most_day, most_word, most_month_starts, most_month_hours, most_month_mwh}
+use Rattle.commitment.specs.Bounds.{most_suc, most_starts, most_hours, most_mwh, most_price, most_horizon, most_intervals}
+use Rattle.commitment.specs.Bounds.{most_month, most_day, most_word}
 use Rattle.commitment.specs.Causes.{Check, ◌else◌, first_of}
-use Rattle.commitment.specs.Limits.{limit_kept, is_limited}
+use Rattle.commitment.specs.Limits.{limit_kept}
 
 -- ---- the record, group by group
 
@@ -57,25 +52,9 @@ abbrev pub permit_kept : Permit → Bool
 permit_kept AnyHour = true
 permit_kept (Within w) = window_kept w
 
--- of a group of month figures one at least is given
-abbrev pub some_figure : Limits → Bool
-some_figure limits = is_limited limits.starts || is_limited limits.hours || is_limited limits.mwh
-
-abbrev pub month_limits_kept : Limits → Bool
-month_limits_kept limits =
-    limit_kept most_month_starts limits.starts && limit_kept most_month_hours limits.hours && limit_kept most_month_mwh limits.mwh
-
-abbrev pub monthly_kept : Monthly → Bool
-monthly_kept m = some_figure m.limits && month_limits_kept m.limits && leb 1 m.valued && leb m.valued most_months
-
-abbrev pub months_kept : Months → Bool
-months_kept Unlimited = true
-months_kept (Limited m) = monthly_kept m
-
 unfoldable pub ranges_kept : UnitRecord → Bool
 ranges_kept u =
-    generator_kept u.generator && opening_kept u.opening && costs_kept u.costs
-    && limits_kept u.limits && permit_kept u.permit && months_kept u.months
+    generator_kept u.generator && opening_kept u.opening && costs_kept u.costs && limits_kept u.limits && permit_kept u.permit
 
 -- pmin is at most pmax, and pmax × block at most 500
 abbrev pub shape_kept : Generator → Bool
@@ -85,27 +64,6 @@ shape_kept g = leb g.pmin g.pmax && leb (g.pmax * g.block) most_mw
 abbrev pub date_kept : Permit → Bool
 date_kept AnyHour = true
 date_kept (Within w) = exists w.date
-
--- ---- month figures: they need a date, a year figure beside each, and a valued month inside the horizon
-
-abbrev pub besides : Limit → Limit → Bool
-besides monthly yearly = not (is_limited monthly) || is_limited yearly
-
-abbrev pub each_besides : Limits → Limits → Bool
-each_besides monthly yearly =
-    besides monthly.starts yearly.starts && besides monthly.hours yearly.hours && besides monthly.mwh yearly.mwh
-
--- an empty horizon counts as 1 here, and one over the limit as the limit
-abbrev pub horizon_counted : ℕ → ℕ
-horizon_counted n = cond (ltb n 1) 1 (cond (ltb year_intervals n) year_intervals n)
-
-abbrev pub monthly_fit : Monthly → Limits → Permit → ℕ → Bool
-monthly_fit m yearly AnyHour n = false
-monthly_fit m yearly (Within w) n = each_besides m.limits yearly && ltb (month_begins w.date m.valued) (horizon_counted n)
-
-abbrev pub months_fit : Months → Limits → Permit → ℕ → Bool
-months_fit Unlimited yearly permit n = true
-months_fit (Limited m) yearly permit n = monthly_fit m yearly permit n
 
 -- ---- the prices
 
@@ -117,18 +75,15 @@ prices_kept prices = every price_kept prices
 
 -- there are prices, and not too many
 abbrev pub horizon_kept : ℕ → Bool
-horizon_kept n = leb 1 n && leb n most_intervals
+horizon_kept n = leb 1 n && leb n most_horizon
 
--- ---- the checks of a case of n intervals, whose prices are kept or not: 3, 4, 12, 13, 5, each with those after it
+-- ---- the checks of a case of n intervals, whose prices are kept or not: 3, 4, 12, 5, each with those after it
 
 abbrev pub horizon_checks : ℕ → List Check
 horizon_checks n = (horizon_kept n else cause.Horizon) ∷ []
 
-abbrev pub months_checks : UnitRecord → ℕ → List Check
-months_checks u n = (months_fit u.months u.limits u.permit n else cause.Months) ∷ horizon_checks n
-
 abbrev pub date_checks : UnitRecord → ℕ → List Check
-date_checks u n = (date_kept u.permit else cause.Date) ∷ months_checks u n
+date_checks u n = (date_kept u.permit else cause.Date) ∷ horizon_checks n
 
 abbrev pub shape_checks : UnitRecord → ℕ → List Check
 shape_checks u n = (shape_kept u.generator else cause.Shape) ∷ date_checks u n
@@ -146,6 +101,7 @@ pub record InOrder (u : UnitRecord) (n : ℕ) : Type 0 where
   pub shape : shape_kept u.generator ≡ true
   pub dated : date_kept u.permit ≡ true
   pub short : n ≤ most_intervals
+  pub checked : n ≤ most_horizon
 
 abbrev pub Priced : List ℤ → Type 0
 Priced prices = (i : ℕ) → i < length prices → nat_abs (get_or prices i (pos 0)) ≤ most_price

@@ -4,7 +4,7 @@
 ghost use Rattle.std.specs.Prelude.{◌≡◌, ◌≤◌, nat_abs};
 ghost use Rattle.commitment.specs.Profit as profits;
 ghost use Rattle.commitment.specs.Causes.{number_of};
-ghost use Rattle.commitment.specs.Limits.{limit_for, with_limit, month_limit, limited};
+ghost use Rattle.commitment.specs.Limits.{limit_for, with_limit, limited};
 ghost use Rattle.commitment.specs.Bounds.{most_mw, most_vec, most_mlc, most_price};
 
 pub mod cuts;
@@ -69,20 +69,6 @@ pub enum Permit {
     Within(Window),
 }
 
-// The figures of every calendar month, and the month to value: 1 for that of interval 1, and counted on.
-#[derive(Drop)]
-pub struct Monthly {
-    pub limits: Limits,
-    pub valued: u64,
-}
-
-// Whether the permit limits its months.
-#[derive(Drop)]
-pub enum Months {
-    Unlimited,
-    Limited(Monthly),
-}
-
 // The unit record (specification 2), in its groups.
 #[derive(Drop)]
 pub struct UnitRecord {
@@ -91,7 +77,6 @@ pub struct UnitRecord {
     pub opening: Opening,
     pub limits: Limits,
     pub permit: Permit,
-    pub months: Months,
 }
 
 // Which of the three limitations.
@@ -111,7 +96,6 @@ pub enum Cause {
     Levels,
     Shape,
     Date,
-    Months,
     Horizon,
     Segments,
     Length,
@@ -162,16 +146,6 @@ pub fn limit_for(limits: Limits, which: Limitation) -> Limit
     }
 }
 
-// The month figure of one of them.
-pub fn month_limit(months: Months, which: Limitation) -> Limit
-    ensures { result ≡ month_limit months which }
-{
-    match months {
-        Months::Unlimited => Limit::None,
-        Months::Limited(monthly) => limit_for(monthly.limits, which),
-    }
-}
-
 // The limitations with one of them replaced.
 pub fn with_limit(limits: Limits, which: Limitation, limit: Limit) -> Limits
     ensures { result ≡ with_limit limits which limit }
@@ -206,14 +180,12 @@ pub fn under_limits(unit: UnitRecord, limits: Limits) -> UnitRecord
     let costs = unit.costs;
     let opening = unit.opening;
     let permit = unit.permit;
-    let months = unit.months;
     UnitRecord {
         generator,
         costs,
         opening,
         limits,
         permit,
-        months,
     }
 }
 
@@ -239,7 +211,6 @@ pub fn number_of(cause: Cause) -> u64
         Cause::Levels => 11,
         Cause::Shape => 4,
         Cause::Date => 12,
-        Cause::Months => 13,
         Cause::Horizon => 5,
         Cause::Segments => 6,
         Cause::Length => 7,

@@ -1,4 +1,4 @@
-// The calls beside a simple enumerator, on generated cases: without permitted hours, with them and as texts, and about the ends of months.
+// The calls beside a simple enumerator, on generated cases: without permitted hours, and with them and as texts.
 
 mod comparison;
 mod summary;
@@ -7,17 +7,16 @@ mod texts;
 use comparison::agreed_on;
 use enumeration::enumerator::Case;
 use enumeration::expectation::{Expected, expected_of};
-use enumeration::generator::{case_of, dated_case_of, draws_from, monthly_case_of};
+use enumeration::generator::{case_of, dated_case_of, draws_from};
 use enumeration::tally;
 use enumeration::tally::Tally;
 use tabletext::{Value, values};
 
 // Its arguments say how many cases there are of each.
 fn main() {
-    let mut scratch = [0i64; 65536];
+    let mut scratch = [0i64; 32768];
     generated(number_in(1), &mut scratch);
     dated(number_in(2), &mut scratch);
-    monthly(number_in(3), &mut scratch);
 }
 
 fn number_in(argument: usize) -> u64 {
@@ -65,22 +64,6 @@ fn dated(cases: u64, scratch: &mut [i64]) {
         number += 1;
     }
     summary::print_dates(counts);
-    summary::print(counts);
-}
-
-// Cases about the end of a month, with month figures and without.
-fn monthly(cases: u64, scratch: &mut [i64]) {
-    let mut counts = tally::nothing();
-    let mut seed = 3;
-    let mut number = 0;
-    while number < cases {
-        let draws = draws_from(seed);
-        seed = draws[31];
-        let case = monthly_case_of(number, draws);
-        counts = tried(counts, number, case, expected_of(case), &mut *scratch);
-        number += 1;
-    }
-    summary::print_months(counts);
     summary::print(counts);
 }
 

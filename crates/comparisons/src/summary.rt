@@ -35,18 +35,6 @@ pub fn print_dates(tally: Tally) {
     text(b"\n");
 }
 
-pub fn print_months(tally: Tally) {
-    let dates = tally.dates;
-    let months = tally.months;
-    text(b"\nhours,none,no such date,another day,clocks forward,clocks back\ncases");
-    row(&dates);
-    line(b"refused 12,", tally.missing);
-    text(b"\nmonth figures,none,in one month,in two\ncases");
-    row(&months);
-    line(b"refused 13,", tally.unfit);
-    text(b"\n");
-}
-
 fn print_cases(t: Tally) {
     text(b"generated,all,planned,refused 9,negative price,tie,was on,was off\ncases");
     row(&[

@@ -49,7 +49,6 @@ pub fn same_text(case: Case, number: u64, expected: Expected, scratch: &mut [i64
     let answer = casefile::read_into(&bytes[..used_of(page)], &mut prices);
     let n = enumerator::intervals_of(case);
     read_agrees(
-        case,
         answer,
         number_for(case, number),
         &prices[..n],
@@ -59,7 +58,6 @@ pub fn same_text(case: Case, number: u64, expected: Expected, scratch: &mut [i64
 }
 
 fn read_agrees(
-    case: Case,
     answer: CaseRead,
     number: u64,
     prices: &[i64],
@@ -71,7 +69,7 @@ fn read_agrees(
         CaseRead::Case { unit, count } => {
             (number == 0)
                 & (count == prices.len())
-                & comparison::same_plan(case, unit, prices, expected, scratch)
+                & comparison::same_plan(unit, prices, expected, scratch)
         }
     }
 }

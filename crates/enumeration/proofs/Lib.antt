@@ -1,6 +1,4 @@
--- Lists: outputs by their numbers. Fillings: cells by their places. Lengths: as many as there is space for. Sums: what
--- entries add up to.
+-- Lists: outputs by their numbers. Fillings: cells by their places. Lengths: as many as there is space for.
 pub mod Lists
 pub mod Fillings
 pub mod Lengths
-pub mod Sums

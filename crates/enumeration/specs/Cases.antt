@@ -18,11 +18,3 @@ pub record Dated (number : ℕ) (case : Case) : Type 0 where
   pub was-on : case.was_on ≡ (number / 8 % 2 == 1)
   pub given : case.allowed.given ≡ not (number / 64 % 8 == 0)
   pub intervals : case.intervals ≤ room
-
--- one of the cases about the end of a month
-pub record ByMonth (number : ℕ) (case : Case) : Type 0 where
-  pub starts : case.starts.limited ≡ (number % 2 == 1)
-  pub hours : case.hours.limited ≡ (number / 2 % 2 == 1)
-  pub mwh : case.mwh.limited ≡ (number / 4 % 2 == 1)
-  pub was-on : case.was_on ≡ (number / 8 % 2 == 1)
-  pub intervals : case.intervals ≤ room

@@ -1,8 +1,7 @@
 -- What the enumerator's answers say of a limitation and of a case.
-use Rattle.std.specs.Prelude.{◌≡◌, ℕ, ◌+◌, ◌*◌, ◌/◌, ◌^◌, ◌≤◌, Bool, true, false, ◌&&◌, ◌||◌, ℤ, pos, ◌-ℤ◌, ◌==◌}
+use Rattle.std.specs.Prelude.{◌≡◌, ℕ, ◌+◌, ◌*◌, ◌/◌, ◌^◌, ◌≤◌, true, false, ℤ, pos, ◌-ℤ◌, ◌≢◌}
 use Rattle.enumeration.specs.declared.expectation.Expected.{Expected}
 use Rattle.enumeration.specs.declared.enumerator.Cap.{Cap}
-use Rattle.enumeration.specs.declared.enumerator.Caps.{Caps}
 use Rattle.enumeration.specs.declared.enumerator.Case.{Case}
 use Rattle.enumeration.specs.declared.enumerator.Found.{Found}
 use Rattle.enumeration.specs.declared.enumerator.Sums.{Sums}
@@ -10,7 +9,6 @@ use Rattle.enumeration.specs.declared.enumerator.Which.{Which}
 use Rattle.enumeration.specs.declared.enumerator.Which.TheVariants.{Starts, Hours, Mwh}
 use Rattle.enumeration.specs.declared.enumerator.Worth.{Worth}
 use Rattle.enumeration.specs.declared.enumerator.Worth.TheVariants.{None, Empty, Never, Gap}
-use Rattle.enumeration.specs.Months.{month_cap_of}
 
 -- after i intervals
 pub record Summed (i : ℕ) (sums : Sums) : Type 0 where
@@ -28,9 +26,6 @@ pub record OneMore (was sums : Sums) : Type 0 where
   pub earned : sums.earned ≤ was.earned + 2 ^ 48
   pub spent : sums.spent ≤ was.spent + 2 ^ 51
 
-abbrev pub caps_of : Case → Caps
-caps_of case = record { starts = case.starts; hours = case.hours; mwh = case.mwh }
-
 abbrev pub cap_of : Case → Which → Cap
 cap_of case Starts = case.starts
 cap_of case Hours = case.hours
@@ -40,17 +35,12 @@ cap_of case Mwh = case.mwh
 abbrev pub earnings : Found → ℤ
 earnings found = pos found.earned -ℤ pos found.spent
 
--- nine tenths of the year's figure, or of the month's where there is one, rounds to 0
-abbrev pub empty_in : Case → Which → Bool
-empty_in case which =
-    ((cap_of case which).most * 9 / 10 == 0) || ((month_cap_of case which).limited && (month_cap_of case which).most * 9 / 10 == 0)
-
--- `none`: not limited; `empty`: a figure is lowered to 0; else limited, and none is
-abbrev pub WorthOf : Case → Which → Worth → Type 0
-WorthOf case which None = (cap_of case which).limited ≡ false
-WorthOf case which Empty = ((cap_of case which).limited ≡ true) × (empty_in case which ≡ true)
-WorthOf case which Never = ((cap_of case which).limited ≡ true) × (empty_in case which ≡ false)
-WorthOf case which (Gap gap) = ((cap_of case which).limited ≡ true) × (empty_in case which ≡ false)
+-- `none`: not limited; `empty`: nine tenths rounds to 0; else limited, and it does not
+abbrev pub WorthOf : Cap → Worth → Type 0
+WorthOf cap None = cap.limited ≡ false
+WorthOf cap Empty = (cap.limited ≡ true) × (cap.most * 9 / 10 ≡ 0)
+WorthOf cap Never = (cap.limited ≡ true) × (cap.most * 9 / 10 ≢ 0)
+WorthOf cap (Gap gap) = (cap.limited ≡ true) × (cap.most * 9 / 10 ≢ 0)
 
 -- a refusal: nothing is earned and nothing is worth anything
 pub record Refused (number : ℕ) (expected : Expected) : Type 0 where
@@ -66,4 +56,4 @@ pub record ExpectedOf (case : Case) (expected : Expected) : Type 0 where
   pub refused : expected.planned ≡ false
       → (expected.profit ≡ pos 0) × (expected.starts ≡ None) × (expected.hours ≡ None) × (expected.mwh ≡ None)
   pub valued : expected.planned ≡ true
-      → WorthOf case Starts expected.starts × WorthOf case Hours expected.hours × WorthOf case Mwh expected.mwh
+      → WorthOf case.starts expected.starts × WorthOf case.hours expected.hours × WorthOf case.mwh expected.mwh

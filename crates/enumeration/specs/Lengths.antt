@@ -1,12 +1,9 @@
 -- The lengths of scratch that a generated case is tried with.
-use Rattle.std.specs.Prelude.{ℕ, zero, suc, ◌+◌, ◌-◌, ◌*◌, ◌^◌, cond, ◌==◌, nat_le, nat_lt}
-use Rattle.integers.specs.Capped.{capped}
+use Rattle.std.specs.Prelude.{ℕ, zero, suc, ◌+◌, ◌-◌, ◌*◌, ◌^◌, cond, ◌==◌, nat_le}
 use Rattle.enumeration.specs.declared.enumerator.Cap.{Cap}
-use Rattle.enumeration.specs.declared.enumerator.Caps.{Caps}
 use Rattle.enumeration.specs.declared.enumerator.Case.{Case}
 use Rattle.enumeration.specs.declared.lending.Lent.{Lent}
-use Rattle.enumeration.specs.Expecting.{caps_of}
-use Rattle.enumeration.specs.Months.{horizon_of}
+use Rattle.enumeration.specs.Lists.{intervals_of}
 
 -- the most of so many, each of that size, for which there is space
 unfoldable pub fitting : ℕ → ℕ → ℕ → ℕ
@@ -17,23 +14,11 @@ fitting space size (suc n) = cond (nat_le (suc n * size) space) (suc n) (fitting
 unfoldable pub most_left : Cap → ℕ → ℕ → ℕ → ℕ
 most_left cap unit size usable = cond cap.limited (fitting (cap.most * unit) size usable) 0
 
--- a product of sizes, the largest number where it is above 10^9
-abbrev pub sized : ℕ → ℕ → ℕ
-sized cells count = capped 1000000000 (cells * count)
-
--- so many cells, for each number of starts, on-intervals and blocks that can be left
-unfoldable pub counts_of : Case → Caps → ℕ → ℕ
-counts_of case caps cells =
-    sized
-    (sized (sized cells (most_left caps.starts 1 1 (horizon_of case) + 1)) (most_left caps.hours 4 1 (horizon_of case) + 1))
-    (most_left caps.mwh 4 case.block (horizon_of case * case.pmax) + 1)
-
--- a cell for each state, of the year and of a month
-abbrev pub year_cells : Case → ℕ
-year_cells case = counts_of case (caps_of case) (case.mot + case.mdt)
-
+-- a cell for each state and for each number of starts, on-intervals and blocks that can be left
 unfoldable pub layer_of : Case → ℕ
-layer_of case = cond case.monthly.given (counts_of case case.monthly.first (year_cells case)) (year_cells case)
+layer_of case =
+    (case.mot + case.mdt) * (most_left case.starts 1 1 (intervals_of case) + 1) * (most_left case.hours 4 1 (intervals_of case) + 1)
+    * (most_left case.mwh 4 case.block (intervals_of case * case.pmax) + 1)
 
 -- one less than 0 is the largest number
 abbrev pub one_less : ℕ → ℕ
@@ -46,16 +31,12 @@ used_of long two cells = cond (nat_le long cells) long (cond (nat_le two cells) 
 abbrev pub lent_with : ℕ → ℕ → ℕ → Lent
 lent_with long two cells = record { cells = cells; used = used_of long two cells }
 
--- the long table where it is not too long, else two layers
-abbrev pub tried_of : ℕ → ℕ → ℕ
-tried_of long two = cond (nat_lt 65536 long) two long
-
--- the table that is tried, two layers, and one cell less than each
+-- the long table, two layers, and one cell less than each
 abbrev pub length_of : ℕ → ℕ → ℕ → ℕ
 length_of long two number = cond (number == 0) long (cond (number == 1) (one_less long) (cond (number == 2) two (one_less two)))
 
 abbrev pub lent_of : Case → ℕ → Lent
 lent_of case number =
-    let two = sized (layer_of case) 2 in
-    let long = sized (layer_of case) (horizon_of case + 1) in
-    lent_with long two (length_of (tried_of long two) two number)
+    let two = 2 * layer_of case in
+    let long = layer_of case * (intervals_of case + 1) in
+    lent_with long two (length_of long two number)

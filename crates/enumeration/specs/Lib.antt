@@ -1,11 +1,10 @@
--- What is answered. Lists: the lists of outputs, by their numbers. Dates: the days on which time changes. Months: the months of a case. Draws and Cases: what is generated. Lengths and
+-- What is answered. Lists: the lists of outputs, by their numbers. Dates: the days on which time changes. Draws and Cases: what is generated. Lengths and
 -- Fillings: the scratch lent. Expecting: what the enumerator's answers mean. Counting: the tally.
 pub mod Lists
 pub mod Dates
-pub mod Months
 pub mod Draws
 pub mod Cases
-pub mod Expecting
 pub mod Lengths
 pub mod Fillings
+pub mod Expecting
 pub mod Counting

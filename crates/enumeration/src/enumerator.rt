@@ -3,14 +3,12 @@
 
 ghost use Rattle.std.specs.Prelude.{◌≡◌, ◌+◌, ◌*◌, ◌/◌, ◌^◌, ◌<◌, ◌≤◌};
 ghost use Rattle.enumeration.specs.Lists.{room, most_outputs, intervals_of, outputs_of, output_of, lists_of, in_front};
-ghost use Rattle.enumeration.specs.Dates.{weekday, is_sunday, goes_forward, goes_back, days_of, date_exists, hours_left};
-ghost use Rattle.enumeration.specs.Months.{interval_of, horizon_of};
-ghost use Rattle.enumeration.specs.Expecting.{Summed, OneMore, caps_of, cap_of, empty_in, earnings, WorthOf};
+ghost use Rattle.enumeration.specs.Dates.{is_sunday, goes_forward, goes_back, days_of, date_exists};
+ghost use Rattle.enumeration.specs.Expecting.{Summed, OneMore, cap_of, earnings, WorthOf};
 
-use crate::monthly;
 use crate::numbers::{difference, one_if, times, wide8, wide16, wide32};
 
-// The entries that a list has room for, so that the third hour of the day is reached, and the outputs of an interval. specs/Lists.antt has the same.
+// The intervals that a list has room for, so that the third hour of the day is reached, and the outputs of an interval. specs/Lists.antt has the same.
 pub const ROOM: usize = 9;
 
 const MOST_OUTPUTS: u64 = 64;
@@ -32,32 +30,7 @@ pub struct Allowed {
     pub word: u32,
 }
 
-// The three limitations, of the year or of a month.
-#[derive(Drop)]
-pub struct Caps {
-    pub starts: Cap,
-    pub hours: Cap,
-    pub mwh: Cap,
-}
-
-// The figures of each month, where there are any: of the date's own and of the next, the same but in the lower run of valuing; and the month valued.
-#[derive(Drop)]
-pub struct Monthly {
-    pub given: bool,
-    pub first: Caps,
-    pub second: Caps,
-    pub valued: u8,
-}
-
-// Where it is given, one entry of the list lasts so many intervals, and the unit is off in all of them. So few entries reach the end of a month.
-#[derive(Drop)]
-pub struct Pause {
-    pub given: bool,
-    pub at: u8,
-    pub lasts: u16,
-}
-
-// A case in plain numbers. Each entry of a list is an interval but for the pause. The price of entry i + 1 is up[i] − down.
+// A case in plain numbers. The price of interval i + 1 is up[i] − down.
 #[derive(Drop)]
 pub struct Case {
     pub intervals: u8,
@@ -75,8 +48,6 @@ pub struct Case {
     pub hours: Cap,
     pub mwh: Cap,
     pub allowed: Allowed,
-    pub monthly: Monthly,
-    pub pause: Pause,
     pub up: [u16; ROOM],
     pub down: u16,
 }
@@ -120,7 +91,7 @@ pub enum Worth {
 
 // ---- the lists, by number
 
-// The lists have room for so many entries.
+// The lists have room for so many intervals.
 pub fn intervals_of(case: Case) -> usize
     ensures { (result ≡ intervals_of case) × (result ≤ room) }
 {
@@ -129,29 +100,6 @@ pub fn intervals_of(case: Case) -> usize
         return ROOM;
     }
     n
-}
-
-// The interval, counted from 0, with which an entry begins.
-pub fn interval_of(case: Case, entry: usize) -> u64
-    requires { entry ≤ room }
-    ensures { (result ≡ interval_of case entry) × (result < 2 ^ 17) }
-{
-    let pause = case.pause;
-    if !pause.given {
-        return entry as u64;
-    }
-    let at = wide8(pause.at);
-    if entry as u64 <= at {
-        return entry as u64;
-    }
-    entry as u64 + wide16(pause.lasts) - 1
-}
-
-// The horizon ends where an entry more would begin.
-pub fn horizon_of(case: Case) -> u64
-    ensures { (result ≡ horizon_of case) × (result < 2 ^ 17) }
-{
-    interval_of(case, intervals_of(case))
 }
 
 // Off, or pmin to pmax blocks.
@@ -215,11 +163,9 @@ pub fn list_of(case: Case, number: u64) -> [u32; ROOM]
 // ---- keeping the case (specification 5), by the times and by the limitations
 
 // Every spell on, or every spell off, that the other state ends lasts at least so many intervals, those before interval 1 included.
-fn spells_last(case: Case, list: [u32; ROOM], on: bool, before: u64, least: u64) -> bool
-    requires { before < 2 ^ 8 }
+fn spells_last(n: usize, list: [u32; ROOM], on: bool, before: u64, least: u64) -> bool
+    requires { (n ≤ room) × (before < 2 ^ 8) }
 {
-    let n = intervals_of(case);
-    let pause = case.pause;
     let mut spell = before;
     let mut i = 0;
     while i < n {
@@ -227,30 +173,20 @@ fn spells_last(case: Case, list: [u32; ROOM], on: bool, before: u64, least: u64)
         if !stays & (0 < spell) & (spell < least) {
             return false;
         }
-        spell = spell_after(spell, stays, lasting(pause, i));
+        spell = spell_after(spell, stays);
         i += 1;
     }
     true
 }
 
-fn spell_after(spell: u64, stays: bool, lasts: u64) -> u64
-    requires { (spell < 2 ^ 32) × (lasts < 2 ^ 16) }
-    ensures { result ≤ spell + lasts }
+fn spell_after(spell: u64, stays: bool) -> u64
+    requires { spell < 2 ^ 32 }
+    ensures { result ≤ spell + 1 }
 {
     if stays {
-        return spell + lasts;
+        return spell + 1;
     }
     0
-}
-
-// The intervals of an entry.
-fn lasting(pause: Pause, entry: usize) -> u64
-    ensures { result < 2 ^ 16 }
-{
-    if pause.given & (wide8(pause.at) == entry as u64) {
-        return wide16(pause.lasts);
-    }
-    1
 }
 
 // The intervals spent before interval 1 in the state asked for.
@@ -264,49 +200,27 @@ fn held_in(case: Case, on: bool) -> u64
 }
 
 // Starts are counted by ones; hours and MWh in quarters, four to the unit.
-pub fn within(cap: Cap, unit: u64, count: u64) -> bool
+fn within(cap: Cap, unit: u64, count: u64) -> bool
     requires { unit ≤ 4 }
 {
     !cap.limited | (count <= times(wide32(cap.most), unit))
 }
 
 fn times_kept(case: Case, list: [u32; ROOM]) -> bool {
+    let n = intervals_of(case);
     let mot = wide8(case.mot);
     let mdt = wide8(case.mdt);
-    spells_last(case, list, true, held_in(case, true), mot)
-        & spells_last(case, list, false, held_in(case, false), mdt)
+    spells_last(n, list, true, held_in(case, true), mot)
+        & spells_last(n, list, false, held_in(case, false), mdt)
 }
 
-// Off in the pause.
-fn pause_kept(case: Case, list: [u32; ROOM]) -> bool {
-    let pause = case.pause;
-    let at = pause.at as usize;
-    if !pause.given {
-        return true;
-    }
-    if ROOM <= at {
-        return true;
-    }
-    list[at] == 0
-}
-
-// The limitations of the year, or those of a month.
-pub fn limits_kept(caps: Caps, sums: Sums) -> bool
+fn limits_kept(case: Case, sums: Sums) -> bool
     requires { Summed room sums }
-{
-    let starts = caps.starts;
-    let hours = caps.hours;
-    let mwh = caps.mwh;
-    within(starts, 1, sums.starts) & within(hours, 4, sums.running) & within(mwh, 4, sums.output)
-}
-
-pub fn caps_of(case: Case) -> Caps
-    ensures { result ≡ caps_of case }
 {
     let starts = case.starts;
     let hours = case.hours;
     let mwh = case.mwh;
-    Caps { starts, hours, mwh }
+    within(starts, 1, sums.starts) & within(hours, 4, sums.running) & within(mwh, 4, sums.output)
 }
 
 // ---- the permitted hours
@@ -321,7 +235,7 @@ fn hours_kept(case: Case, list: [u32; ROOM]) -> bool {
     let mut i = 0;
     while i < n {
         if 0 < list[i] {
-            if !may_run(allowed, interval_of(case, i) / 4) {
+            if !may_run(allowed, (i / 4) as u64) {
                 return false;
             }
         }
@@ -332,57 +246,27 @@ fn hours_kept(case: Case, list: [u32; ROOM]) -> bool {
 
 // By the clock hour that begins after so many hours.
 fn may_run(allowed: Allowed, passed: u64) -> bool
-    requires { passed < 2 ^ 17 }
+    requires { passed < 20 }
 {
     let hour = hour_after(allowed, passed);
     (wide32(allowed.word) >> hour) % 2 == 1
 }
 
-// No entry but the pause is past the first hours of the date, unless it is of the last two hours of the month or of the first of the next. There time
-// does not change.
-fn hour_after(allowed: Allowed, passed: u64) -> u64
-    requires { passed < 2 ^ 17 }
-    ensures { result < 24 }
-{
-    let end = hours_left(allowed);
-    if end <= passed {
-        return (passed - end) % 24;
-    }
-    if end <= passed + 2 {
-        return 24 + passed - end;
-    }
-    hour_on(allowed, passed)
-}
-
 // From midnight on the hours are 0 and 1, and then 2; on one Sunday of March 3 comes after 1, on one of November 1 again.
-fn hour_on(allowed: Allowed, passed: u64) -> u64
-    requires { passed < 2 ^ 17 }
+fn hour_after(allowed: Allowed, passed: u64) -> u64
+    requires { passed < 20 }
     ensures { result < 24 }
 {
     if passed < 2 {
         return passed;
     }
     if goes_forward(allowed) {
-        return (passed + 1) % 24;
+        return passed + 1;
     }
     if goes_back(allowed) {
-        return (passed - 1) % 24;
+        return passed - 1;
     }
-    passed % 24
-}
-
-// The hours from the midnight of a date to the end of its month: an hour is lost or gained where the Sunday is ahead.
-pub fn hours_left(allowed: Allowed) -> u64
-    ensures { (result ≡ hours_left allowed) × (result < 2 ^ 10) }
-{
-    let day = wide8(allowed.day);
-    let days = days_of(allowed);
-    if days < day {
-        return 0;
-    }
-    let lost = (allowed.month == 3) & (day <= 8 + (8 - weekday(allowed, 8)) % 7);
-    let gained = (allowed.month == 11) & (day <= 1 + (8 - weekday(allowed, 1)) % 7);
-    24 * (days + 1 - day) + one_if(gained) - one_if(lost)
+    passed
 }
 
 // The second Sunday of March.
@@ -399,20 +283,13 @@ pub fn goes_back(allowed: Allowed) -> bool
     (allowed.month == 11) & (allowed.day < 8) & is_sunday(allowed)
 }
 
+// Zeller's congruence, for a year from 2000 to 2099 and a month from March on.
 fn is_sunday(allowed: Allowed) -> bool
     ensures { result ≡ is_sunday allowed }
 {
-    weekday(allowed, wide8(allowed.day)) == 1
-}
-
-// Zeller's congruence, for a year from 2000 to 2099 and a month from March on: a Sunday is 1, a Saturday 0.
-fn weekday(allowed: Allowed, day: u64) -> u64
-    requires { day < 2 ^ 8 }
-    ensures { (result ≡ weekday allowed day) × (result < 7) }
-{
     let year = wide16(allowed.year) % 100;
     let month = wide8(allowed.month);
-    (day + 13 * (month + 1) / 5 + year + year / 4) % 7
+    (wide8(allowed.day) + 13 * (month + 1) / 5 + year + year / 4) % 7 == 1
 }
 
 // A date that is given is one of its month.
@@ -424,8 +301,8 @@ pub fn date_exists(case: Case) -> bool
 }
 
 // From 2004 to 2096 every fourth year is leap.
-pub fn days_of(allowed: Allowed) -> u64
-    ensures { (result ≡ days_of allowed) × (28 ≤ result) × (result ≤ 31) }
+fn days_of(allowed: Allowed) -> u64
+    ensures { result ≡ days_of allowed }
 {
     let month = allowed.month;
     match month {
@@ -454,7 +331,7 @@ fn sums_of(case: Case, list: [u32; ROOM]) -> Sums
     sums
 }
 
-pub fn nothing_yet(was_on: bool) -> Sums
+fn nothing_yet(was_on: bool) -> Sums
     ensures { Summed 0 result }
 {
     Sums {
@@ -468,7 +345,7 @@ pub fn nothing_yet(was_on: bool) -> Sums
 }
 
 // An interval on after one that is off is a start.
-pub fn with_interval(case: Case, sums: Sums, output: u64, price: u64) -> Sums
+fn with_interval(case: Case, sums: Sums, output: u64, price: u64) -> Sums
     requires { Summed room sums × (output < 2 ^ 32) × (price < 2 ^ 16) }
     ensures { OneMore sums result }
 {
@@ -515,12 +392,11 @@ pub fn judged(case: Case, number: u64) -> Found
     ensures { (result.earned < 2 ^ 60) × (result.spent < 2 ^ 60) }
 {
     let list = list_of(case, number);
-    let told = date_exists(case) & monthly::fits(case) & pause_kept(case, list);
-    if !(told & times_kept(case, list) & hours_kept(case, list)) {
+    if !(date_exists(case) & times_kept(case, list) & hours_kept(case, list)) {
         return nothing();
     }
     let sums = sums_of(case, list);
-    if !(limits_kept(caps_of(case), sums) & monthly::kept(case, list)) {
+    if !limits_kept(case, sums) {
         return nothing();
     }
     Found {
@@ -592,7 +468,7 @@ pub fn profit_of(found: Found) -> i64
 
 // ---- valuing a limitation (specification 9)
 
-pub fn cap_of(case: Case, which: Which) -> Cap
+fn cap_of(case: Case, which: Which) -> Cap
     ensures { result ≡ cap_of case which }
 {
     match which {
@@ -602,35 +478,40 @@ pub fn cap_of(case: Case, which: Which) -> Cap
     }
 }
 
-pub fn nine_tenths(figure: u32) -> u32
+// The case with one limitation at another figure, the other two whole.
+fn with_figure(case: Case, which: Which, figure: u32) -> Case {
+    let cap = Cap {
+        limited: true,
+        most: figure,
+    };
+    let mut lowered = case;
+    match which {
+        Which::Starts => lowered.starts = cap,
+        Which::Hours => lowered.hours = cap,
+        Which::Mwh => lowered.mwh = cap,
+    }
+    lowered
+}
+
+fn nine_tenths(figure: u32) -> u32
     ensures { result ≡ figure * 9 / 10 }
 {
     (figure as u64 * 9 / 10) as u32
 }
 
-// Whether the figure of the year or that of a month, where there is one, is lowered to 0.
-fn is_empty(case: Case, which: Which) -> bool
-    ensures { result ≡ empty_in case which }
-{
-    let cap = cap_of(case, which);
-    let month = monthly::cap_of(case, which);
-    (nine_tenths(cap.most) == 0) | (month.limited & (nine_tenths(month.most) == 0))
-}
-
-// The figures of one limitation are lowered, those of the other two whole.
 pub fn worth_of(case: Case, which: Which) -> Worth
-    ensures { WorthOf case which result }
+    ensures { WorthOf (cap_of case which) result }
 {
     let cap = cap_of(case, which);
     if !cap.limited {
         return Worth::None;
     }
-    if is_empty(case, which) {
+    let figure = nine_tenths(cap.most);
+    if figure == 0 {
         return Worth::Empty;
     }
-    let lowered = monthly::lowered(case, which);
-    let first = best_of(lowered);
-    let lower = best_of(monthly::one_less(lowered, which));
+    let first = best_of(with_figure(case, which, figure));
+    let lower = best_of(with_figure(case, which, figure - 1));
     if !lower.any {
         return Worth::Never;
     }

@@ -2,17 +2,17 @@
 
 ghost use Rattle.std.specs.Prelude.{◌≡◌};
 ghost use Rattle.enumeration.specs.Lists.{in_front, untouched};
-ghost use Rattle.enumeration.specs.Months.{refusal_of};
+ghost use Rattle.enumeration.specs.Dates.{refusal_of};
 ghost use Rattle.enumeration.specs.Expecting.{ExpectedOf, Refused};
 
+use crate::enumerator;
 use crate::enumerator::{Case, ROOM, Which, Worth};
 use crate::numbers::wide32;
-use crate::{enumerator, monthly};
 
 // What no output of a small case is: entries that a call leaves as they were still hold it.
 pub const UNTOUCHED: u64 = 7777;
 
-// A plan, or 9, 12 or 13. Its schedule has an entry for each of the case's.
+// A plan, or 9 or 12.
 #[derive(Drop)]
 pub struct Expected {
     pub planned: bool,
@@ -60,17 +60,14 @@ pub fn refused(number: u64) -> Expected
     }
 }
 
-// The number of the call's refusal, or 12 where the date does not exist, or 13 where month figures cannot stand.
+// The number of the call's refusal, or 12 where the date does not exist.
 pub fn refusal_of(case: Case, number: u64) -> u64
     ensures { result ≡ refusal_of case number }
 {
-    if !enumerator::date_exists(case) {
-        return 12;
+    if enumerator::date_exists(case) {
+        return number;
     }
-    if !monthly::fits(case) {
-        return 13;
-    }
-    number
+    12
 }
 
 // The list in the front of a slice that was lent.

@@ -1,13 +1,12 @@
 // Small cases from a fixed sequence of pseudo-random numbers: x goes to 48271 × x modulo 2^31 − 1.
 
 ghost use Rattle.std.specs.Prelude.{◌≡◌, ◌+◌, ◌<◌, ◌≤◌, not, ◌==◌};
-ghost use Rattle.enumeration.specs.Cases.{OfKind, Dated, ByMonth};
+ghost use Rattle.enumeration.specs.Cases.{OfKind, Dated};
 ghost use Rattle.enumeration.specs.Draws.{draws_from};
 ghost use Rattle.enumeration.specs.Lists.{room};
 
-use crate::enumerator;
-use crate::enumerator::{Allowed, Cap, Caps, Case, Monthly, Pause, ROOM};
-use crate::numbers::{one_if, times, wide8, wide16, wide32};
+use crate::enumerator::{Allowed, Cap, Case, ROOM};
+use crate::numbers::{times, wide16, wide32};
 
 // The draws of a case.
 const DRAWS: usize = 32;
@@ -49,8 +48,6 @@ pub fn case_of(number: u64, draws: [u32; DRAWS]) -> Case
         hours: cap(number / 2 % 2 == 1, draws[11], 4),
         mwh: cap(number / 4 % 2 == 1, draws[12], 16),
         allowed: any_hour(),
-        monthly: any_month(),
-        pause: no_pause(),
         up: prices(spread, draws),
         down: down_of(spread),
     }
@@ -142,163 +139,6 @@ fn past_sunday(year: u16) -> u8
     let in_century = wide16(year) % 100;
     ((2 + in_century + in_century / 4) % 7) as u8
 }
-
-// ---- month figures
-
-// The same about the end of a month, most of them with month figures. One output besides 0 and few units, so that lists and cells stay few.
-pub fn monthly_case_of(number: u64, draws: [u32; DRAWS]) -> Case
-    ensures { ByMonth number result }
-{
-    let mut case = case_of(number, draws);
-    let kind = kind_of(draws[13]);
-    case.intervals = pick(draws[0], 6, 4);
-    case.pmax = case.pmin;
-    case.mot = pick(draws[4], 1, 2);
-    case.mdt = pick(draws[5], 1, 2);
-    case.block = pick(draws[2], 2, 3);
-    case.starts = cap(number % 2 == 1, draws[10], 5);
-    case.hours = cap(number / 2 % 2 == 1, draws[11], 3);
-    case.mwh = cap(number / 4 % 2 == 1, draws[12], 6);
-    case.allowed = allowed_near(kind, draws);
-    let pause = pause_of(kind, case, draws[14]);
-    let monthly = monthly_of(case, draws);
-    case.pause = pause;
-    case.monthly = monthly;
-    case
-}
-
-// No date; no pause; the last day of a month; February 28; December 31; the last but one; the Sundays on which time changes, or a day beside.
-fn kind_of(draw: u32) -> u64 {
-    match draw % 16 {
-        0 => 0,
-        1 => 1,
-        2 => 3,
-        3 => 3,
-        4 => 4,
-        5 => 5,
-        6 => 5,
-        7 => 6,
-        8 => 7,
-        _ => 2,
-    }
-}
-
-// The hours about midnight, all of them or some.
-fn allowed_near(kind: u64, draws: [u32; DRAWS]) -> Allowed {
-    let year = (2007 + draws[26] % 93) as u16;
-    let mut allowed = Allowed {
-        given: kind != 0,
-        year,
-        month: month_near(kind, draws[27]),
-        day: 1,
-        word: word_of(draws[29], draws[30]),
-    };
-    let day = day_near(kind, draws[28], allowed);
-    allowed.day = day;
-    allowed
-}
-
-fn word_of(draw: u32, part: u32) -> u32 {
-    if part % 4 == 0 {
-        return draw % 16 + part / 4 % 4 * 4194304;
-    }
-    12582927
-}
-
-fn month_near(kind: u64, draw: u32) -> u8 {
-    match kind {
-        3 => 2,
-        4 => 12,
-        6 => 3,
-        7 => 11,
-        _ => pick(draw, 1, 12),
-    }
-}
-
-fn day_near(kind: u64, draw: u32, allowed: Allowed) -> u8 {
-    let days = enumerator::days_of(allowed) as u8;
-    match kind {
-        1 => pick(draw, 28, 4),
-        2 => days,
-        3 => 28,
-        4 => 31,
-        5 => days - 1,
-        6 => 13 + (draw % 3) as u8 - past_sunday(allowed.year),
-        7 => 7 + (draw % 2) as u8 - past_sunday(allowed.year),
-        _ => 1,
-    }
-}
-
-// From interval 1 on, or from interval 4 on where the unit was on, to one to four intervals before the end of the month.
-fn pause_of(kind: u64, case: Case, draw: u32) -> Pause {
-    let at = 3 * one_if(case.was_on);
-    let allowed = case.allowed;
-    let last = wide8(pick(draw, 1, 4));
-    let end = 4 * enumerator::hours_left(allowed);
-    if kind < 2 {
-        return no_pause();
-    }
-    if end <= at + last {
-        return no_pause();
-    }
-    Pause {
-        given: true,
-        at: at as u8,
-        lasts: (end - at - last) as u16,
-    }
-}
-
-fn no_pause() -> Pause {
-    Pause {
-        given: false,
-        at: 0,
-        lasts: 0,
-    }
-}
-
-// Figures beside those of the year, and now and then one beside none.
-fn monthly_of(case: Case, draws: [u32; DRAWS]) -> Monthly {
-    let odd = draws[31] % 16 == 0;
-    let caps = Caps {
-        starts: month_cap(case.starts, odd, draws[15], 4),
-        hours: month_cap(case.hours, odd, draws[25], 3),
-        mwh: month_cap(case.mwh, odd, draws[24], 4),
-    };
-    let starts = caps.starts;
-    let hours = caps.hours;
-    let mwh = caps.mwh;
-    Monthly {
-        given: starts.limited | hours.limited | mwh.limited,
-        first: caps,
-        second: caps,
-        valued: pick(draws[14] / 4, 1, 2),
-    }
-}
-
-fn month_cap(year: Cap, odd: bool, draw: u32, choices: u32) -> Cap
-    requires { 0 < choices }
-{
-    cap((year.limited | odd) & (draw % 4 != 0), draw / 4, choices)
-}
-
-fn any_month() -> Monthly {
-    Monthly {
-        given: false,
-        first: no_caps(),
-        second: no_caps(),
-        valued: 0,
-    }
-}
-
-fn no_caps() -> Caps {
-    Caps {
-        starts: cap(false, 0, 1),
-        hours: cap(false, 0, 1),
-        mwh: cap(false, 0, 1),
-    }
-}
-
-// ---- draws
 
 // `low`, or up to `choices` − 1 more.
 fn pick(draw: u32, low: u8, choices: u32) -> u8

@@ -2,23 +2,18 @@
 // It shares nothing with the planner.
 
 ghost use Rattle.std.specs.Prelude.{◌≡◌, ◌+◌, ◌*◌, ◌^◌, ◌<◌, ◌≤◌, true, ◌↔◌, length};
-ghost use Rattle.enumeration.specs.Months.{horizon_of};
-ghost use Rattle.enumeration.specs.Lengths.{most_left, sized, counts_of, layer_of, one_less, tried_of, length_of, used_of, lent_with, lent_of};
+ghost use Rattle.enumeration.specs.Lists.{room};
+ghost use Rattle.enumeration.specs.Lists as lists;
+ghost use Rattle.enumeration.specs.Lengths.{most_left, layer_of, one_less, length_of, used_of, lent_with, lent_of};
 ghost use Rattle.enumeration.specs.Fillings.{left_at, cells_from};
 ghost use Rattle.enumeration.specs.Fillings as fillings;
 
 use crate::enumerator;
-use crate::enumerator::{Cap, Caps, Case};
+use crate::enumerator::{Cap, Case};
 use crate::numbers::{difference, times, wide8, wide32};
 
 // Each case is tried with so many lengths.
 pub const LENGTHS: u64 = 4;
-
-// A longer table is not tried. specs/Lengths.antt has the same.
-pub const MOST_CELLS: u64 = 65536;
-
-// A size above this does not count.
-const MOST_SIZE: usize = 1000000000;
 
 // The cells lent, and how many of them planning uses: none where it is refused for want of cells.
 #[derive(Drop)]
@@ -34,22 +29,12 @@ pub fn lent_of(case: Case, number: u64) -> Lent
     ensures { result ≡ lent_of case number }
 {
     let layer = layer_of(case);
-    let two = size_of(layer, 2);
-    let long = size_of(layer, enumerator::horizon_of(case) + 1);
-    lend(long, two, length_of(tried_of(long, two), two, number))
+    let two = 2 * layer;
+    let long = times(layer, intervals_of(case) + 1);
+    lend(long, two, length_of(long, two, number))
 }
 
-// The long table where it is not too long, else two layers.
-fn tried_of(long: u64, two: u64) -> u64
-    ensures { result ≡ tried_of long two }
-{
-    if MOST_CELLS < long {
-        return two;
-    }
-    long
-}
-
-// The table that is tried, two layers, and one cell less than each.
+// The long table, two layers, and one cell less than each.
 fn length_of(long: u64, two: u64, number: u64) -> u64
     ensures { result ≡ length_of long two number }
 {
@@ -90,51 +75,46 @@ fn used_of(long: u64, two: u64, cells: u64) -> u64
     0
 }
 
-// A cell for each state and for each number of starts, on-intervals and blocks that can be left, of the year and of a month.
+fn intervals_of(case: Case) -> u64
+    ensures { (result ≡ lists.intervals_of case) × (result ≤ room) }
+{
+    enumerator::intervals_of(case) as u64
+}
+
+// A cell for each state and for each number of starts, on-intervals and blocks that can be left.
 fn layer_of(case: Case) -> u64
-    ensures { result ≡ layer_of case }
+    ensures { (result ≡ layer_of case) × (result < 2 ^ 32) }
 {
-    let monthly = case.monthly;
-    let month = monthly.first;
+    let n = intervals_of(case);
+    let starts = case.starts;
+    let hours = case.hours;
     let states = wide8(case.mot) + wide8(case.mdt);
-    let year = counts_of(case, enumerator::caps_of(case), states);
-    if !monthly.given {
-        return year;
-    }
-    counts_of(case, month, year)
+    cells_of(
+        states,
+        most_left(starts, 1, 1, n),
+        most_left(hours, 4, 1, n),
+        blocks_of(case, n),
+    )
 }
 
-// So many cells, for each number that can be left.
-fn counts_of(case: Case, caps: Caps, cells: u64) -> u64
-    ensures { result ≡ counts_of case caps cells }
+fn cells_of(states: u64, starts: u64, ons: u64, blocks: u64) -> u64
+    requires { (states < 2 ^ 9) × (starts ≤ room) × (ons ≤ room) × (blocks < 2 ^ 12) }
+    ensures { (result ≡ states * (starts + 1) * (ons + 1) * (blocks + 1)) × (result < 2 ^ 32) }
 {
-    let n = enumerator::horizon_of(case);
-    let starts = caps.starts;
-    let hours = caps.hours;
-    let mwh = caps.mwh;
-    let with_starts = size_of(cells, most_left(starts, 1, 1, n) + 1);
-    let with_hours = size_of(with_starts, most_left(hours, 4, 1, n) + 1);
-    size_of(with_hours, blocks_left(case, mwh, n) + 1)
+    states * (starts + 1) * (ons + 1) * (blocks + 1)
 }
 
-fn blocks_left(case: Case, mwh: Cap, n: u64) -> u64
-    requires { n < 2 ^ 17 }
-    ensures { (result ≡ most_left mwh 4 case.block (n * case.pmax)) × (result < 2 ^ 25) }
+fn blocks_of(case: Case, n: u64) -> u64
+    requires { n ≤ room }
+    ensures { (result ≡ most_left case.mwh 4 case.block (n * case.pmax)) × (result < 2 ^ 12) }
 {
+    let mwh = case.mwh;
     most_left(mwh, 4, wide8(case.block), n * wide8(case.pmax))
-}
-
-// A product that may not fit.
-fn size_of(cells: u64, count: u64) -> u64
-    requires { 1 ≤ count }
-    ensures { result ≡ sized cells count }
-{
-    integers::capped_product(MOST_SIZE, cells as usize, count as usize) as u64
 }
 
 // Counted up: so many, each of that size, as the limitation has room for, but no more than the intervals can use.
 fn most_left(cap: Cap, unit: u64, size: u64, usable: u64) -> u64
-    requires { (unit ≤ 4) × (size < 2 ^ 8) × (usable < 2 ^ 25) }
+    requires { (unit ≤ 4) × (size < 2 ^ 8) × (usable < 2 ^ 12) }
     ensures { (result ≡ most_left cap unit size usable) × (result ≤ usable) }
 {
     if !cap.limited {

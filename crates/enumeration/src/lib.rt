@@ -5,7 +5,6 @@ pub mod enumerator;
 pub mod expectation;
 pub mod generator;
 pub mod lending;
-pub mod monthly;
 pub mod numbers;
 pub mod printing;
 pub mod tally;

@@ -3,12 +3,12 @@
 ghost use Rattle.std.specs.Prelude.{◌≡◌, ◌<◌, true, not, ◌==◌};
 ghost use Rattle.enumeration.specs.Counting as counting;
 
+use crate::enumerator;
 use crate::enumerator::{Case, Worth};
 use crate::expectation::Expected;
 use crate::numbers::{counted, one_if};
-use crate::{enumerator, monthly};
 
-// `dates` goes by the date of the permitted hours, `months` by the months that figures are kept in, `texts` by the number that reading says, `limited` by which limitations there are;
+// `dates` goes by the date of the permitted hours, `texts` by the number that reading says, `limited` by which limitations there are;
 // `starts`, `hours` and `mwh` by their outcomes in the cases planned.
 #[derive(Drop)]
 pub struct Tally {
@@ -16,14 +16,12 @@ pub struct Tally {
     pub planned: u64,
     pub refused: u64,
     pub missing: u64,
-    pub unfit: u64,
     pub negative: u64,
     pub tied: u64,
     pub was_on: u64,
     pub was_off: u64,
     pub differences: u64,
     pub dates: [u64; 5],
-    pub months: [u64; 3],
     pub texts: [u64; 3],
     pub limited: [u64; 8],
     pub starts: [u64; 6],
@@ -48,14 +46,12 @@ pub fn nothing() -> Tally
         planned: 0,
         refused: 0,
         missing: 0,
-        unfit: 0,
         negative: 0,
         tied: 0,
         was_on: 0,
         was_off: 0,
         differences: 0,
         dates: [0; 5],
-        months: [0; 3],
         texts: [0; 3],
         limited: [0; 8],
         starts: [0; 6],
@@ -70,7 +66,6 @@ pub fn with_case(tally: Tally, case: Case) -> Tally
 {
     let at = limits_in(case);
     let date = date_in(case);
-    let months = months_in(case);
     let mut t = tally;
     t.cases = counted(t.cases, true);
     t.negative = counted(t.negative, has_negative_price(case));
@@ -78,7 +73,6 @@ pub fn with_case(tally: Tally, case: Case) -> Tally
     t.was_off = counted(t.was_off, !case.was_on);
     t.limited[at] = counted(t.limited[at], true);
     t.dates[date] = counted(t.dates[date], true);
-    t.months[months] = counted(t.months[months], true);
     t
 }
 
@@ -113,20 +107,6 @@ fn date_in(case: Case) -> usize
     2
 }
 
-// No month figures, figures in one month, figures in two.
-fn months_in(case: Case) -> usize
-    ensures { result < 3 }
-{
-    let monthly = case.monthly;
-    if !monthly.given {
-        return 0;
-    }
-    if monthly::months_of(case) == 1 {
-        return 1;
-    }
-    2
-}
-
 fn has_negative_price(case: Case) -> bool {
     let n = enumerator::intervals_of(case);
     let up = case.up;
@@ -143,14 +123,12 @@ fn has_negative_price(case: Case) -> bool {
 pub fn with_expected(tally: Tally, expected: Expected) -> Tally
     ensures { (result.planned ≡ counting.counted tally.planned expected.planned)
         × (result.refused ≡ counting.counted tally.refused (expected.refusal == 9))
-        × (result.missing ≡ counting.counted tally.missing (expected.refusal == 12))
-        × (result.unfit ≡ counting.counted tally.unfit (expected.refusal == 13)) × (result.differences ≡ tally.differences) }
+        × (result.missing ≡ counting.counted tally.missing (expected.refusal == 12)) × (result.differences ≡ tally.differences) }
 {
     let mut t = tally;
     t.planned = counted(t.planned, expected.planned);
     t.refused = counted(t.refused, expected.refusal == 9);
     t.missing = counted(t.missing, expected.refusal == 12);
-    t.unfit = counted(t.unfit, expected.refusal == 13);
     t.tied = counted(t.tied, expected.tied);
     if !expected.planned {
         return t;

@@ -1,28 +1,20 @@
--- Each figure of the C record and each kind of outcome through one example, there and back: a figure in another's place would show. The months of some
--- intervals in numbers.
+-- Each figure of the C record and each kind of outcome through one example, there and back: a figure in another's place would show.
 use mathlib.Core.Path.{◌≡◌, refl}
 use mathlib.Core.List.{List, [], ◌∷◌, map}
-use Prim.Native.Nat.{ℕ}
 use lib.IntN.{pos, negsuc}
-use Rattle.calendar.specs.declared.Date.{Date}
-use Rattle.calendar.specs.Dates.{date, day_number, is_sunday}
-use Rattle.calendar.specs.Clock.{hours_of}
-use Rattle.calendar.specs.Months.{date_after, month_of, month_begins}
-use Rattle.checking.specs.Month.{month_at}
+use Rattle.calendar.specs.Dates.{date}
 use Rattle.commitment.specs.declared.Limit.TheVariants.{None, At}
 use Rattle.commitment.specs.declared.Outcome.{Outcome}
 use Rattle.commitment.specs.declared.Outcome.TheVariants as outcome
 use Rattle.commitment.specs.declared.Outcomes.{Outcomes}
-use Rattle.commitment.specs.declared.Months.TheVariants.{Limited}
 use Rattle.commitment.specs.declared.Permit.TheVariants.{Within}
 use Rattle.commitment.specs.declared.UnitRecord.{UnitRecord}
 use Rattle.exports.specs.declared.numbers.OutcomeNumbers.{OutcomeNumbers}
 use Rattle.exports.specs.declared.numbers.OutcomesNumbers.{OutcomesNumbers}
 use Rattle.exports.specs.declared.numbers.UnitNumbers.{UnitNumbers}
-use Rattle.exports.specs.Answers.{month_numbers}
 use Rattle.exports.specs.Records.{none, record_of, unit_numbers, outcome_numbers, outcome_from, outcomes_from, outcomes_numbers}
 
--- the figures of a case with a date and month figures, 1 to 21 in the order of the C struct
+-- the figures of a case with a date, 1 to 17 in the order of the C struct
 abbrev dated : UnitNumbers
 dated =
     record {
@@ -43,10 +35,6 @@ dated =
       month = 15;
       day = 16;
       window = 17;
-      mstarts = 18;
-      mhours = 19;
-      mmwh = 20;
-      valued = 21;
     }
 
 abbrev unit : UnitRecord
@@ -57,7 +45,6 @@ unit =
       opening = record { was = 6; held = 7 };
       limits = record { starts = At 11; hours = At 12; mwh = At 13 };
       permit = Within (record { date = date 14 15 16; word = 17 });
-      months = Limited (record { limits = record { starts = At 18; hours = At 19; mwh = At 20 }; valued = 21 });
     }
 
 record-there-and-back : (record_of dated ≡ unit) × (unit_numbers unit ≡ dated)
@@ -88,17 +75,3 @@ said = record { starts = outcome.Empty; hours = outcome.Never; mwh = outcome.Gap
 
 three-there-and-back : (outcomes_from three ≡ said) × (outcomes_numbers said ≡ three)
 three-there-and-back = (refl, refl)
-
--- ---- the month of an interval and the interval with which it begins, after the number
-
-abbrev month_row : Date → ℕ → List ℕ
-month_row d interval = let answer = month_numbers (month_at d interval) in answer.number ∷ answer.month ∷ answer.begins ∷ []
-
--- February from January 31 on; December from October 31 on, where November has a day of 25 hours; 12, and 3 at both ends
-months-told
-    : (map (month_row (date 2026 1 31)) (96 ∷ 97 ∷ []) ≡ (0 ∷ 1 ∷ 1 ∷ []) ∷ (0 ∷ 2 ∷ 97 ∷ []) ∷ [])
-    × (map (month_row (date 2026 10 31)) (2980 ∷ 2981 ∷ []) ≡ (0 ∷ 2 ∷ 97 ∷ []) ∷ (0 ∷ 3 ∷ 2981 ∷ []) ∷ [])
-    × (month_row (date 2026 2 29) 1 ≡ 12 ∷ 0 ∷ 0 ∷ [])
-    × (map (month_row (date 2026 2 28)) (0 ∷ 35137 ∷ []) ≡ (3 ∷ 0 ∷ 0 ∷ []) ∷ (3 ∷ 0 ∷ 0 ∷ []) ∷ [])
-unfolding day_number is_sunday hours_of date_after month_of month_begins
-months-told = (refl, refl, refl, refl)

@@ -8,9 +8,7 @@ use Rattle.casefile.specs.declared.CaseRead.TheVariants as read
 use Rattle.commitment.specs.declared.Checked.{Checked}
 use Rattle.commitment.specs.declared.Checked.TheVariants.{Passed, Refused}
 use Rattle.checking.specs.declared.clock.ClockRead.{ClockRead}
-use Rattle.checking.specs.declared.month.MonthRead.{MonthRead}
 use Rattle.checking.specs.Clock.{clock_number, hour_in}
-use Rattle.checking.specs.Month.{month_number, month_in, begins_in}
 use Rattle.commitment.specs.Causes.{number_of}
 use Rattle.costs.specs.declared.Costed.{Costed}
 use Rattle.costs.specs.Answers.{costed_number, costed_vec, costed_suc, costed_mlc}
@@ -31,7 +29,6 @@ use Rattle.exports.specs.declared.numbers.ClockNumbers.{ClockNumbers}
 use Rattle.exports.specs.declared.numbers.CurveNumbers.{CurveNumbers}
 use Rattle.exports.specs.declared.numbers.FiguresNumbers.{FiguresNumbers}
 use Rattle.exports.specs.declared.numbers.HoursNumbers.{HoursNumbers}
-use Rattle.exports.specs.declared.numbers.MonthNumbers.{MonthNumbers}
 use Rattle.exports.specs.declared.numbers.PlanNumbers.{PlanNumbers}
 use Rattle.exports.specs.declared.numbers.ReportNumbers.{ReportNumbers}
 use Rattle.exports.specs.declared.numbers.ValueNumbers.{ValueNumbers}
@@ -70,9 +67,6 @@ report_numbers answer =
 
 abbrev pub clock_numbers : ClockRead → ClockNumbers
 clock_numbers answer = record { number = clock_number answer; hour = hour_in answer }
-
-abbrev pub month_numbers : MonthRead → MonthNumbers
-month_numbers answer = record { number = month_number answer; month = month_in answer; begins = begins_in answer }
 
 -- ---- the clock hours of a slice of so many entries, where the check of its date and intervals passes
 

@@ -2,9 +2,6 @@
 use Rattle.std.specs.Prelude.{cond, ◌&&◌, ℕ, eqb, ℤ, pos}
 use Rattle.commitment.specs.declared.Limit.{Limit}
 use Rattle.commitment.specs.declared.Limit.TheVariants as limit
-use Rattle.commitment.specs.declared.Limits.{Limits}
-use Rattle.commitment.specs.declared.Months.{Months}
-use Rattle.commitment.specs.declared.Months.TheVariants.{Unlimited, Limited}
 use Rattle.commitment.specs.declared.Outcome.{Outcome}
 use Rattle.commitment.specs.declared.Outcome.TheVariants as outcome
 use Rattle.commitment.specs.declared.Outcomes.{Outcomes}
@@ -14,7 +11,6 @@ use Rattle.commitment.specs.declared.Permit.{Permit}
 use Rattle.commitment.specs.declared.Permit.TheVariants.{AnyHour, Within}
 use Rattle.commitment.specs.declared.Window.{Window}
 use Rattle.commitment.specs.declared.UnitRecord.{UnitRecord}
-use Rattle.commitment.specs.Limits.{figures_in}
 use Rattle.listing.specs.declared.HourWord.{HourWord}
 use Rattle.listing.specs.declared.HourWord.TheVariants as hours
 use Rattle.exports.specs.declared.numbers.UnitNumbers.{UnitNumbers}
@@ -46,20 +42,6 @@ window_numbers (Within w) = w
 abbrev pub word_from : ℕ → HourWord
 word_from word = cond (eqb word none) hours.None (hours.Word word)
 
--- ---- the months: all four at `none` is without month figures; a figure without the month to value, or that alone, is beyond the ranges
-
-abbrev pub limits_from : ℕ → ℕ → ℕ → Limits
-limits_from starts hours mwh = record { starts = limit_from starts; hours = limit_from hours; mwh = limit_from mwh }
-
-abbrev pub months_from : ℕ → ℕ → ℕ → ℕ → Months
-months_from starts hours mwh valued =
-    cond (eqb starts none && eqb hours none && eqb mwh none && eqb valued none) Unlimited
-    (Limited (record { limits = limits_from starts hours mwh; valued = valued }))
-
-abbrev pub valued_number : Months → ℕ
-valued_number Unlimited = none
-valued_number (Limited m) = m.valued
-
 -- ---- the record
 
 abbrev pub record_of : UnitNumbers → UnitRecord
@@ -68,9 +50,8 @@ record_of u =
       generator = record { block = u.block; pmin = u.pmin; pmax = u.pmax; mot = u.mot; mdt = u.mdt };
       costs = record { vec = u.vec; mlc = u.mlc; suc = u.suc };
       opening = record { was = u.was; held = u.held };
-      limits = limits_from u.starts u.hours u.mwh;
+      limits = record { starts = limit_from u.starts; hours = limit_from u.hours; mwh = limit_from u.mwh };
       permit = permit_from (date u.year u.month u.day) u.window;
-      months = months_from u.mstarts u.mhours u.mmwh u.valued;
     }
 
 abbrev pub unit_numbers : UnitRecord → UnitNumbers
@@ -93,13 +74,9 @@ unit_numbers u =
       month = (window_numbers u.permit).date.month;
       day = (window_numbers u.permit).date.day;
       window = (window_numbers u.permit).word;
-      mstarts = limit_number (figures_in u.months).starts;
-      mhours = limit_number (figures_in u.months).hours;
-      mmwh = limit_number (figures_in u.months).mwh;
-      valued = valued_number u.months;
     }
 
--- of a text that is refused: the limitations none, those of a month too, every other figure 0
+-- of a text that is refused: the limitations none, every other figure 0
 abbrev pub no_numbers : UnitNumbers
 no_numbers =
     record {
@@ -120,10 +97,6 @@ no_numbers =
       month = 0;
       day = 0;
       window = 0;
-      mstarts = none;
-      mhours = none;
-      mmwh = none;
-      valued = 0;
     }
 
 -- ---- outcomes: 0 none, 1 empty, 2 never, 3 a gap

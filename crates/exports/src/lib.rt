@@ -4,11 +4,10 @@
 mod numbers;
 
 ghost use Rattle.std.specs.Prelude.{◌≡◌, length, true};
-ghost use Rattle.commitment.specs.Cells.{cells_needed, cells_long, cells_given};
+ghost use Rattle.commitment.specs.Cells.{cells_needed, cells_long};
 ghost use Rattle.calendar.specs.Dates.{date};
 ghost use Rattle.commitment.specs.Ranges.{case_checked};
 ghost use Rattle.checking.specs.Clock.{clock_hour, clock_checked, hours_left};
-ghost use Rattle.checking.specs.Month.{month_at};
 ghost use Rattle.assessment.specs.Assessed.{assessed};
 ghost use Rattle.casefile.specs.Answers.{read_case, read_prices};
 ghost use Rattle.costs.specs.Answers.{costed};
@@ -19,7 +18,7 @@ ghost use Rattle.planner.specs.Reporting.{reported};
 ghost use Rattle.planner.specs.Valuing.{valued, scratch_valued};
 ghost use Rattle.exports.specs.Records.{record_of, outcomes_from, word_from};
 ghost use Rattle.exports.specs.Answers.{assess_numbers, case_numbers, cells_numbers, clock_numbers, curve_numbers, figures_numbers, hours_numbers};
-ghost use Rattle.exports.specs.Answers.{month_numbers, plan_numbers, report_numbers, value_numbers, written_numbers};
+ghost use Rattle.exports.specs.Answers.{plan_numbers, report_numbers, value_numbers, written_numbers};
 
 use calendar::Date;
 use commitment::Checked;
@@ -27,8 +26,8 @@ use costs::CostInputs;
 use curves::CurveInputs;
 use numbers::{
     AssessNumbers, CaseNumbers, CellsNumbers, ClockNumbers, CurveNumbers, FiguresNumbers,
-    HoursNumbers, MonthNumbers, OutcomesNumbers, PlanNumbers, ReportNumbers, UnitNumbers,
-    ValueNumbers, WrittenNumbers,
+    HoursNumbers, OutcomesNumbers, PlanNumbers, ReportNumbers, UnitNumbers, ValueNumbers,
+    WrittenNumbers,
 };
 
 // The text of a case into its record, its prices into the front of the slice.
@@ -82,13 +81,11 @@ pub extern "C" fn ralwinga_assess(
     numbers::of_assessment(assessment::assess(numbers::record_of(unit), prices, schedule))
 }
 
-// The cells of two layers, which a case of so many intervals needs, and of its long table, each the largest number where it is above 10^18; or 3, 4,
-// 12, 13 or 5. Its prices are not judged.
+// The cells of two layers, which a case of so many intervals needs, and of its long table; or 3, 4, 12 or 5. Its prices are not judged.
 #[unsafe(no_mangle)]
 pub extern "C" fn ralwinga_cells(unit: UnitNumbers, intervals: usize) -> CellsNumbers
     ensures { result
-        ≡ cells_numbers (case_checked (record_of unit) true intervals) (cells_given (cells_needed (record_of unit) intervals))
-        (cells_given (cells_long (record_of unit) intervals)) }
+        ≡ cells_numbers (case_checked (record_of unit) true intervals) (cells_needed (record_of unit) intervals) (cells_long (record_of unit) intervals) }
 {
     let record = numbers::record_of(unit);
     match checking::check_case(record, true, intervals) {
@@ -177,14 +174,6 @@ pub extern "C" fn ralwinga_clock_hours(
         checking::clock::hours_into(Date { year, month, day }, hours),
         entries,
     )
-}
-
-// The calendar month of an interval, counted from 1, the date's own counted 1, and the interval with which that month begins; or 3 or 12.
-#[unsafe(no_mangle)]
-pub extern "C" fn ralwinga_month(year: u64, month: u64, day: u64, interval: u64) -> MonthNumbers
-    ensures { result ≡ month_numbers (month_at (date year month day) interval) }
-{
-    numbers::of_month(checking::month::month_at(Date { year, month, day }, interval))
 }
 
 // The listing of a plan into the front of the buffer, with the hour word of its case, `none` where it has none.

@@ -1,7 +1,6 @@
 // Records and answers as structs of numbers, laid out as in C, and the way between them and the types of the calls.
 
 ghost use Rattle.std.specs.Prelude.{◌≡◌};
-ghost use Rattle.commitment.specs.Limits.{figures_in};
 ghost use Rattle.exports.specs.Records as records;
 ghost use Rattle.exports.specs.Answers as answers;
 
@@ -9,17 +8,16 @@ use assessment::Assessed;
 use calendar::Date;
 use casefile::CaseRead;
 use checking::clock::ClockRead;
-use checking::month::MonthRead;
 use commitment::{
-    Checked, Costs, Generator, Limit, Limits, Monthly, Months, Opening, Outcome, Outcomes, Permit,
-    UnitRecord, Window,
+    Checked, Costs, Generator, Limit, Limits, Opening, Outcome, Outcomes, Permit, UnitRecord,
+    Window,
 };
 use costs::Costed;
 use curves::Curved;
 use listing::{HourWord, Written};
 use planner::{Planned, Reported, Valued};
 
-// `none` as a number: of a limitation, in each of the four of a permit for any hour, and in each of the four of months that are not limited.
+// `none` as a number: of a limitation, and in each of the four of a permit for any hour.
 pub const NONE: u64 = 18446744073709551615;
 
 // The unit record, in the order of its fields (specification 16).
@@ -43,10 +41,6 @@ pub struct UnitNumbers {
     pub month: u64,
     pub day: u64,
     pub window: u64,
-    pub mstarts: u64,
-    pub mhours: u64,
-    pub mmwh: u64,
-    pub valued: u64,
 }
 
 // An outcome: 0 none, 1 empty, 2 never, 3 a gap; `gap` is 0 but for the last.
@@ -112,15 +106,6 @@ pub struct ClockNumbers {
     pub hour: u64,
 }
 
-// The month of an interval and the interval with which that month begins.
-#[repr(C)]
-#[derive(Drop)]
-pub struct MonthNumbers {
-    pub number: u64,
-    pub month: u64,
-    pub begins: u64,
-}
-
 #[repr(C)]
 #[derive(Drop)]
 pub struct HoursNumbers {
@@ -172,16 +157,6 @@ fn limit_from(number: u64) -> Limit
     }
 }
 
-fn limits_from(starts: u64, hours: u64, mwh: u64) -> Limits
-    ensures { result ≡ records.limits_from starts hours mwh }
-{
-    Limits {
-        starts: limit_from(starts),
-        hours: limit_from(hours),
-        mwh: limit_from(mwh),
-    }
-}
-
 // The way back, for a text that was read.
 fn limit_number(limit: Limit) -> u64
     ensures { result ≡ records.limit_number limit }
@@ -220,40 +195,6 @@ fn window_numbers(permit: Permit) -> Window
     }
 }
 
-// Without month figures where all four are none; where a figure stands without the month to value, or that alone, the group is beyond its ranges.
-fn months_from(starts: u64, hours: u64, mwh: u64, valued: u64) -> Months
-    ensures { result ≡ records.months_from starts hours mwh valued }
-{
-    if (starts == NONE) & (hours == NONE) & (mwh == NONE) & (valued == NONE) {
-        return Months::Unlimited;
-    }
-    let limits = limits_from(starts, hours, mwh);
-    Months::Limited(Monthly { limits, valued })
-}
-
-// The figures of a month, none where months are not limited.
-fn figures_in(months: Months) -> Limits
-    ensures { result ≡ figures_in months }
-{
-    match months {
-        Months::Unlimited => Limits {
-            starts: Limit::None,
-            hours: Limit::None,
-            mwh: Limit::None,
-        },
-        Months::Limited(monthly) => monthly.limits,
-    }
-}
-
-fn valued_number(months: Months) -> u64
-    ensures { result ≡ records.valued_number months }
-{
-    match months {
-        Months::Unlimited => NONE,
-        Months::Limited(monthly) => monthly.valued,
-    }
-}
-
 // NONE stands for a listing without the line of hours.
 pub fn word_from(word: u64) -> HourWord
     ensures { result ≡ records.word_from word }
@@ -286,7 +227,11 @@ pub fn record_of(unit: UnitNumbers) -> UnitRecord
             was: unit.was,
             held: unit.held,
         },
-        limits: limits_from(unit.starts, unit.hours, unit.mwh),
+        limits: Limits {
+            starts: limit_from(unit.starts),
+            hours: limit_from(unit.hours),
+            mwh: limit_from(unit.mwh),
+        },
         permit: permit_from(
             Date {
                 year: unit.year,
@@ -295,7 +240,6 @@ pub fn record_of(unit: UnitNumbers) -> UnitRecord
             },
             unit.window,
         ),
-        months: months_from(unit.mstarts, unit.mhours, unit.mmwh, unit.valued),
     }
 }
 
@@ -313,11 +257,6 @@ fn unit_numbers(unit: UnitRecord) -> UnitNumbers
     let permit = unit.permit;
     let window = window_numbers(permit);
     let date = window.date;
-    let months = unit.months;
-    let figures = figures_in(months);
-    let of_starts = figures.starts;
-    let of_hours = figures.hours;
-    let of_mwh = figures.mwh;
     UnitNumbers {
         block: g.block,
         pmin: g.pmin,
@@ -336,14 +275,10 @@ fn unit_numbers(unit: UnitRecord) -> UnitNumbers
         month: date.month,
         day: date.day,
         window: window.word,
-        mstarts: limit_number(of_starts),
-        mhours: limit_number(of_hours),
-        mmwh: limit_number(of_mwh),
-        valued: valued_number(months),
     }
 }
 
-// Of a text that is refused: the limitations none, those of a month too, every other figure 0.
+// Of a text that is refused: the limitations none, every other figure 0.
 fn no_numbers() -> UnitNumbers
     ensures { result ≡ records.no_numbers }
 {
@@ -365,10 +300,6 @@ fn no_numbers() -> UnitNumbers
         month: 0,
         day: 0,
         window: 0,
-        mstarts: NONE,
-        mhours: NONE,
-        mmwh: NONE,
-        valued: 0,
     }
 }
 
@@ -490,16 +421,6 @@ pub fn of_clock(answer: ClockRead) -> ClockNumbers
     ClockNumbers {
         number: checking::clock::number_of(answer),
         hour: checking::clock::hour_in(answer),
-    }
-}
-
-pub fn of_month(answer: MonthRead) -> MonthNumbers
-    ensures { result ≡ answers.month_numbers answer }
-{
-    MonthNumbers {
-        number: checking::month::number_of(answer),
-        month: checking::month::month_in(answer),
-        begins: checking::month::begins_in(answer),
     }
 }
 

@@ -1,7 +1,8 @@
-// Where a cell of the table stands in its layer, how many cells a layer has, and what a cell's number says. specs/Geometry has
+// Where a cell of the table stands in its layer, how many cells a layer and a table have, and what a cell's number says. specs/Geometry has
 // the places, specs/Layers the numbers; proofs/ their laws: Places, Sizes and Widths, Holding and Telling.
 
-ghost use Rattle.std.specs.Prelude.{◌≡◌};
+ghost use Rattle.std.specs.Prelude.{◌≡◌, ◌+◌, ◌*◌, ◌^◌, ◌≤◌, ◌<◌};
+ghost use Rattle.commitment.specs.Bounds.{most_intervals};
 ghost use Rattle.optimality.specs.Cells.{Sound, InTable};
 ghost use Rattle.geometry.specs.Geometry.{row, span, section, width};
 ghost use Rattle.geometry.specs.Geometry as geometry;
@@ -45,6 +46,14 @@ pub fn layer_cells(f: Figures) -> usize
     ensures { result ≡ width f }
 {
     (f.mot + f.mdt) * section_cells(f)
+}
+
+// Of a table that fits 64 bits: a layer for each interval and one more.
+pub fn table_cells(f: Figures, n: usize) -> usize
+    requires { (Sound f) × (n ≤ most_intervals) × ((n + 1) * width f < 2 ^ 64) }
+    ensures { result ≡ (n + 1) * width f }
+{
+    (n + 1) * layer_cells(f)
 }
 
 // The place of a cell in its layer.

@@ -1,33 +1,31 @@
--- The definition `best_in`, which tries lists, and the relation `IsBestIn`, which speaks of every rival, say the same, whatever the months.
+-- The definition `best`, which tries lists, and the relation `IsBest`, which speaks of every rival, say the same.
 use mathlib.Core.Path.{◌≡◌, refl, sym, ap, ap₂, ◌∙◌, subst}
 use mathlib.Core.Bool.{Bool, true, false, cond, ◌&&◌, ◌||◌, false≢true}
-use mathlib.Core.List.{List, [], ◌∷◌, ◌++◌, append_assoc, append-nil}
+use mathlib.Core.List.{List, [], ◌∷◌}
 use mathlib.Core.Logic.{◌⊎◌, ⊎_elim}
 use Prim.Native.Nat.{ℕ, ◌≤◌}
 use native.Mathlib.Omega.{arith}
 use borrow.Author.Tests.{ltb-false, eqb-true, eq-eqb}
 use lib.Dec.{ltb, eqb}
-use lib.IntN.{ℤ, pos, +ℤ_idl}
+use lib.IntN.{ℤ}
 use lib.ListN.{length}
 use lib.Signed.{◌≤ℤ◌, ◌<ℤ◌}
 use Rattle.integers.proofs.Linear.{zarith}
-use Rattle.commitment.specs.declared.BestProfit.{BestProfit}
-use Rattle.commitment.specs.declared.BestProfit.TheVariants.{Nothing, Profit}
 use Rattle.commitment.specs.declared.UnitRecord.{UnitRecord}
 use Rattle.lists.specs.Every.{every}
 use Rattle.commitment.specs.Schedule.{is_output}
-use Rattle.commitment.specs.Keeping.{keeps_in}
-use Rattle.commitment.specs.Months.{Month}
+use Rattle.commitment.specs.Keeping.{keeps_case, opens_in}
 use Rattle.commitment.specs.Profit.{profit}
 use Rattle.commitment.specs.Order.{earlier}
-use Rattle.commitment.specs.Best.{Plan, nothing, plan, profit_of, first_best, outputs, candidate_in, best_in}
-use Rattle.commitment.specs.Rivals.{RivalIn, IsBestIn}
+use Rattle.commitment.specs.Best.{Plan, nothing, plan, outputs, best}
+use Rattle.commitment.specs.Rivals.{Rival, IsBest}
 use Rattle.lists.proofs.Conjunctions.{both}
-use Rattle.optimality.specs.Machine.{Step, go, ended, after, run, best_from}
+use Rattle.optimality.specs.Machine.{anywhere, Quarter, in_quarter}
+use Rattle.optimality.specs.Cells.{quarters_of}
 use Rattle.optimality.proofs.Ranges.{Ranged}
 use Rattle.optimality.proofs.Rival.{not-plan, Beats, run_length, attained, no_rival}
-use Rattle.optimality.proofs.Commit.{lists-ext}
-use Rattle.optimality.proofs.Machine.{optimal}
+use Rattle.optimality.proofs.Commit.{Status, commit, before, candidate-run, best-steps}
+use Rattle.optimality.proofs.Quarters.{quarters-length}
 use Rattle.optimality.proofs.Outputs.{outputs-ascending, all-tried, tried-all}
 
 -- ---- the order: of two lists of one length of which neither is earlier, both are the same
@@ -63,38 +61,12 @@ from-candidate : (k : Bool) (s : List ℕ) (p q : ℤ) → cond k (plan s q) not
 from-candidate true s p q e = (refl, (cc))
 from-candidate false s p q e = absurd (not-plan e)
 
--- ---- trying every list is a machine of steps too: one that remembers the outputs so far, and is judged at its end
-
-module _ (value : List ℕ → BestProfit) where
-  abbrev note : List ℕ → ℤ → ℕ → Step (List ℕ)
-  note x i m = go (pos 0) (x ++ (m ∷ []))
-
-  abbrev shown : List ℕ → BestProfit → Plan
-  shown s Nothing = nothing
-  shown s (Profit p) = plan s p
-
-  shown-after : (m : ℕ) (s : List ℕ) (v : BestProfit) → after m (pos 0) (shown s v) ≡ shown (m ∷ s) v
-  shown-after m s Nothing = refl
-  shown-after m s (Profit p) = ap (plan (m ∷ s)) (+ℤ_idl p)
-
-  noted-run : (is : List ℤ) (x s : List ℕ) → length s ≡ length is → run (List ℕ) ℤ note value is x s ≡ shown s (value (x ++ s))
-  noted-run [] x [] e = ended-shown (value x) ∙ ap (λ (y : List ℕ). shown [] (value y)) (sym (append-nil x))
-    where
-      ended-shown : (v : BestProfit) → ended v ≡ shown [] v
-      ended-shown Nothing = refl
-      ended-shown (Profit p) = refl
-  noted-run [] x (m ∷ s) e = absurd (omega arith)
-  noted-run (i ∷ is) x [] e = absurd (omega arith)
-  noted-run (i ∷ is) x (m ∷ s) e =
-      ap (after m (pos 0)) (noted-run is (x ++ (m ∷ [])) s (omega arith) ∙ ap (λ (y : List ℕ). shown s (value y)) (append_assoc x (m ∷ []) s))
-      ∙ shown-after m s (value (x ++ (m ∷ s)))
-
-module _ (u : UnitRecord) (months : List Month) (prices : List ℤ) where
-  pub rival-length : (r : List ℕ) → RivalIn u months prices r → length r ≡ length prices
+module _ (u : UnitRecord) (prices : List ℤ) where
+  pub rival-length : (r : List ℕ) → Rival u prices r → length r ≡ length prices
   rival-length r v = eqb-true (length r) (length prices) (both (eqb (length r) (length prices)) (every (is_output u.generator) r) v.schedule).0
 
   -- what is best is best alone
-  best-alone : (s t : List ℕ) (p q : ℤ) → IsBestIn u months prices s p → IsBestIn u months prices t q → plan s p ≡ plan t q
+  best-alone : (s t : List ℕ) (p q : ℤ) → IsBest u prices s p → IsBest u prices t q → plan s p ≡ plan t q
   best-alone s t p q a b =
       let le : profit u prices t ≤ℤ p = a.most t b.own in
       let ge : profit u prices s ≤ℤ q = b.most s a.own in
@@ -108,51 +80,37 @@ module _ (u : UnitRecord) (months : List Month) (prices : List ℤ) where
       i
 
   -- and earlier than every other rival that earns as much
-  pub best-is-earlier : (s : List ℕ) (p : ℤ) → IsBestIn u months prices s p
-      → (r : List ℕ) → RivalIn u months prices r → profit u prices r ≡ p → (r ≡ s → ⊥) → earlier s r ≡ true
+  pub best-is-earlier : (s : List ℕ) (p : ℤ) → IsBest u prices s p
+      → (r : List ℕ) → Rival u prices r → profit u prices r ≡ p → (r ≡ s → ⊥) → earlier s r ≡ true
   best-is-earlier s p b r v as-much other = by (earlier s r) refl
     where
       by : (t : Bool) → earlier s r ≡ t → earlier s r ≡ true
       by true e = e
       by false e = absurd (other (neither-earlier r s (rival-length r v ∙ sym (rival-length s b.own)) (b.first r v as-much) e))
 
-  value : List ℕ → BestProfit
-  value s = profit_of (candidate_in u months prices s)
-
-  candidate-noted : (s : List ℕ) → length s ≡ length prices → candidate_in u months prices s ≡ run (List ℕ) ℤ (note value) value prices [] s
-  unfolding value
-  candidate-noted s e = by (keeps_in u months s) ∙ sym (noted-run value prices [] s e)
-    where
-      by : (k : Bool) → cond k (plan s (profit u prices s)) nothing ≡ shown value s (profit_of (cond k (plan s (profit u prices s)) nothing))
-      by true = refl
-      by false = refl
-
-  best-noted : best_in u months prices ≡ best_from (List ℕ) ℤ (note value) value (outputs u.generator) prices []
-  best-noted =
-      ap first_best
-      (lists-ext (outputs u.generator) (length prices) (candidate_in u months prices) (run (List ℕ) ℤ (note value) value prices []) candidate-noted)
-      ∙ optimal (List ℕ) ℤ (note value) value (outputs u.generator) prices []
-
   module _ (ok : Ranged u) where
-    beats-rival : (r : List ℕ) → RivalIn u months prices r → Beats (best_in u months prices) r (profit u prices r)
+    beats-rival : (r : List ℕ) → Rival u prices r → Beats (best u prices) r (profit u prices r)
     beats-rival r v =
-        rw best-noted
-        (no_rival (List ℕ) ℤ (note value) value (outputs u.generator) (outputs-ascending u ok) prices [] r (profit u prices r)
+        rw (best-steps u prices)
+        (no_rival Status Quarter (in_quarter (commit u)) anywhere (outputs u.generator) (outputs-ascending u ok) (quarters_of u prices) (before u) r
+        (profit u prices r)
         (all-tried u ok r (both (eqb (length r) (length prices)) (every (is_output u.generator) r) v.schedule).1)
-        (sym (candidate-noted r (rival-length r v)) ∙ ap (λ (k : Bool). cond k (plan r (profit u prices r)) nothing) v.kept))
+        (sym (candidate-run u prices r (rival-length r v)) ∙ ap (λ (k : Bool). cond k (plan r (profit u prices r)) nothing) v.kept))
 
-    plan-kept : (s : List ℕ) (p : ℤ) → best_in u months prices ≡ plan s p → RivalIn u months prices s × (profit u prices s ≡ p)
+    plan-kept : (s : List ℕ) (p : ℤ) → best u prices ≡ plan s p → Rival u prices s × (profit u prices s ≡ p)
     plan-kept s p e =
-        let a = attained (List ℕ) ℤ (note value) value (outputs u.generator) prices [] s p (sym best-noted ∙ e) in
-        let n = run_length (List ℕ) ℤ (note value) value prices [] s s p a.0 in
-        let k = from-candidate (keeps_in u months s) s p (profit u prices s) (candidate-noted s n ∙ a.0) in
+        let quarters = quarters_of u prices in
+        let a = attained Status Quarter (in_quarter (commit u)) anywhere (outputs u.generator) quarters (before u) s p (sym (best-steps u prices) ∙ e) in
+        let n =
+        run_length Status Quarter (in_quarter (commit u)) anywhere quarters (before u) s s p a.0 ∙ quarters-length (opens_in u.permit) 0 prices in
+        let k = from-candidate (keeps_case u s) s p (profit u prices s) (candidate-run u prices s n ∙ a.0) in
         (record { schedule = simp (eq-eqb (length s) (length prices) n) (tried-all u ok s a.1); kept = k.0 }, k.1)
 
     -- the plan that trying every list gives is the best of all rivals
-    pub plan-best : (s : List ℕ) (p : ℤ) → best_in u months prices ≡ plan s p → IsBestIn u months prices s p
+    pub plan-best : (s : List ℕ) (p : ℤ) → best u prices ≡ plan s p → IsBest u prices s p
     plan-best s p e =
         let k = plan-kept s p e in
-        let b : (r : List ℕ) → RivalIn u months prices r → (profit u prices r <ℤ p) ⊎ ((profit u prices r ≡ p) × (earlier r s ≡ false)) =
+        let b : (r : List ℕ) → Rival u prices r → (profit u prices r <ℤ p) ⊎ ((profit u prices r ≡ p) × (earlier r s ≡ false)) =
         λ r v. subst (λ (a : Plan). Beats a r (profit u prices r)) e (beats-rival r v) in
         record {
           own = k.0;
@@ -163,20 +121,20 @@ module _ (u : UnitRecord) (months : List Month) (prices : List ℤ) where
         }
 
     -- and there is none exactly where no rival exists
-    pub no-plan : best_in u months prices ≡ nothing → (r : List ℕ) → RivalIn u months prices r → ⊥
+    pub no-plan : best u prices ≡ nothing → (r : List ℕ) → Rival u prices r → ⊥
     no-plan e r v = subst (λ (a : Plan). Beats a r (profit u prices r)) e (beats-rival r v)
 
-    pub no-rivals : ((r : List ℕ) → RivalIn u months prices r → ⊥) → best_in u months prices ≡ nothing
-    no-rivals h = see (best_in u months prices) refl
+    pub no-rivals : ((r : List ℕ) → Rival u prices r → ⊥) → best u prices ≡ nothing
+    no-rivals h = see (best u prices) refl
       where
-        see : (a : Plan) → best_in u months prices ≡ a → best_in u months prices ≡ nothing
+        see : (a : Plan) → best u prices ≡ a → best u prices ≡ nothing
         see nothing e = e
         see (plan s p) e = absurd (h s (plan-kept s p e).0)
 
     -- whatever is best is what trying every list gives
-    pub best-plan : (s : List ℕ) (p : ℤ) → IsBestIn u months prices s p → best_in u months prices ≡ plan s p
-    best-plan s p b = see (best_in u months prices) refl
+    pub best-plan : (s : List ℕ) (p : ℤ) → IsBest u prices s p → best u prices ≡ plan s p
+    best-plan s p b = see (best u prices) refl
       where
-        see : (a : Plan) → best_in u months prices ≡ a → best_in u months prices ≡ plan s p
+        see : (a : Plan) → best u prices ≡ a → best u prices ≡ plan s p
         see nothing e = absurd (no-plan e s b.own)
         see (plan t q) e = e ∙ best-alone t s q p (plan-best t q e) b

@@ -16,12 +16,10 @@ use Rattle.commitment.specs.declared.Limit.{Limit}
 use Rattle.commitment.specs.declared.Limit.TheVariants.{None, At}
 use Rattle.commitment.specs.declared.UnitRecord.{UnitRecord}
 use Rattle.commitment.specs.Limits.{within}
-use Rattle.commitment.specs.Counting.{was_on, starts_in, on_intervals, output_sum}
-use Rattle.commitment.specs.Keeping.{runs_last, spells_last}
-use Rattle.commitment.specs.Keeping.{opens_in, off_where_shut, keeps_starts, keeps_runs, keeps_spells, keeps_hours, keeps_mwh, keeps_window, keeps_year}
+use Rattle.commitment.specs.Keeping.{was_on, starts_in, runs_last, spells_last, on_intervals, output_sum}
+use Rattle.commitment.specs.Keeping.{opens_in, off_where_shut, keeps_starts, keeps_runs, keeps_spells, keeps_hours, keeps_mwh, keeps_window}
 use Rattle.commitment.specs.Profit.{earned, earned_in, start_cost, profit}
-use Rattle.commitment.specs.Best.{Plan, nothing, plan, first_best, prefixed, lists, outputs, best_in}
-use Rattle.commitment.specs.Best as best_of
+use Rattle.commitment.specs.Best.{Plan, nothing, plan, first_best, prefixed, lists, candidate, outputs, best}
 use Rattle.optimality.specs.Machine.{Step, stop, go, allow, anywhere, Quarter, quarter, quarters_from, in_quarter, after, along, run, best_from}
 use Rattle.optimality.specs.Cells.{quarters_of}
 use Rattle.optimality.proofs.Machine.{map-map, map-append, along-ext, optimal}
@@ -236,7 +234,7 @@ module _ (u : UnitRecord) where
 
   -- a list of outputs, one for each interval, is a candidate exactly where it is a run
   pub candidate-run : (prices : List ℤ) (s : List ℕ) → length s ≡ length prices
-      → cond (keeps_year u s) (plan s (profit u prices s)) nothing ≡ run Status Quarter (in_quarter (commit u)) anywhere (quarters_of u prices) (before u) s
+      → candidate u prices s ≡ run Status Quarter (in_quarter (commit u)) anywhere (quarters_of u prices) (before u) s
   unfolding candidate_in
   candidate-run prices s e =
       hours-last (keeps_starts u s && keeps_runs u s && keeps_spells u s && keeps_hours u s && keeps_mwh u s) (keeps_window u s) (plan s (profit u prices s))
@@ -255,17 +253,12 @@ lists-ext ms (suc n) f g h = each (λ m. lists-ext ms n (λ s. f (m ∷ s)) (λ 
         ∙ ap₂ ◌++◌ (map-map f (λ s. j ∷ s) (lists ms n) ∙ k j ∙ sym (map-map g (λ s. j ∷ s) (lists ms n))) (each k js)
         ∙ sym (map-append g (map (λ s. j ∷ s) (lists ms n)) (prefixed js (lists ms n)))
 
-and-true : (b : Bool) → (b && true) ≡ b
-and-true true = refl
-and-true false = refl
-
--- the best of all schedules is found step by step, where no month is limited
+-- the best of all schedules is found step by step
 pub best-steps : (u : UnitRecord) (prices : List ℤ)
-    → best_in u [] prices ≡ best_from Status Quarter (in_quarter (commit u)) anywhere (outputs u.generator) (quarters_of u prices) (before u)
+    → best u prices ≡ best_from Status Quarter (in_quarter (commit u)) anywhere (outputs u.generator) (quarters_of u prices) (before u)
 best-steps u prices =
     let ms = outputs u.generator in
     let runs = run Status Quarter (in_quarter (commit u)) anywhere (quarters_of u prices) (before u) in
-    ap first_best (lists-ext ms (length prices) (best_of.candidate_in u [] prices) runs
-    (λ s e. ap (λ (k : Bool). cond k (plan s (profit u prices s)) nothing) (and-true (keeps_year u s)) ∙ candidate-run u prices s e))
+    ap first_best (lists-ext ms (length prices) (candidate u prices) runs (λ s e. candidate-run u prices s e))
     ∙ ap (λ (n : ℕ). first_best (map runs (lists ms n))) (sym (quarters-length (opens_in u.permit) 0 prices))
     ∙ optimal Status Quarter (in_quarter (commit u)) anywhere ms (quarters_of u prices) (before u)

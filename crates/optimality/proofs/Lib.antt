@@ -1,7 +1,6 @@
 -- Optimal: what the best of a case is. Better, Machine, Quarters, Values, Turns: any machine, step by step.
 -- Rival, Commit, Outputs, Best: the case as a machine. Split: a best plan cut in two. Within: smaller budgets. Shift: budgets that are not touched.
--- Simulate, Left, Cells, Opening: the machine whose state is a cell. Runs, Valuing: smaller limitations and the outcomes. Idle: months that let
--- nothing be taken. Ranges: what the checks say.
+-- Simulate, Left, Cells, Opening: the machine whose state is a cell. Runs, Valuing: smaller limitations and the outcomes. Ranges: what the checks say.
 pub mod Within
 pub mod Better
 pub mod Machine
@@ -22,7 +21,6 @@ pub mod Capped
 pub mod Cells
 pub mod Months
 pub mod Opening
-pub mod Idle
 pub mod Values
 pub mod Turns
 pub mod Valuing

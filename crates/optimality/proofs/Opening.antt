@@ -2,7 +2,7 @@
 -- reads the budgets' tops. What makes one table serve the plan and all six runs of valuing.
 use mathlib.Core.Path.{◌≡◌, refl, ap, ap₂, ◌∙◌}
 use mathlib.Core.Bool.{Bool, true, false, cond, ◌&&◌}
-use mathlib.Core.List.{List, []}
+use mathlib.Core.List.{List}
 use Prim.Native.Nat.{ℕ, ◌+◌, ◌-◌, ◌*◌, ◌≤◌, ◌<◌, min}
 use native.Mathlib.Nat.{div-one, mul-one, one-mul, mul-le-mul, div-mul-le_self, le-div_iff_mul-le}
 use native.Mathlib.Omega.{arith}
@@ -16,19 +16,18 @@ use Rattle.commitment.specs.declared.Limitation.{Limitation}
 use Rattle.commitment.specs.declared.Limitation.TheVariants.{Starts, Hours, Mwh}
 use Rattle.commitment.specs.declared.Generator.{Generator}
 use Rattle.commitment.specs.declared.UnitRecord.{UnitRecord}
-use Rattle.commitment.specs.Bounds.{most_starts, most_hours, most_mwh, most_intervals}
+use Rattle.commitment.specs.Bounds.{most_blocks, most_starts, most_hours, most_mwh, most_intervals}
 use Rattle.lists.proofs.Conjunctions.{both}
-use Rattle.commitment.specs.Ranges.{generator_kept, opening_kept, costs_kept, limits_kept, permit_kept, months_kept, ranges_kept, InOrder}
-use Rattle.commitment.specs.Counting.{was_on}
-use Rattle.commitment.specs.Keeping.{opens_in}
+use Rattle.commitment.specs.Ranges.{generator_kept, opening_kept, costs_kept, limits_kept, permit_kept, ranges_kept, InOrder}
+use Rattle.commitment.specs.Keeping.{was_on, opens_in}
+use Rattle.commitment.specs.Best.{best}
 use Rattle.commitment.specs.Cells.{in_counts, most_counts, counted}
-use Rattle.commitment.specs.Best.{best_in}
-use Rattle.commitment.specs.Months.{Month, intervals_of}
+use Rattle.commitment.specs.Months.{Month, intervals_of, best_in}
 use Rattle.commitment.specs.Limits.{limit_kept, limit_for, with_limit, limited}
 use Rattle.optimality.specs.declared.Budgets.{Budgets}
 use Rattle.optimality.specs.declared.Figures.{Figures}
 use Rattle.optimality.specs.Machine.{anywhere}
-use Rattle.optimality.specs.Cells.{taken_of, figures_with, counts_of, figures_of, Sound, InTable, quarters_of, plan_at, opening_state, opening_cell}
+use Rattle.optimality.specs.Cells.{budgets, taken_of, figures_with, counts_of, figures_of, Within, Sound, InTable, quarters_of, plan_at, opening_state, opening_cell}
 use Rattle.optimality.specs.Runs.{AtMost, Under}
 use Rattle.optimality.specs.Years.{year_plan}
 use Rattle.optimality.proofs.Ranges.{Ranged}
@@ -115,8 +114,7 @@ pub order-under : (u : UnitRecord) (n : ℕ) (limits : Limits) → Under limits 
 unfolding ranges_kept
 order-under u n limits h o =
     let groups = generator_kept u.generator && opening_kept u.opening && costs_kept u.costs in
-    let monthly = both (groups && limits_kept u.limits && permit_kept u.permit) (months_kept u.months) o.ranges in
-    let permitted = both (groups && limits_kept u.limits) (permit_kept u.permit) monthly.0 in
+    let permitted = both (groups && limits_kept u.limits) (permit_kept u.permit) o.ranges in
     let all = both groups (limits_kept u.limits) permitted.0 in
     let two = both (limit_kept most_starts u.limits.starts && limit_kept most_hours u.limits.hours) (limit_kept most_mwh u.limits.mwh) all.1 in
     let one = both (limit_kept most_starts u.limits.starts) (limit_kept most_hours u.limits.hours) two.0 in
@@ -124,10 +122,11 @@ order-under u n limits h o =
     let hours = kept_less most_hours limits.hours u.limits.hours (h Hours) one.1 in
     let mwh = kept_less most_mwh limits.mwh u.limits.mwh (h Mwh) two.1 in
     record {
-      ranges = ap₂ ◌&&◌ (ap₂ ◌&&◌ (ap₂ ◌&&◌ all.0 (ap₂ ◌&&◌ (ap₂ ◌&&◌ starts hours) mwh)) permitted.1) monthly.1;
+      ranges = ap₂ ◌&&◌ (ap₂ ◌&&◌ all.0 (ap₂ ◌&&◌ (ap₂ ◌&&◌ starts hours) mwh)) permitted.1;
       shape = o.shape;
       dated = o.dated;
       short = o.short;
+      checked = o.checked;
     }
 
 taken-same : (k l : Limit) → AtMost k l → taken_of k ≡ taken_of l
@@ -154,6 +153,15 @@ counted-rise g n which (At k) None b h = absurd h
 counted-rise g n which (At k) (At m) b h = omega (arith, counts-rise g which k m b h)
 
 module _ (u : UnitRecord) (ok : Ranged u) (n : ℕ) where
+  -- the budgets are those of so many intervals
+  pub counts-within : (most : ℕ) → n ≤ most → Within (counts_of u n) (budgets most most (most * most_blocks))
+  counts-within most h =
+      record {
+        starts = omega (arith, counted-most u.generator n Starts u.limits.starts);
+        ons = omega (arith, counted-most u.generator n Hours u.limits.hours);
+        blocks = omega (arith, counted-most u.generator n Mwh u.limits.mwh, mul-le-mul h ok.pmax-most);
+      }
+
   -- the figures are within the table's ranges
   pub figures-sound : n ≤ most_intervals → Sound (figures_of u n)
   unfolding figures_of
@@ -171,12 +179,7 @@ module _ (u : UnitRecord) (ok : Ranged u) (n : ℕ) where
         mlc = ok.mlc;
         suc = ok.suc;
         takes = record { starts = taken u.limits.starts; ons = taken u.limits.hours; blocks = taken u.limits.mwh };
-        most =
-            record {
-              starts = omega (arith, counted-most u.generator n Starts u.limits.starts);
-              ons = omega (arith, counted-most u.generator n Hours u.limits.hours);
-              blocks = omega (arith, counted-most u.generator n Mwh u.limits.mwh, mul-le-mul h ok.pmax-most);
-            };
+        most = counts-within most_intervals h;
       }
     where
       taken : (l : Limit) → taken_of l ≤ 1
@@ -213,7 +216,7 @@ same-figures u n limits h =
     )
 
 pub best-under : (u : UnitRecord) → Ranged u → (prices : List ℤ) (limits : Limits) → Under limits u.limits
-    → best_in (limited u limits) [] prices ≡ plan_at (figures_of u (length prices)) anywhere (quarters_of u prices) (opening_cell (limited u limits) (length prices))
+    → best (limited u limits) prices ≡ plan_at (figures_of u (length prices)) anywhere (quarters_of u prices) (opening_cell (limited u limits) (length prices))
 best-under u ok prices limits h =
     let n = length prices in
     let v : UnitRecord = limited u limits in
@@ -235,7 +238,7 @@ best-in-months u ok prices limits h months beside whole =
     (rw (quarters-length (opens_in u.permit) 0 prices) (opening-alike v ok (counts_of u n) n))
     ∙ ap (λ (f : Figures). year_plan u.generator f months (quarters_of u prices) (opening_cell v n)) (same-figures u n limits h)
 
--- the best plan is that of the opening cell, where no month is limited
+-- the best plan is that of the opening cell
 pub best-cell : (u : UnitRecord) → Ranged u → (prices : List ℤ)
-    → best_in u [] prices ≡ plan_at (figures_of u (length prices)) anywhere (quarters_of u prices) (opening_cell u (length prices))
+    → best u prices ≡ plan_at (figures_of u (length prices)) anywhere (quarters_of u prices) (opening_cell u (length prices))
 best-cell u ok prices = best-under u ok prices u.limits (under-itself u.limits)

@@ -11,7 +11,6 @@ use Rattle.commitment.specs.declared.Limitation.{Limitation}
 use Rattle.commitment.specs.declared.Outcome.{Outcome}
 use Rattle.commitment.specs.declared.UnitRecord.{UnitRecord}
 use Rattle.commitment.specs.Ranges.{ranges_kept, shape_kept}
-use Rattle.commitment.specs.Keeping.{months_for}
 use Rattle.commitment.specs.Best.{nothing, plan, best}
 use Rattle.commitment.specs.Rivals.{Rival, IsBest}
 use Rattle.commitment.specs.Valuing.{outcome_of}
@@ -23,15 +22,15 @@ use Rattle.optimality.proofs.Valuing as valuing
 module _ (u : UnitRecord) (ranges : ranges_kept u ≡ true) (shape : shape_kept u.generator ≡ true) (prices : List ℤ) where
   -- the plan is best, and whatever is best is the plan
   pub plan-exactly : (s : List ℕ) (p : ℤ) → (best u prices ≡ plan s p) ↔ IsBest u prices s p
-  plan-exactly s p = (best_of.plan-best u (months_for u (length prices)) prices (ranged u ranges shape) s p, best_of.best-plan u (months_for u (length prices)) prices (ranged u ranges shape) s p)
+  plan-exactly s p = (best_of.plan-best u prices (ranged u ranges shape) s p, best_of.best-plan u prices (ranged u ranges shape) s p)
 
   -- it has an output for each interval
   pub plan-length : (s : List ℕ) (p : ℤ) → best u prices ≡ plan s p → length s ≡ length prices
-  plan-length s p e = best_of.rival-length u (months_for u (length prices)) prices s ((plan-exactly s p).0 e).own
+  plan-length s p e = best_of.rival-length u prices s ((plan-exactly s p).0 e).own
 
   -- there is no schedule exactly when no rival exists
   pub no-schedule-exactly : (best u prices ≡ nothing) ↔ ((r : List ℕ) → Rival u prices r → ⊥)
-  no-schedule-exactly = (best_of.no-plan u (months_for u (length prices)) prices (ranged u ranges shape), best_of.no-rivals u (months_for u (length prices)) prices (ranged u ranges shape))
+  no-schedule-exactly = (best_of.no-plan u prices (ranged u ranges shape), best_of.no-rivals u prices (ranged u ranges shape))
 
   -- each outcome is what it says of the best profits of two runs, exactly; a gap is never below zero (specs/Outcomes)
   pub outcome-exactly : (which : Limitation) (o : Outcome) → (o ≡ outcome_of u prices which) ↔ Says u prices which o

@@ -12,7 +12,7 @@ use Rattle.integers.proofs.Order.{lt_z-dec, le-lt_z}
 use Rattle.commitment.specs.declared.BestProfit.TheVariants.{Profit}
 use Rattle.commitment.specs.declared.Generator.{Generator}
 use Rattle.commitment.specs.declared.UnitRecord.{UnitRecord}
-use Rattle.commitment.specs.Keeping.{keeps_in, months_for}
+use Rattle.commitment.specs.Keeping.{keeps_case}
 use Rattle.commitment.specs.Profit.{profit}
 use Rattle.commitment.specs.Best.{Plan, nothing, plan, profit_of, ladder, outputs, lists, better, first_best, candidate, best}
 use Rattle.commitment.specs.Tries.{tries_for, best_after, reaching, first_that, next_after, read_from}
@@ -119,7 +119,7 @@ module _ (u : UnitRecord) (prices : List ℤ) (block : 1 ≤ u.generator.block) 
       (fun_ext (λ m. fun_ext (λ s. ap (candidate u prices) (sym (append_assoc begun (m ∷ []) s)))))
 
   own : (s t : List ℕ) (p : ℤ) → candidate u prices s ≡ plan t p → s ≡ t
-  own s t p e = by (keeps_in u (months_for u (length prices)) s) e
+  own s t p e = by (keeps_case u s) e
     where
       by : (k : Bool) → cond k (plan s (profit u prices s)) nothing ≡ plan t p → s ≡ t
       by true e = cc

@@ -14,11 +14,8 @@ use Rattle.commitment.specs.declared.Limits.{Limits}
 use Rattle.commitment.specs.declared.BestProfit.{BestProfit}
 use Rattle.commitment.specs.declared.UnitRecord.{UnitRecord}
 use Rattle.commitment.specs.Best.{Plan, nothing, plan, outputs, lists, first_best}
-use Rattle.commitment.specs.Counting.{was_on, starts_in, on_intervals, output_sum}
-use Rattle.commitment.specs.Keeping.{opens_in, keeps_year}
-use Rattle.commitment.specs.Counting.{on_after}
-use Rattle.commitment.specs.Best.{candidate_in, best_in}
-use Rattle.commitment.specs.Months.{Month, keeps_month, keeps_months, intervals_of}
+use Rattle.commitment.specs.Keeping.{was_on, opens_in, starts_in, on_intervals, output_sum, keeps_case}
+use Rattle.commitment.specs.Months.{Month, on_after, keeps_in, keeps_months, intervals_of, candidate_in, best_in}
 use Rattle.commitment.specs.Profit.{profit}
 use Rattle.optimality.specs.Machine.{Step, stop, go, allow, Quarter, in_quarter, anywhere, along, after, run, best_from}
 use Rattle.optimality.specs.Cells.{quarters_of}
@@ -97,7 +94,7 @@ module _ (later : List YearQuarter) (rest : List ℕ) (after : Bool → Bool)
 
   -- from its first quarter on the figures stand anew
   from_first : (limits : Limits) (qs : List Quarter) (s : List ℕ) (on : Bool) (a b c : Limit) → length s ≡ length qs
-      → passed (month_from limits qs ++ later) (spare on a b c) (s ++ rest) ≡ (keeps_month limits on s && after (on_after on s))
+      → passed (month_from limits qs ++ later) (spare on a b c) (s ++ rest) ≡ (keeps_in limits on s && after (on_after on s))
   from_first limits [] [] on a b c e = alone on a b c ∙ simp (within-counted, affords-none)
   from_first limits [] (m ∷ s) on a b c e = absurd (omega arith)
   from_first limits (q ∷ qs) [] on a b c e = absurd (omega arith)
@@ -171,7 +168,7 @@ module _ (u : UnitRecord) where
     candidate-year s e =
         let kept = keeps_months months (was_on u.opening) s in
         let runs = run Status Quarter (in_quarter (commit u)) anywhere (quarters_of u prices) (before u) s in
-        hours-last (keeps_year u s) kept (plan s (profit u prices s))
+        hours-last (keeps_case u s) kept (plan s (profit u prices s))
         ∙ ap (λ (p : Plan). cond kept p nothing) (candidate-run u prices s e)
         ∙ ap₂ (λ (t : Bool) (p : Plan). cond t p nothing)
         (sym (months-pass months (quarters_of u prices) s (was_on u.opening) None None None (e ∙ sym (quarters-length (opens_in u.permit) 0 prices))))

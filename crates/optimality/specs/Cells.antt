@@ -8,8 +8,7 @@ use Rattle.commitment.specs.declared.BestProfit.{BestProfit}
 use Rattle.commitment.specs.declared.BestProfit.TheVariants.{Nothing}
 use Rattle.commitment.specs.declared.UnitRecord.{UnitRecord}
 use Rattle.commitment.specs.Bounds.{most_mw, most_blocks, most_time, most_vec, most_mlc, most_suc, most_intervals}
-use Rattle.commitment.specs.Counting.{was_on}
-use Rattle.commitment.specs.Keeping.{opens_in}
+use Rattle.commitment.specs.Keeping.{was_on, opens_in}
 use Rattle.commitment.specs.Profit.{margin}
 use Rattle.commitment.specs.Best.{Plan, ladder}
 use Rattle.commitment.specs.Cells.{count_for}

@@ -1,49 +1,40 @@
 -- What an outcome says of a limitation, by rivals (specification 9).
-use Rattle.std.specs.Prelude.{◌≡◌, List, ◌⊎◌, ℕ, ℤ, pos, ◌-ℤ◌, length, ◌≤ℤ◌}
+use Rattle.std.specs.Prelude.{◌≡◌, List, ℕ, suc, ℤ, pos, ◌-ℤ◌, ◌≤ℤ◌}
 use Rattle.commitment.specs.declared.Limit.TheVariants as limit
 use Rattle.commitment.specs.declared.Limitation.{Limitation}
 use Rattle.commitment.specs.declared.Outcome.{Outcome}
 use Rattle.commitment.specs.declared.Outcome.TheVariants as outcome
 use Rattle.commitment.specs.declared.UnitRecord.{UnitRecord}
-use Rattle.commitment.specs.Limits.{limit_for, month_limit}
-use Rattle.commitment.specs.Months.{Month}
-use Rattle.commitment.specs.Rivals.{RivalIn, IsBestIn}
-use Rattle.commitment.specs.Valuing.{lowered, runs_of, two}
+use Rattle.commitment.specs.Limits.{limit_for}
+use Rattle.commitment.specs.Rivals.{Rival, IsBest}
+use Rattle.commitment.specs.Valuing.{lowered, run_at}
 
--- a month figure whose nine tenths round to 0
-pub record MonthEmpty (u : UnitRecord) (which : Limitation) : Type 0 where
-  pub figure : ℕ
-  pub limited : month_limit u.months which ≡ limit.At figure
-  pub nine-tenths : lowered figure ≡ 0
-
--- `empty`: nine tenths of the figure, or of the month figure, round to 0
+-- `empty`: nine tenths rounds to 0
 pub record EmptyAt (u : UnitRecord) (which : Limitation) : Type 0 where
   pub figure : ℕ
   pub limited : limit_for u.limits which ≡ limit.At figure
-  pub nine-tenths : (lowered figure ≡ 0) ⊎ MonthEmpty u which
+  pub nine-tenths : lowered figure ≡ 0
 
--- `never`: not empty, and no schedule keeps the lower run
+-- `never`: not empty, and no schedule keeps the figure one unit less
 pub record NeverAt (u : UnitRecord) (prices : List ℤ) (which : Limitation) : Type 0 where
-  pub first : UnitRecord
-  pub months : List Month
-  pub lower : UnitRecord
-  pub lower-months : List Month
-  pub runs : runs_of u (length prices) which ≡ two first months lower lower-months
-  pub none-lower : (r : List ℕ) → RivalIn lower lower-months prices r → ⊥
+  pub figure : ℕ
+  pub less : ℕ
+  pub limited : limit_for u.limits which ≡ limit.At figure
+  pub nine-tenths : lowered figure ≡ suc less
+  pub none-lower : (r : List ℕ) → Rival (run_at u which less) prices r → ⊥
 
 -- the gap in quarter-cents: the first run's best profit less the lower run's
 pub record GapAt (u : UnitRecord) (prices : List ℤ) (which : Limitation) (gap : ℤ) : Type 0 where
-  pub first : UnitRecord
-  pub months : List Month
-  pub lower : UnitRecord
-  pub lower-months : List Month
-  pub runs : runs_of u (length prices) which ≡ two first months lower lower-months
+  pub figure : ℕ
+  pub less : ℕ
+  pub limited : limit_for u.limits which ≡ limit.At figure
+  pub nine-tenths : lowered figure ≡ suc less
   pub schedule : List ℕ
   pub profit : ℤ
-  pub best : IsBestIn first months prices schedule profit
+  pub first : IsBest (run_at u which (suc less)) prices schedule profit
   pub lower-schedule : List ℕ
   pub lower-profit : ℤ
-  pub lower-best : IsBestIn lower lower-months prices lower-schedule lower-profit
+  pub lower : IsBest (run_at u which less) prices lower-schedule lower-profit
   pub difference : gap ≡ profit -ℤ lower-profit
   pub never-below-zero : pos 0 ≤ℤ gap
 

@@ -1,25 +1,23 @@
 -- What is found before any work and by it, in turn; and what it says that a case passed: the slices lent are long enough.
 use mathlib.Core.Path.{◌≡◌, refl, sym, ap, ◌∙◌}
-use mathlib.Core.Bool.{Bool, true, false, cond, false≢true}
+use mathlib.Core.Bool.{Bool, true, false, cond}
 use mathlib.Core.List.{List, [], ◌∷◌, ◌++◌}
 use Prim.Native.Nat.{ℕ, zero, suc, ◌+◌, ◌*◌, ◌≤◌, ◌<◌}
-use native.Mathlib.Nat.{mul-le-mul_right}
 use native.Mathlib.Omega.{arith}
+use borrow.Author.Tests.{leb-true, leb-false, le-leb, lt-leb}
 use lib.Dec.{leb}
 use lib.IntN.{ℤ, pos}
 use lib.ListN.{length, drop, replicate}
-use lib.Seq.{drop_at}
 use Rattle.commitment.specs.declared.Cause.TheVariants.{Length, Scratch}
 use Rattle.commitment.specs.declared.Checked.TheVariants.{Passed}
 use Rattle.commitment.specs.declared.UnitRecord.{UnitRecord}
 use Rattle.commitment.specs.Causes.{◌else◌, first_of}
-use Rattle.commitment.specs.Bounds.{most_intervals, most_cells}
-use Rattle.commitment.specs.Cells.{layer_cells, month_cells, cells_needed, cells_long, cells_used, met}
+use Rattle.commitment.specs.Bounds.{most_intervals}
+use Rattle.commitment.specs.Cells.{layer_cells, cells_needed, cells_long, cells_used}
 use Rattle.commitment.specs.Keeping.{opens_in}
 use Rattle.commitment.specs.Ranges.{prices_kept, permit_kept, date_kept, case_checks, case_checked}
 use Rattle.commitment.specs.declared.windows.Hours.{Hours}
 use Rattle.commitment.specs.Windows.{opens, HoursOf}
-use Rattle.commitment.proofs.Cells.{met-so, met-both, needed-alone, long-alone}
 use Rattle.commitment.proofs.Causes.{checked_then, in-turn, unless-passed, then-passed}
 use Rattle.commitment.proofs.Passing.{Passing, passing}
 use Rattle.commitment.proofs.Ranges.{in-range}
@@ -55,7 +53,7 @@ module _ (u : UnitRecord) (prices : List ℤ) where
   unfolding lent_checked value_lent
   value_lent_lem scratch =
       in-turn (case_checks u (prices_kept prices) (length prices)) (slices_checks u (length prices) true scratch)
-      ∙ sym (in-turn (case_checks u (prices_kept prices) (length prices)) ((met (cells_needed u (length prices)) scratch else Scratch) ∷ []))
+      ∙ sym (in-turn (case_checks u (prices_kept prices) (length prices)) ((leb (cells_needed u (length prices)) scratch else Scratch) ∷ []))
 
   pub plan-turn : (scratch schedule : ℕ)
       → plan_checked u prices scratch schedule ≡ checked_then (lent_checked u prices (leb (length prices) schedule) scratch) (schedule_checked u prices)
@@ -71,7 +69,7 @@ module _ (u : UnitRecord) (prices : List ℤ) where
 pub record Lent (u : UnitRecord) (prices : List ℤ) (long : Bool) (scratch : ℕ) : Type 0 where
   pub case : Passing u (prices_kept prices) (length prices)
   pub entries : long ≡ true
-  pub cells : met (cells_needed u (length prices)) scratch ≡ true
+  pub cells : cells_needed u (length prices) ≤ scratch
 
 pub lent : (u : UnitRecord) (prices : List ℤ) (long : Bool) (scratch : ℕ) → lent_checked u prices long scratch ≡ Passed → Lent u prices long scratch
 lent u prices long scratch e =
@@ -79,8 +77,8 @@ lent u prices long scratch e =
     let slices = first_of (slices_checks u (length prices) long scratch) in
     let a = then-passed case slices (sym (lent-turn u prices long scratch) ∙ e) in
     let b = unless-passed long Length _ a.1 in
-    let c = unless-passed (met (cells_needed u (length prices)) scratch) Scratch Passed b.1 in
-    record { case = passing u (prices_kept prices) (length prices) a.0; entries = b.0; cells = c.0 }
+    let c = unless-passed (leb (cells_needed u (length prices)) scratch) Scratch Passed b.1 in
+    record { case = passing u (prices_kept prices) (length prices) a.0; entries = b.0; cells = leb-true (cells_needed u (length prices)) scratch c.0 }
 
 -- ---- of a case that passed, what its model is made of
 
@@ -102,11 +100,11 @@ quarters-are u prices short hours of = quarters-same (opens hours) (opens_in u.p
 -- ---- which cells are used
 
 module _ (u : UnitRecord) (n lent : ℕ) where
-  pub long-used : met (cells_long u n) lent ≡ true → cells_long u n ≡ cells_used u n lent
-  long-used fits = rw fits
+  pub long-used : cells_long u n ≤ lent → cells_long u n ≡ cells_used u n lent
+  long-used fits = rw (le-leb (cells_long u n) lent fits)
 
-  pub two-used : met (cells_long u n) lent ≡ false → cells_needed u n ≡ cells_used u n lent
-  two-used short = rw short
+  pub two-used : lent < cells_long u n → cells_needed u n ≡ cells_used u n lent
+  two-used short = rw (lt-leb (cells_long u n) lent short)
 
 -- ---- what the functions below ask, of a model
 
@@ -120,76 +118,48 @@ module _ (u : UnitRecord) (prices : List ℤ) (lent : ℕ) (m : Model) (of : Mod
   layer-is : m.width ≡ layer_cells u (length prices)
   layer-is = of.wide ∙ ap width of.figures ∙ width_is u (length prices)
 
-  -- what is needed, and what the long table takes, in layers: no month asks for more
-  needed-is : cells_needed u (length prices) ≡ 2 * layer_cells u (length prices)
-  needed-is = needed-alone u (length prices) of.alone
-
-  long-is : cells_long u (length prices) ≡ (length prices + 1) * layer_cells u (length prices)
-  long-is = long-alone u (length prices) of.alone
-
   pub quarters : quarters_in m.hours prices ≡ quarters_of u prices
   quarters = quarters-are u prices of.order.short m.hours of.opened
 
   -- the long table, where it is used
   module _ (long : m.long ≡ true) where
-    long-met : met (cells_long u (length prices)) lent ≡ true
-    long-met = sym of.long ∙ long
-
-    long-both : (cells_long u (length prices) ≤ most_cells) × (cells_long u (length prices) ≤ lent)
-    long-both = met-both (cells_long u (length prices)) lent long-met
+    pub long-fits : cells_long u (length prices) ≤ lent
+    long-fits = leb-true _ _ (sym of.long ∙ long)
 
     pub long-room : Room m.figures (length prices) lent
-    long-room = record { sound = sound; short = of.order.short; fits = rw (of.figures, width_is u (length prices)) (rw long-is at long-both.1) }
+    long-room = record { sound = sound; short = of.order.short; fits = rw (of.figures, width_is u (length prices)) long-fits }
 
     pub table-used : (length prices + 1) * m.width ≡ cells_used u (length prices) lent
-    table-used = ap (λ (n : ℕ). (length prices + 1) * n) layer-is ∙ sym long-is ∙ long-used u (length prices) lent long-met
+    table-used = ap (λ (n : ℕ). (length prices + 1) * n) layer-is ∙ long-used u (length prices) lent long-fits
 
   -- two layers, which are lent in any case
-  two-both : (cells_needed u (length prices) ≤ most_cells) × (cells_needed u (length prices) ≤ lent)
-  two-both = met-both (cells_needed u (length prices)) lent of.needed
-
   pub two-fit : m.width + m.width ≤ lent
-  two-fit = omega (arith, layer-is, needed-is, two-both.1)
+  two-fit = omega (arith, layer-is, of.needed)
 
   module _ (short : m.long ≡ false) where
-    too_long : met (cells_long u (length prices)) lent ≡ false
-    too_long = sym of.long ∙ short
+    too_long : lent < cells_long u (length prices)
+    too_long = leb-false _ _ (sym of.long ∙ short)
 
     pub layers-used : m.width + m.width ≡ cells_used u (length prices) lent
     layers-used =
         let twice : m.width + m.width ≡ 2 * m.width = omega arith in
-        twice ∙ ap (λ (k : ℕ). 2 * k) layer-is ∙ sym needed-is ∙ two-used u (length prices) lent too_long
+        twice ∙ ap (λ (k : ℕ). 2 * k) layer-is ∙ two-used u (length prices) lent too_long
 
     -- where the long table does not fit and two layers do, there are two intervals
     pub two-intervals : 2 ≤ length prices
-    two-intervals = by (length prices) two-both too_long
+    two-intervals = by (length prices) of.needed too_long
       where
-        -- a long table no larger than two layers would be met as well
-        no-larger : (n : ℕ) → cells_long u n ≤ cells_needed u n → (cells_needed u n ≤ most_cells) × (cells_needed u n ≤ lent)
-            → met (cells_long u n) lent ≡ false → ⊥
-        no-larger n less fits unmet = false≢true (sym unmet ∙ met-so (cells_long u n) lent (omega (arith, fits.0)) (omega (arith, fits.1)))
-
-        few : (n : ℕ) → n + 1 ≤ 2 → cells_long u n ≤ cells_needed u n
-        few n h = mul-le-mul_right (month_cells u n) (mul-le-mul_right (layer_cells u n) h)
-
-        by : (n : ℕ) → (cells_needed u n ≤ most_cells) × (cells_needed u n ≤ lent) → met (cells_long u n) lent ≡ false → 2 ≤ n
-        by zero fits unmet = absurd (no-larger 0 (few 0 (omega arith)) fits unmet)
-        by (suc zero) fits unmet = absurd (no-larger 1 (few 1 (omega arith)) fits unmet)
-        by (suc (suc n)) fits unmet = omega arith
+        by : (n : ℕ) → cells_needed u n ≤ lent → lent < cells_long u n → 2 ≤ n
+        by zero fits less = absurd (omega (arith, fits, less))
+        by (suc zero) fits less = absurd (omega (arith, fits, less))
+        by (suc (suc n)) fits less = omega arith
 
   pub used-fits : cells_used u (length prices) lent ≤ lent
   used-fits = by m.long refl
     where
       by : (t : Bool) → m.long ≡ t → cells_used u (length prices) lent ≤ lent
-      by true e = rw (sym of.long ∙ e) (long-both e).1
-      by false e = rw (sym of.long ∙ e) two-both.1
-
-  pub used-counted : cond m.long (cells_long u (length prices)) (cells_needed u (length prices)) ≤ most_cells
-  used-counted = by m.long refl
-    where
-      by : (t : Bool) → m.long ≡ t → cond m.long (cells_long u (length prices)) (cells_needed u (length prices)) ≤ most_cells
-      by true e = rw e (long-both e).0
-      by false e = rw e two-both.0
+      by true e = rw (sym of.long ∙ e) (long-fits e)
+      by false e = rw (sym of.long ∙ e) of.needed
 
   -- a pass over the whole case
   pub case-asked : CaseAsked m.figures prices m.hours m.width lent
@@ -227,7 +197,7 @@ module _ (u : UnitRecord) (prices : List ℤ) (m : Model) (cells : List ℤ) (of
             record {
               sound = sound u prices (length cells) m of;
               short = omega arith;
-              fits = rw (of.figures, width_is u (length prices)) (rw (needed-is u prices (length cells) m of) at (two-both u prices (length cells) m of).1);
+              fits = rw (of.figures, width_is u (length prices)) of.needed;
             };
         wide = of.wide;
         short = of.order.short;
@@ -238,7 +208,7 @@ module _ (u : UnitRecord) (prices : List ℤ) (m : Model) (cells : List ℤ) (of
   -- the first layer, brought to the front, tells
   pub told : {planning : Bool} → Begun m prices planning cells → Told u prices cells
   told begun =
-      told_in u prices cells of.alone of.order (omega (arith, two-fit u prices (length cells) m of, ap width of.figures, of.wide))
+      told_in u prices cells of.order (omega (arith, two-fit u prices (length cells) m of, ap width of.figures, of.wide))
       (rw (of.figures, quarters u prices (length cells) m of) at begun.layer)
 
 -- ---- the scratch after the cells used are cleared, of which the work left what lies behind them
@@ -247,8 +217,3 @@ pub cleared : (used needed : ℕ) (was left : List ℤ) → used ≡ needed → 
     → replicate used (pos 0) ++ drop used left ≡ scratch_after Passed needed was
 cleared used needed was left e behind =
     ap (λ (rest : List ℤ). replicate used (pos 0) ++ rest) behind ∙ ap (λ (n : ℕ). replicate n (pos 0) ++ drop n was) e
-
--- the scratch after the cells used were lent on and cleared
-pub front-cleared : (used needed : ℕ) (front was : List ℤ) → used ≡ needed → length front ≡ used
-    → replicate used (pos 0) ++ drop used (front ++ drop used was) ≡ scratch_after Passed needed was
-front-cleared used needed front was e long = cleared used needed was (front ++ drop used was) e (drop_at front (drop used was) used long)

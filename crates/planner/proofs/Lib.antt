@@ -3,5 +3,3 @@
 pub mod Lent
 mod Worked
 pub mod Answering
-pub mod Yearly
-pub mod Still

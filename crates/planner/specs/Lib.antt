@@ -3,4 +3,3 @@ pub mod Planning
 pub mod Valuing
 pub mod Reporting
 pub mod Models
-pub mod Years

@@ -7,7 +7,7 @@ use Rattle.commitment.specs.declared.Checked.TheVariants as checked
 use Rattle.commitment.specs.declared.UnitRecord.{UnitRecord}
 use Rattle.commitment.specs.Best.{Plan, nothing, plan, best}
 use Rattle.commitment.specs.Causes.{number_of, Check, ◌else◌, first_of}
-use Rattle.commitment.specs.Cells.{cells_needed, cells_used, met}
+use Rattle.commitment.specs.Cells.{cells_needed, cells_used}
 use Rattle.commitment.specs.Ranges.{prices_kept, case_checks}
 use Rattle.planner.specs.declared.Planned.{Planned}
 use Rattle.planner.specs.declared.Planned.TheVariants.{Plan as Given, Refused}
@@ -16,7 +16,7 @@ use Rattle.planner.specs.declared.Planned.TheVariants.{Plan as Given, Refused}
 
 -- beside a schedule slice that is long enough or not, a scratch of so many cells
 abbrev pub slices_checks : UnitRecord → ℕ → Bool → ℕ → List Check
-slices_checks u n long scratch = (long else Length) ∷ (met (cells_needed u n) scratch else Scratch) ∷ []
+slices_checks u n long scratch = (long else Length) ∷ (leb (cells_needed u n) scratch else Scratch) ∷ []
 
 abbrev pub lent_checks : UnitRecord → List ℤ → Bool → ℕ → List Check
 lent_checks u prices long scratch = case_checks u (prices_kept prices) (length prices) ++ slices_checks u (length prices) long scratch

@@ -1,5 +1,5 @@
 -- Valuing (specification 9): the three outcomes, or why there are none.
-use Rattle.std.specs.Prelude.{List, [], ◌∷◌, ◌++◌, ℕ, ℤ, length}
+use Rattle.std.specs.Prelude.{List, [], ◌∷◌, ◌++◌, ℕ, leb, ℤ, length}
 use Rattle.commitment.specs.declared.Cause.TheVariants.{Scratch}
 use Rattle.commitment.specs.declared.Checked.{Checked}
 use Rattle.commitment.specs.declared.Checked.TheVariants.{Passed}
@@ -7,7 +7,7 @@ use Rattle.commitment.specs.declared.Checked.TheVariants as checked
 use Rattle.commitment.specs.declared.Outcomes.{Outcomes}
 use Rattle.commitment.specs.declared.UnitRecord.{UnitRecord}
 use Rattle.commitment.specs.Causes.{number_of, Check, ◌else◌, first_of}
-use Rattle.commitment.specs.Cells.{cells_needed, cells_used, met}
+use Rattle.commitment.specs.Cells.{cells_needed, cells_used}
 use Rattle.commitment.specs.Ranges.{prices_kept, case_checks}
 use Rattle.commitment.specs.Valuing.{outcomes_of, no_outcomes}
 use Rattle.planner.specs.Planning.{schedule_checks, scratch_after}
@@ -18,7 +18,7 @@ use Rattle.planner.specs.declared.Valued.TheVariants.{Outcomes as Given, Refused
 
 abbrev pub value_lent_checks : UnitRecord → List ℤ → ℕ → List Check
 value_lent_checks u prices scratch =
-    case_checks u (prices_kept prices) (length prices) ++ (met (cells_needed u (length prices)) scratch else Scratch) ∷ []
+    case_checks u (prices_kept prices) (length prices) ++ (leb (cells_needed u (length prices)) scratch else Scratch) ∷ []
 
 abbrev pub value_checks : UnitRecord → List ℤ → ℕ → List Check
 value_checks u prices scratch = value_lent_checks u prices scratch ++ schedule_checks u prices

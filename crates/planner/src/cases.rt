@@ -1,4 +1,4 @@
-// A case that passed its checks, by whether its months are limited.
+// A case that passed its checks: its first layer is brought to the front and read, and the cells used are cleared.
 
 ghost use Rattle.std.specs.Prelude.{◌≡◌, true, ◌≤◌, length};
 ghost use Rattle.commitment.specs.declared.Checked.TheVariants.{Passed};
@@ -9,9 +9,10 @@ ghost use Rattle.planner.specs.Planning.{lent_checked, schedule_checked, schedul
 ghost use Rattle.planner.specs.Reporting.{reported_by};
 ghost use Rattle.planner.specs.Valuing.{valued_by};
 
-use crate::{Reported, Valued, plain, years};
-use commitment::{Months, UnitRecord};
+use crate::{Reported, Valued, models, reading};
+use commitment::UnitRecord;
 
+// A plan is read here, so that the pass through two layers marks the middle.
 pub fn report_case(
     unit: UnitRecord,
     prices: &[i64],
@@ -25,22 +26,26 @@ pub fn report_case(
     ensures scratch_after { scratch.new
         ≡ scratch_after Passed (cells_used unit (length prices.now) (length scratch.old)) scratch.old }
 {
-    let months = unit.months;
-    match months {
-        Months::Unlimited => plain::report(unit, prices, scratch, schedule),
-        Months::Limited(monthly) => years::report(unit, monthly, prices, scratch, schedule),
-    }
+    let model = models::model_of(unit, prices, scratch.len());
+    models::first_layer(unit, model, prices, &mut *scratch, true);
+    let answer = reading::read_report(unit, model, prices, &mut *scratch, schedule);
+    let used = models::cells_used(unit, prices.len(), model.long);
+    layers::clear(scratch, used);
+    answer
 }
 
+// No plan is read here, and nothing is marked.
 pub fn value_case(unit: UnitRecord, prices: &[i64], scratch: &mut [i64]) -> Valued
     requires { lent_checked unit prices.now true (length scratch.old) ≡ Passed }
     ensures value { result ≡ valued_by (schedule_checked unit prices.now) (outcomes_of unit prices.now) }
     ensures scratch_after { scratch.new
         ≡ scratch_after Passed (cells_used unit (length prices.now) (length scratch.old)) scratch.old }
 {
-    let months = unit.months;
-    match months {
-        Months::Unlimited => plain::value(unit, prices, scratch),
-        Months::Limited(monthly) => years::value(unit, monthly, prices, scratch),
-    }
+    let model = models::model_of(unit, prices, scratch.len());
+    models::first_layer(unit, model, prices, &mut *scratch, false);
+    let f = model.figures;
+    let answer = reading::read_outcomes(unit, f, prices, &scratch[..]);
+    let used = models::cells_used(unit, prices.len(), model.long);
+    layers::clear(scratch, used);
+    answer
 }

@@ -7,7 +7,7 @@ ghost use Rattle.planner.specs.Planning.{slices_checks, lent_checked};
 
 use commitment::{Cause, Checked, UnitRecord};
 
-// 3, 4, 12, 13, 5, then 7 where a schedule slice is not long enough, then 8.
+// 3, 4, 12, 5, then 7 where a schedule slice is not long enough, then 8.
 pub fn check_lent(unit: UnitRecord, prices: &[i64], long: bool, scratch: usize) -> Checked
     ensures { result ≡ lent_checked unit prices.now long scratch }
 {
@@ -26,7 +26,7 @@ pub fn check_slices(unit: UnitRecord, n: usize, long: bool, scratch: usize) -> C
     if !long {
         return Checked::Refused(Cause::Length);
     }
-    if !budgets::met(budgets::cells_needed(unit, n), scratch) {
+    if scratch < budgets::cells_needed(unit, n) {
         return Checked::Refused(Cause::Scratch);
     }
     Checked::Passed

@@ -1,15 +1,11 @@
-// Planning and valuing: the calls of the outside, none of which has a `requires`. Below them: what an answer holds (contents), what is found before any work
-// (checks), and a case that passed (cases). One without month figures (plain) is read (reading) from its first layer (models); one with month figures goes by
-// the chain of its months (years), unless they let it spend nothing (idle).
+// Planning and valuing: the calls of the outside, none of which has a `requires`. Below them: what an answer holds (contents), what is
+// found before any work (checks), a case that passed (cases), its first layer in the scratch that is used (models), and what is read from it (reading).
 
 mod cases;
 mod checks;
 pub mod contents;
-mod idle;
 mod models;
-mod plain;
 mod reading;
-mod years;
 
 ghost use Rattle.std.specs.Prelude.{◌≡◌, length};
 ghost use Rattle.planner.specs.Planning.{planned, schedule_left, scratch_left, planned_number, planned_profit, part_given};
@@ -46,7 +42,7 @@ pub enum Reported {
     Refused(Cause),
 }
 
-// The best plan, in the front of the schedule slice; or 3, 4, 12, 13, 5, 7, 8 or 9.
+// The best plan, in the front of the schedule slice; or 3, 4, 12, 5, 7, 8 or 9.
 pub fn plan_into(
     unit: UnitRecord,
     prices: &[i64],
@@ -60,7 +56,7 @@ pub fn plan_into(
     contents::plan_of(report_into(unit, prices, scratch, schedule))
 }
 
-// The three outcomes; or 3, 4, 12, 13, 5, 8 or 9.
+// The three outcomes; or 3, 4, 12, 5, 8 or 9.
 pub fn value(unit: UnitRecord, prices: &[i64], scratch: &mut [i64]) -> Valued
     ensures value { result ≡ valued unit prices.now (length scratch.old) }
     ensures scratch_after { scratch.new ≡ scratch_valued unit prices.now scratch.old }

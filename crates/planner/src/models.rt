@@ -1,9 +1,7 @@
-// What a case without month figures is worked out with, and its first layer: in the long table where that was lent, else in two layers.
+// What a case is worked out with, and its first layer: in the long table where that was lent, else in two layers.
 
-ghost use Rattle.std.specs.Prelude.{◌≡◌, true, cond, ◌≤◌, length};
+ghost use Rattle.std.specs.Prelude.{◌≡◌, true, cond, length};
 ghost use Rattle.commitment.specs.declared.Checked.TheVariants.{Passed};
-ghost use Rattle.commitment.specs.declared.Months.TheVariants.{Unlimited};
-ghost use Rattle.commitment.specs.Bounds.{most_cells};
 ghost use Rattle.commitment.specs.Cells.{cells_needed, cells_long, cells_used};
 ghost use Rattle.commitment.specs.Ranges.{InOrder};
 ghost use Rattle.layers.specs.Filling.{Beyond};
@@ -25,8 +23,7 @@ pub struct Model {
 
 // Worked out once for a call; every step after it takes the model.
 pub fn model_of(unit: UnitRecord, prices: &[i64], lent: usize) -> Model
-    requires lent_value { lent_checked unit prices.now true lent ≡ Passed }
-    requires months_value { unit.months ≡ Unlimited }
+    requires { lent_checked unit prices.now true lent ≡ Passed }
     ensures { ModelOf unit prices.now lent result }
 {
     let n = prices.len();
@@ -38,7 +35,7 @@ pub fn model_of(unit: UnitRecord, prices: &[i64], lent: usize) -> Model
         figures,
         width,
         hours,
-        long: budgets::met(budgets::cells_long(unit, n), lent),
+        long: budgets::cells_long(unit, n) <= lent,
     }
 }
 
@@ -66,9 +63,9 @@ pub fn first_layer(
     }
 }
 
-// The cells of the long table, or of two layers, whose need is met.
+// The cells of the long table, or of two layers.
 pub fn cells_used(unit: UnitRecord, n: usize, long: bool) -> usize
-    requires { (InOrder unit n) × (cond long (cells_long unit n) (cells_needed unit n) ≤ most_cells) }
+    requires { InOrder unit n }
     ensures { result ≡ cond long (cells_long unit n) (cells_needed unit n) }
 {
     if long {

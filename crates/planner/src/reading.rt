@@ -1,8 +1,7 @@
-// What the first layer of a case without month figures tells: profit and outcomes; and the plan that follows from it.
+// What the first layer tells: profit and outcomes; and the plan that follows from it.
 
 ghost use Rattle.std.specs.Prelude.{◌≡◌, ◌≤◌, length};
 ghost use Rattle.commitment.specs.declared.Checked.TheVariants.{Passed};
-ghost use Rattle.commitment.specs.declared.Months.TheVariants.{Unlimited};
 ghost use Rattle.commitment.specs.declared.BestProfit.TheVariants.{Nothing};
 ghost use Rattle.commitment.specs.Best.{best, profit_of};
 ghost use Rattle.commitment.specs.Tries.{plan_tries};
@@ -76,7 +75,7 @@ fn read_plan(
 
 // 9 where the case has no schedule; else all runs from this one layer.
 pub fn read_outcomes(unit: UnitRecord, f: Figures, prices: &[i64], cells: &[i64]) -> Valued
-    requires { (ToldBy f unit prices.now cells.now) × (unit.months ≡ Unlimited) }
+    requires { ToldBy f unit prices.now cells.now }
     ensures { result ≡ valued_by (schedule_checked unit prices.now) (outcomes_of unit prices.now) }
 {
     match valuation::whole_profit(unit, f, prices, cells) {

@@ -24,7 +24,7 @@ use Rattle.commitment.specs.declared.Outcomes.{Outcomes}
 use Rattle.commitment.specs.declared.UnitRecord.{UnitRecord}
 use Rattle.commitment.specs.Best.{Plan, nothing, plan, best}
 use Rattle.commitment.specs.Causes.{Check, ◌else◌, unless, first_of}
-use Rattle.commitment.specs.Cells.{cells_needed, met}
+use Rattle.commitment.specs.Cells.{cells_needed}
 use Rattle.costs.specs.Figures.{total_mw}
 use Rattle.commitment.specs.Keeping.{keeps_case}
 use Rattle.commitment.specs.Profit.{profit}
@@ -41,7 +41,6 @@ use Rattle.costs.specs.Ranges.{range_mw, inputs_kept, segments_kept, inputs_chec
 use Rattle.costs.specs.declared.Costed.TheVariants as cost
 use Rattle.costs.specs.Answers.{three_figures, costed_by, costed}
 use Rattle.assessment.specs.declared.Assessed.TheVariants as hand
-use Rattle.assessment.proofs.Passed.{rival-exactly}
 use Rattle.assessment.specs.Assessed.{handed_checks, hand_in_checks, hand_in_checked, assessed_by, assessed}
 use Rattle.planner.specs.declared.Planned.TheVariants as plans
 use Rattle.planner.specs.declared.Report.{Report}
@@ -62,7 +61,7 @@ use Rattle.answers.specs.Sizes.{cell_room}
 use Rattle.promises.specs.Causes.{Reason, ◌when◌, FirstOf, NoneOf, case_causes, text_causes, reading_causes, cost_causes, handed_causes, hand_in_causes}
 use Rattle.promises.specs.Causes.{NoRival, table_causes, slices_causes, planning_causes, valuing_causes, answering_causes, clock_causes}
 use Rattle.promises.specs.Causes.{WordTooLarge, listing_causes, line_causes}
-use Rattle.promises.proofs.Ranges.{unless-so, at_most, as_many, case-range, cost-range, clock-range, misshapen, no-such-day, no-such-date, months-unfit, horizon, not-met}
+use Rattle.promises.proofs.Ranges.{unless-so, at_most, as_many, case-range, cost-range, clock-range, misshapen, no-such-day, no-such-date, horizon}
 use Rattle.promises.proofs.FirstCause.{Judged, refused-first, passed_none, Answers, answer-refused, answer-given}
 
 -- ---- the checks of a case, and of a text, before those of a call, which may rest on what the case kept
@@ -80,11 +79,7 @@ module _ (u : UnitRecord) (prices : List ℤ) where
         λ ranges. (
           refl,
           misshapen g.block g.pmin g.pmax,
-          λ shape. (
-            refl,
-            no-such-date u.permit,
-            λ _. (refl, months-unfit u.months u.limits u.permit (length prices), λ _. (refl, horizon (length prices), λ _. next ranges shape)),
-          ),
+          λ shape. (refl, no-such-date u.permit, λ _. (refl, horizon (length prices), λ _. next ranges shape)),
         ),
       )
 
@@ -146,7 +141,10 @@ module _ (u : UnitRecord) (prices : List ℤ) (s : List ℕ) where
       (λ _ _. (refl, as_many (length s) (length prices), λ _. (refl, no-rival-handed, λ _. tt)))
     where
       no-rival-handed : ((is_schedule u.generator (length prices) s && keeps_case u s) ≡ false) ↔ (Rival u prices s → ⊥)
-      no-rival-handed = unless-so (is_schedule u.generator (length prices) s && keeps_case u s) (rival-exactly u prices s)
+      no-rival-handed = unless-so (is_schedule u.generator (length prices) s && keeps_case u s) (kept, λ r. rw (r.schedule, r.kept) refl)
+        where
+          kept : (is_schedule u.generator (length prices) s && keeps_case u s) ≡ true → Rival u prices s
+          kept e = let k = both (is_schedule u.generator (length prices) s) (keeps_case u s) e in record { schedule = k.0; kept = k.1 }
 
   hand-answers : Answers (λ k. assessed_by k (profit u prices s)) hand.Refused
   hand-answers = record { is = λ _. refl; alike = λ _ _ e. cc; other = λ _ e. let z : ◌≡◌ {A = ℕ} 0 1 = cc in absurd (omega arith) }
@@ -172,10 +170,10 @@ module _ (u : UnitRecord) (prices : List ℤ) where
 
   -- 8 and 9
   abbrev table_checks : ℕ → List Check
-  table_checks cells = (met (cells_needed u (length prices)) cells else Scratch) ∷ schedule_checks u prices
+  table_checks cells = (leb (cells_needed u (length prices)) cells else Scratch) ∷ schedule_checks u prices
 
   table-judged : (cells : ℕ) → CaseKept u prices (Judged (table_checks cells) (table_causes u prices cells))
-  table-judged cells ranges shape = (refl, not-met (cells_needed u (length prices)) cells, λ _. (refl, no_rival ranges shape, λ _. tt))
+  table-judged cells ranges shape = (refl, at_most (cells_needed u (length prices)) cells, λ _. (refl, no_rival ranges shape, λ _. tt))
 
   -- a list of checks that ends with the schedule's passes where there is a plan
   found : (checks : List Check) → first_of (checks ++ schedule_checks u prices) ≡ Passed → best u prices ≡ nothing → ⊥
@@ -287,7 +285,7 @@ module _ (text : List ℕ) where
   unfolding all_found
   answer-found passed none =
       found (unit_in text) (prices_in text)
-      (written_checks text ++ ((met (cells_needed (unit_in text) (length (prices_in text))) cell_room else Scratch) ∷ [])) passed none
+      (written_checks text ++ ((leb (cells_needed (unit_in text) (length (prices_in text))) cell_room else Scratch) ∷ [])) passed none
 
   pub answering-refused : {cause : Cause} → (report_on text ≡ reports.Refused cause) ↔ FirstOf (answering_causes text) cause
   unfolding all_found

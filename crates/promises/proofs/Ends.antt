@@ -4,9 +4,7 @@ use mathlib.Core.List.{map}
 use Rattle.calendar.specs.Dates.{day_number, is_sunday}
 use Rattle.calendar.specs.Clock.{clock_after, hours_of}
 use Rattle.calendar.specs.Words.{hours_allowed}
-use Rattle.calendar.specs.Months.{date_after, month_of, month_begins}
-use Rattle.commitment.specs.Months.{months_of}
-use Rattle.commitment.specs.Ranges.{ranges_kept, prices_kept, case_checked}
+use Rattle.commitment.specs.Ranges.{ranges_kept, prices_kept}
 use Rattle.rounding.specs.Rounding.{rounded}
 use Rattle.assessment.specs.Assessed.{hand_in_checked}
 use Rattle.costs.specs.Answers.{costed}
@@ -15,20 +13,16 @@ use Rattle.curves.specs.Answers.{curved}
 use Rattle.curves.specs.Ranges.{points_kept, curve_checked}
 use Rattle.listing.specs.Listing.{listing}
 use Rattle.listing.specs.Numbers.{number, decimal}
-use Rattle.promises.specs.Ends.{numbers_at, expected_at, case_number, case_ends, valued_number, valued_ends, price_number, low_price_number, price_ends, cost_number, cost_ends}
+use Rattle.promises.specs.Ends.{numbers_at, expected_at, case_number, case_ends, price_number, low_price_number, price_ends, cost_number, cost_ends}
 use Rattle.promises.specs.Ends.{segment_numbers, segments_expected, curve_number, curve_ends, point_numbers, points_expected}
 use Rattle.promises.specs.Ends.{clock_number_at, clock_ends, word_number, word_ends}
 
 pub of-cases : map (numbers_at case_number) case_ends ≡ map expected_at case_ends
-unfolding hand_in_checked ranges_kept prices_kept clock_after hours_of is_sunday day_number date_after month_of month_begins months_of
+unfolding hand_in_checked ranges_kept prices_kept clock_after hours_of is_sunday day_number
 of-cases = refl
 
-pub of-the-valued-month : map (numbers_at valued_number) valued_ends ≡ map expected_at valued_ends
-unfolding case_checked ranges_kept hours_of is_sunday day_number month_begins
-of-the-valued-month = refl
-
 pub of-prices : (map (numbers_at price_number) price_ends ≡ map expected_at price_ends) × (map (numbers_at low_price_number) price_ends ≡ map expected_at price_ends)
-unfolding hand_in_checked ranges_kept prices_kept clock_after hours_of is_sunday day_number date_after month_of month_begins months_of
+unfolding hand_in_checked ranges_kept prices_kept clock_after hours_of is_sunday day_number
 of-prices = (refl, refl)
 
 pub of-costs : (map (numbers_at cost_number) cost_ends ≡ map expected_at cost_ends) × (segment_numbers ≡ segments_expected)

@@ -106,19 +106,3 @@ not-given number [] away cause given e = given
 not-given number (first ∷ later) away cause given e =
     let k = both (not (eqb (number_of first.cause) number)) (apart number later) away in
     ⊎_elim (λ this. eqb-false _ _ (not-true _ k.0) (ap number_of this.0 ∙ e)) (λ further. not-given number later k.1 cause further.1 e) given
-
--- a cause whose number no other of a list has is given exactly where it holds and none before it does
-pub given-when : (before : List Reason) (reason : Reason) (later : List Reason)
-    → apart (number_of reason.cause) before ≡ true → apart (number_of reason.cause) later ≡ true
-    → FirstOf (before ++ reason ∷ later) reason.cause ↔ (NoneOf before × reason.Holds)
-given-when [] reason later away apart-later = (
-  ⊎_elim (λ this. (tt, this.1)) (λ further. absurd (not-given (number_of reason.cause) later apart-later reason.cause further.1 refl)),
-  λ holds. inl (refl, holds.1),
-)
-given-when (first ∷ before) reason later away apart-later =
-    let k = both (not (eqb (number_of first.cause) (number_of reason.cause))) (apart (number_of reason.cause) before) away in
-    let rest = given-when before reason later k.1 apart-later in (
-      ⊎_elim (λ this. absurd (eqb-false _ _ (not-true _ k.0) (ap number_of this.0)))
-          (λ further. let r = rest.0 further.1 in ((further.0, r.0), r.1)),
-      λ holds. inr (holds.0.0, rest.1 (holds.0.1, holds.1)),
-    )

@@ -22,8 +22,7 @@ use Rattle.tabletext.proofs.Alike.{same-eq}
 use Rattle.tabletext.proofs.Groups.{every_map}
 use Rattle.casetext.specs.Form.{most_bytes, unit_head, unit_row, price_head, price_rows, is_empty, table_formed, form_kept}
 use Rattle.writing.specs.Writing.{joined, closing}
-use Rattle.casetext.proofs.Formed.{formed-is}
-use Rattle.writing.proofs.AsWritten.{lines_are}
+use Rattle.writing.proofs.AsWritten.{formed-is, lines_are}
 use Rattle.writing.proofs.Back.{some-fields}
 use Rattle.writing.proofs.Pieces.{free, lines-back, closing-closed, joined_line}
 use Rattle.promises.specs.Tables.{IsTable, TwoTables}

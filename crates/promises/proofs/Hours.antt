@@ -25,9 +25,7 @@ use Rattle.commitment.specs.declared.Permit.TheVariants.{AnyHour}
 use Rattle.commitment.specs.declared.UnitRecord.{UnitRecord}
 use Rattle.checking.specs.declared.clock.ClockRead.TheVariants as clock
 use Rattle.commitment.specs.Causes.{number_of}
-use Rattle.commitment.specs.Counting.{was_on}
-use Rattle.commitment.specs.Keeping.{opens_in, off_where_shut, keeps_starts, keeps_runs, keeps_spells, keeps_hours, keeps_mwh, keeps_window, keeps_year, months_for}
-use Rattle.commitment.specs.Months.{keeps_months}
+use Rattle.commitment.specs.Keeping.{opens_in, off_where_shut, keeps_starts, keeps_runs, keeps_spells, keeps_hours, keeps_mwh, keeps_window}
 use Rattle.commitment.specs.Rivals.{Rival}
 use Rattle.checking.specs.Clock.{clock_checked, clock_hour, clock_number, hour_in, hours_by, hours_left}
 use Rattle.checking.proofs.Clocks as clocks
@@ -104,9 +102,8 @@ off-there opens first (m ∷ s) (suc i) kept shut =
 
 pub on-in-a-shut-hour : (u : UnitRecord) (prices : List ℤ) (s : List ℕ) (i : ℕ) → opens_in u.permit i ≡ false → (get_or s i 0 ≡ 0 → ⊥) → Rival u prices s → ⊥
 on-in-a-shut-hour u prices s i shut on rival =
-    let year = (both (keeps_year u s) (keeps_months (months_for u (length prices)) (was_on u.opening) s) rival.kept).0 in
     let rules = keeps_starts u s && keeps_runs u s && keeps_spells u s && keeps_hours u s && keeps_mwh u s in
-    let kept = (both rules (keeps_window u s) year).1 in
+    let kept = (both rules (keeps_window u s) rival.kept).1 in
     on (off-there (opens_in u.permit) 0 s i kept (ap (opens_in u.permit) (omega arith) ∙ shut))
 
 -- a case without a date and word is held to no hours

@@ -1,8 +1,8 @@
 -- The names of a text are kept exactly when they are those of their tables in some sequence: both say that each name occurs as often as in its table.
 use mathlib.Core.Path.{◌≡◌, refl, sym, ap, ap₂, ◌∙◌}
-use mathlib.Core.Bool.{Bool, true, false, ◌&&◌, ◌||◌, not, cond, false≢true}
+use mathlib.Core.Bool.{Bool, true, false, ◌&&◌}
 use mathlib.Core.List.{List, [], ◌∷◌, ◌++◌}
-use mathlib.Core.Logic.{◌↔◌, ◌⊎◌, inl, inr, ⊎_elim, ⊎_map}
+use mathlib.Core.Logic.{◌↔◌, ◌⊎◌, ⊎_elim, ⊎_map}
 use Prim.Native.Nat.{ℕ, ◌≤◌}
 use native.Mathlib.Omega.{arith}
 use borrow.Author.Tests.{leb-true, leb-false, le-leb, eqb-true, eq-eqb}
@@ -14,11 +14,11 @@ use Rattle.tabletext.specs.Pieces.{fields_of}
 use Rattle.tabletext.specs.Tables.{occurs, standing, known, named}
 use Rattle.tabletext.proofs.Alike.{same_refl, same-eq}
 use Rattle.tabletext.proofs.Walks.{weight}
-use Rattle.casetext.specs.Names.{unit_names, unit_groups, price_names, mstarts_name, mhours_name, mmwh_name, valued_name}
-use Rattle.casetext.specs.Form.{unit_head, price_head, some_monthly, valued_kept, names_kept}
+use Rattle.casetext.specs.Names.{unit_names, dated_names, unit_groups, price_names}
+use Rattle.casetext.specs.Form.{unit_head, price_head, names_kept}
 use Rattle.writing.proofs.Sequences.{of-table, every_of, Parts, parts-of, of_parts, none_of}
 use Rattle.writing.proofs.Groups.{occurs-append, with-group, without-group, group-cases}
-use Rattle.promises.specs.Sequences.{InSomeSequence, WithGroups, ValuedStands}
+use Rattle.promises.specs.Sequences.{InSomeSequence}
 
 -- ---- a sequence by its counts
 
@@ -84,66 +84,32 @@ module _ (names fields : List (List ℕ)) (distinct : Distinct names) where
   named-exactly : (named names [] fields ≡ true) ↔ InSomeSequence names fields
   named-exactly = (λ e. in-sequence names fields (named-often e), λ s. often-named (as-often names fields s))
 
--- ---- with groups: of each all names stand or none
+-- ---- of a text
 
--- whichever groups stand, each name is one of its own
-abbrev apart : List (List ℕ) → List (List (List ℕ)) → Bool
-apart names [] = every (λ name. eqb (occurs name names) 1) names
-apart names (group ∷ groups) = every (λ name. not (known names groups name)) group && (apart names groups && apart (names ++ group) groups)
-
-groups-exactly : (names : List (List ℕ)) (groups : List (List (List ℕ))) (fields : List (List ℕ)) → apart names groups ≡ true
-    → (named names groups fields ≡ true) ↔ WithGroups names groups fields
-groups-exactly names [] fields own = named-exactly names fields own
-groups-exactly names (group ∷ groups) fields own =
-    let h = both (every (λ name. not (known names groups name)) group) (apart names groups && apart (names ++ group) groups) own in
-    let k = both (apart names groups) (apart (names ++ group) groups) h.1 in
-    let none = groups-exactly names groups fields k.0 in
-    let all = groups-exactly (names ++ group) groups fields k.1 in (
-      λ e. ⊎_map none.0 all.0 (group-cases names group groups fields e),
+-- all four of the date and its word, or none
+unit-exactly : (head : List (List ℕ))
+    → (named unit_names unit_groups head ≡ true) ↔ (InSomeSequence unit_names head ⊎ InSomeSequence (unit_names ++ dated_names) head)
+unit-exactly head =
+    let plain = named-exactly unit_names head refl in
+    let dated = named-exactly (unit_names ++ dated_names) head refl in (
+      λ e. ⊎_map plain.0 dated.0 (group-cases unit_names dated_names [] head e),
       λ s.
-          ⊎_elim (λ (t : WithGroups names groups fields). without-group names group groups fields h.0 (none.1 t))
-          (λ (t : WithGroups (names ++ group) groups fields). with-group names group groups fields (all.1 t))
+          ⊎_elim (λ (one : InSomeSequence unit_names head). without-group unit_names dated_names [] head refl (plain.1 one))
+          (λ (all : InSomeSequence (unit_names ++ dated_names) head). with-group unit_names dated_names [] head (dated.1 all))
           s,
     )
 
--- ---- the month to value
-
-stands-exactly : (name : List ℕ) (fields : List (List ℕ)) → (standing 1 fields name ≡ true) ↔ (occurs name fields ≡ 1)
-stands-exactly name fields = (eqb-true (occurs name fields) 1, eq-eqb (occurs name fields) 1)
-
-or-so : {A B : Type 0} (a b : Bool) → (a ≡ true) ↔ A → (b ≡ true) ↔ B → (a || b ≡ true) ↔ (A ⊎ B)
-or-so true b f g = (λ e. inl (f.0 refl), λ s. refl)
-or-so false b f g = (λ e. inr (g.0 e), ⊎_elim (λ x. absurd (false≢true (f.1 x))) g.1)
-
--- two tests pass or fail together
-both_so : {A B : Type 0} (a b : Bool) → (a ≡ true) ↔ A → (b ≡ true) ↔ B → (cond a b (not b) ≡ true) ↔ (A ↔ B)
-both_so true true f g = (λ e. (λ x. g.0 refl, λ y. f.0 refl), λ s. refl)
-both_so true false f g = (λ e. absurd (false≢true e), λ s. g.1 (s.0 (f.0 refl)))
-both_so false true f g = (λ e. absurd (false≢true e), λ s. f.1 (s.1 (g.0 refl)))
-both_so false false f g = (λ e. (λ x. absurd (false≢true (f.1 x)), λ y. absurd (false≢true (g.1 y))), λ s. refl)
-
-valued-exactly : (fields : List (List ℕ)) → (valued_kept fields ≡ true) ↔ ValuedStands fields
-valued-exactly fields =
-    both_so (standing 1 fields valued_name) (some_monthly fields) (stands-exactly valued_name fields)
-    (or-so (standing 1 fields mstarts_name || standing 1 fields mhours_name) (standing 1 fields mmwh_name)
-    (or-so (standing 1 fields mstarts_name) (standing 1 fields mhours_name) (stands-exactly mstarts_name fields) (stands-exactly mhours_name fields))
-    (stands-exactly mmwh_name fields))
-
--- ---- of a text
-
 pub names-exactly : (text : List ℕ)
     → (names_kept text ≡ true)
-    ↔ (WithGroups unit_names unit_groups (fields_of (unit_head text)) × ValuedStands (fields_of (unit_head text))
+    ↔ ((InSomeSequence unit_names (fields_of (unit_head text)) ⊎ InSomeSequence (unit_names ++ dated_names) (fields_of (unit_head text)))
     × InSomeSequence price_names (fields_of (price_head text)))
 unfolding names_kept
 names-exactly text =
     let head = fields_of (unit_head text) in
-    let unit = groups-exactly unit_names unit_groups head refl in
-    let valued = valued-exactly head in
+    let unit = unit-exactly head in
     let price = named-exactly price_names (fields_of (price_head text)) refl in (
       λ e.
-          let p = both (named unit_names unit_groups head && valued_kept head) (named price_names [] (fields_of (price_head text))) e in
-          let q = both (named unit_names unit_groups head) (valued_kept head) p.0 in
-          (unit.0 q.0, valued.0 q.1, price.0 p.1),
-      λ s. ap₂ ◌&&◌ (ap₂ ◌&&◌ (unit.1 s.0) (valued.1 s.1)) (price.1 s.2),
+          let p = both (named unit_names unit_groups head) (named price_names [] (fields_of (price_head text))) e in
+          (unit.0 p.0, price.0 p.1),
+      λ s. ap₂ ◌&&◌ (unit.1 s.0) (price.1 s.1),
     )

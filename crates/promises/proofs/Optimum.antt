@@ -10,7 +10,6 @@ use Rattle.commitment.specs.declared.Limitation.{Limitation}
 use Rattle.commitment.specs.declared.Outcome.TheVariants.{Never}
 use Rattle.commitment.specs.declared.Outcomes.{Outcomes}
 use Rattle.commitment.specs.declared.UnitRecord.{UnitRecord}
-use Rattle.commitment.specs.Keeping.{months_for}
 use Rattle.commitment.specs.Order.{earlier}
 use Rattle.commitment.specs.Profit.{profit}
 use Rattle.commitment.specs.Rivals.{Rival, IsBest}
@@ -53,7 +52,7 @@ report-beside u prices cells was r e = (plans.report-given u prices cells was r 
 
 pub best-is-earlier : (u : UnitRecord) (prices : List ℤ) (plan : List ℕ) (p : ℤ) → IsBest u prices plan p
     → (rival : List ℕ) → Rival u prices rival → profit u prices rival ≡ p → (rival ≡ plan → ⊥) → earlier plan rival ≡ true
-best-is-earlier u prices = best_of.best-is-earlier u (months_for u (length prices)) prices
+best-is-earlier = best_of.best-is-earlier
 
 -- and the plan handed in is passed with its profit
 

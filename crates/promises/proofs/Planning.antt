@@ -9,27 +9,26 @@ use lib.Dec.{leb}
 use lib.IntN.{ℤ}
 use lib.ListN.{length, take, drop}
 use lib.Seq.{take-append_seam, drop-append_seam}
-use Rattle.commitment.specs.declared.BestProfit.{BestProfit}
-use Rattle.commitment.specs.declared.BestProfit.TheVariants.{Nothing, Profit}
 use Rattle.commitment.specs.declared.Checked.{Checked}
 use Rattle.commitment.specs.declared.Checked.TheVariants.{Passed, Refused}
 use Rattle.commitment.specs.declared.Limitation.{Limitation}
 use Rattle.commitment.specs.declared.Limitation.TheVariants.{Starts, Hours, Mwh}
+use Rattle.commitment.specs.declared.Limit.TheVariants as limit
 use Rattle.commitment.specs.declared.Outcome.{Outcome}
 use Rattle.commitment.specs.declared.Outcome.TheVariants.{Never}
 use Rattle.commitment.specs.declared.Outcome.TheVariants as outcome
 use Rattle.commitment.specs.declared.Outcomes.{Outcomes}
 use Rattle.commitment.specs.declared.UnitRecord.{UnitRecord}
-use Rattle.commitment.specs.Best.{Plan, nothing, plan, best_in, best, profit_of}
+use Rattle.commitment.specs.Best.{Plan, nothing, plan, best}
 use Rattle.commitment.specs.Causes.{first_of}
 use Rattle.commitment.specs.Ranges.{prices_kept, case_checked}
-use Rattle.commitment.specs.Rivals.{IsBest}
-use Rattle.commitment.specs.Valuing.{two, gap_between, gap_over, outcome_of, outcomes_of}
+use Rattle.commitment.specs.Rivals.{Rival, IsBest}
+use Rattle.commitment.specs.Valuing.{lowered, run_at, outcome_of, outcomes_of}
 use Rattle.commitment.proofs.Causes.{then-passed}
 use Rattle.commitment.proofs.Passing.{passing}
 use Rattle.optimality.specs.Outcomes.{GapAt, Says}
 use Rattle.optimality.proofs.Optimal.{plan-exactly, outcome-exactly}
-use Rattle.assessment.specs.declared.Assessed.TheVariants as assessing
+use Rattle.assessment.specs.declared.Assessed.TheVariants.{Profit}
 use Rattle.assessment.specs.Assessed.{assessed}
 use Rattle.assessment.proofs.Passed.{passed-exactly}
 use Rattle.planner.specs.declared.Planned.TheVariants as plans
@@ -107,7 +106,7 @@ module _ (u : UnitRecord) (prices : List ℤ) where
       (plan-exactly u h.ranges h.shape prices (take n (schedule_left u prices cells was)) p).0 g.best-is
 
   pub given-is-passed : (cells : ℕ) (was : List ℕ) (n : ℕ) (p : ℤ) → Given cells was n p
-      → assessed u prices (take n (schedule_left u prices cells was)) ≡ assessing.Profit p
+      → assessed u prices (take n (schedule_left u prices cells was)) ≡ Profit p
   given-is-passed cells was n p g =
       let b = given-is-best cells was n p g in
       (passed-exactly u prices (take n (schedule_left u prices cells was)) p).1 (g.case, b.own, b.earns)
@@ -124,18 +123,15 @@ module _ (u : UnitRecord) (prices : List ℤ) where
           (lent-case true cells (value_lent u prices cells ∙ turn.0), sym same)
       by (Refused cause) i e = let z : ◌≡◌ {A = ℕ} 0 1 = cc in absurd (omega arith)
 
-  outcome-is : (o : Outcomes) → o ≡ outcomes_of u prices → (which : Limitation) → outcome_for o which ≡ outcome_of u prices which
-  outcome-is o is which = by which
+  outcomes-of : (o : Outcomes) → InCase → o ≡ outcomes_of u prices → (which : Limitation) → Says u prices which (outcome_for o which)
+  outcomes-of o case is which =
+      let h = (passing u (prices_kept prices) (length prices) case).order in
+      (outcome-exactly u h.ranges h.shape prices which (outcome_for o which)).0 (by which)
     where
       by : (which : Limitation) → outcome_for o which ≡ outcome_of u prices which
       by Starts = ap (λ (x : Outcomes). x.starts) is
       by Hours = ap (λ (x : Outcomes). x.hours) is
       by Mwh = ap (λ (x : Outcomes). x.mwh) is
-
-  outcomes-of : (o : Outcomes) → InCase → o ≡ outcomes_of u prices → (which : Limitation) → Says u prices which (outcome_for o which)
-  outcomes-of o case is which =
-      let h = (passing u (prices_kept prices) (length prices) case).order in
-      (outcome-exactly u h.ranges h.shape prices which (outcome_for o which)).0 (outcome-is o is which)
 
   pub value-says : (cells : ℕ) (o : Outcomes) → valued u prices cells ≡ values.Outcomes o → (which : Limitation) → Says u prices which (outcome_for o which)
   value-says cells o e = let f = value-case cells o e in outcomes-of o f.0 f.1
@@ -146,63 +142,48 @@ module _ (u : UnitRecord) (prices : List ℤ) where
 
   -- ---- a gap is given exactly where there is a lower run and it has a schedule
 
-  gap-when : (which : Limitation) (o : Outcome) → o ≡ outcome_of u prices which → Says u prices which o → ((gap : ℤ) × (o ≡ outcome.Gap gap)) ↔ LowerRun u prices which
-  gap-when which o is says = (λ given. lower given.0 (subst (Says u prices which) given.1 says), λ run. by o says run (is ∙ ap (gap_over prices) run.runs))
+  gap-when : (which : Limitation) (o : Outcome) → Says u prices which o → ((gap : ℤ) × (o ≡ outcome.Gap gap)) ↔ LowerRun u prices which
+  gap-when which o says = (λ given. lower given.0 (subst (Says u prices which) given.1 says), λ run. by o says run)
     where
       lower : (gap : ℤ) → GapAt u prices which gap → LowerRun u prices which
       lower gap g =
           record {
-            first = g.first;
-            months = g.months;
-            lower = g.lower;
-            lower-months = g.lower-months;
-            runs = g.runs;
+            figure = g.figure;
+            less = g.less;
+            limited = g.limited;
+            nine-tenths = g.nine-tenths;
             schedule = g.lower-schedule;
-            keeps = g.lower-best.own;
+            keeps = g.lower.own;
           }
 
-      -- two runs give a gap or `never`
-      first-profit : LowerRun u prices which → BestProfit
-      first-profit run = profit_of (best_in run.first run.months prices)
-
-      lower-profit : LowerRun u prices which → BestProfit
-      lower-profit run = profit_of (best_in run.lower run.lower-months prices)
-
-      not_none : (p q : BestProfit) → outcome.None ≡ gap_between p q → ⊥
-      not_none p Nothing e = let z : ◌≡◌ {A = ℕ} 0 1 = cc in omega arith
-      not_none Nothing (Profit q) e = let z : ◌≡◌ {A = ℕ} 0 1 = cc in omega arith
-      not_none (Profit p) (Profit q) e = let z : ◌≡◌ {A = ℕ} 0 1 = cc in omega arith
-
-      not-empty : (p q : BestProfit) → outcome.Empty ≡ gap_between p q → ⊥
-      not-empty p Nothing e = let z : ◌≡◌ {A = ℕ} 0 1 = cc in omega arith
-      not-empty Nothing (Profit q) e = let z : ◌≡◌ {A = ℕ} 0 1 = cc in omega arith
-      not-empty (Profit p) (Profit q) e = let z : ◌≡◌ {A = ℕ} 0 1 = cc in omega arith
-
-      by : (o : Outcome) → Says u prices which o → (run : LowerRun u prices which)
-          → o ≡ gap_over prices (two run.first run.months run.lower run.lower-months) → (gap : ℤ) × (o ≡ outcome.Gap gap)
-      by outcome.None none run e = absurd (not_none (first-profit run) (lower-profit run) e)
-      by outcome.Empty empty run e = absurd (not-empty (first-profit run) (lower-profit run) e)
-      by outcome.Never never run e =
-          let same = sym never.runs ∙ run.runs in
-          let lower-is : run.lower ≡ never.lower = cc in
-          let months-are : run.lower-months ≡ never.lower-months = cc in
-          absurd (never.none-lower run.schedule (rw (lower-is, months-are) at run.keeps))
-      by (outcome.Gap gap) given run e = (gap, refl)
+      by : (o : Outcome) → Says u prices which o → LowerRun u prices which → (gap : ℤ) × (o ≡ outcome.Gap gap)
+      by outcome.None none run =
+          let clash : limit.None ≡ limit.At run.figure = sym none ∙ run.limited in
+          let z : ◌≡◌ {A = ℕ} 0 1 = cc in
+          absurd (omega arith)
+      by outcome.Empty empty run =
+          let same : empty.figure ≡ run.figure = cc (empty.limited, run.limited) in
+          absurd (omega (arith, sym empty.nine-tenths ∙ ap lowered same ∙ run.nine-tenths))
+      by outcome.Never never run =
+          let same : never.figure ≡ run.figure = cc (never.limited, run.limited) in
+          let less : never.less ≡ run.less = omega (arith, sym never.nine-tenths ∙ ap lowered same ∙ run.nine-tenths) in
+          absurd (never.none-lower run.schedule (subst (λ (n : ℕ). Rival (run_at u which n) prices run.schedule) (sym less) run.keeps))
+      by (outcome.Gap gap) given run = (gap, refl)
 
   pub value-gap : (cells : ℕ) (o : Outcomes) → valued u prices cells ≡ values.Outcomes o
       → (which : Limitation) → ((gap : ℤ) × (outcome_for o which ≡ outcome.Gap gap)) ↔ LowerRun u prices which
-  value-gap cells o e which = gap-when which (outcome_for o which) (outcome-is o (value-case cells o e).1 which) (value-says cells o e which)
+  value-gap cells o e which = gap-when which (outcome_for o which) (value-says cells o e which)
 
   pub report-gap : (cells : ℕ) (was : List ℕ) (r : Report) → reported u prices cells (length was) ≡ reports.Report r
       → (which : Limitation) → ((gap : ℤ) × (outcome_for r.outcomes which ≡ outcome.Gap gap)) ↔ LowerRun u prices which
-  report-gap cells was r e which = gap-when which (outcome_for r.outcomes which) (outcome-is r.outcomes (report-given cells was r e).1 which) (report-says cells was r e which)
+  report-gap cells was r e which = gap-when which (outcome_for r.outcomes which) (report-says cells was r e which)
 
   -- ---- `never` for starts
 
   starts-not-never : (o : Outcomes) → ((which : Limitation) → Says u prices which (outcome_for o which)) → (NoRival u prices → ⊥) → o.starts ≡ Never → ⊥
   starts-not-never o says some e =
       let never = subst (Says u prices Starts) e (says Starts) in
-      some (none-lower-none u prices never.runs never.none-lower)
+      some (none-lower-none u prices never.less never.none-lower)
 
   pub value-starts : (cells : ℕ) (o : Outcomes) → valued u prices cells ≡ values.Outcomes o → o.starts ≡ Never → ⊥
   value-starts cells o e =

@@ -22,7 +22,7 @@ use Rattle.commitment.specs.declared.Limitation.TheVariants.{Starts, Hours, Mwh}
 use Rattle.commitment.specs.declared.Outcomes.{Outcomes}
 use Rattle.commitment.specs.declared.UnitRecord.{UnitRecord}
 use Rattle.commitment.specs.Best.{Plan, nothing, plan, best}
-use Rattle.commitment.specs.Bounds.{most_mw}
+use Rattle.commitment.specs.Bounds.{most_mw, most_horizon}
 use Rattle.commitment.specs.Causes.{number_of}
 use Rattle.commitment.specs.Ranges.{prices_kept}
 use Rattle.commitment.specs.Schedule.{is_output, is_schedule}
@@ -46,8 +46,7 @@ use Rattle.planner.specs.Planning.{planned_part}
 use Rattle.planner.specs.Reporting.{reported_by}
 use Rattle.answers.specs.declared.Answered.{Answered}
 use Rattle.answers.specs.Answering.{word_of, report_printed, answered_by, all_found, report_on, answered, printed}
-use Rattle.answers.specs.Sizes.{price_room, out_room}
-use Rattle.answers.proofs.Rooms.{prices-fit}
+use Rattle.answers.specs.Sizes.{out_room}
 use Rattle.answers.proofs.Found.{all-passed}
 use Rattle.promises.specs.Causes.{FirstOf, NoneOf, answering_causes}
 use Rattle.promises.specs.Outcomes.{outcome_for}
@@ -55,7 +54,7 @@ use Rattle.promises.specs.Printed.{BestPlanPrinted, Prints}
 use Rattle.promises.proofs.Causes.{answering-refused, answering-answered}
 use Rattle.promises.proofs.FirstCause.{apart, not-given}
 
--- ---- a listing of n intervals takes at most 9 bytes for each, such as `6144,500` and its end, and 146 for the rest
+-- ---- a listing of n intervals takes at most 9 bytes for each, such as `2976,500` and its end, and 146 for the rest
 
 numbers-below : (i mw : ℕ) → i < 10000 → mw ≤ most_mw → length (interval_line i mw) ≤ 9
 numbers-below i mw few small =
@@ -73,7 +72,7 @@ module _ (g : Generator) (small : (m : ℕ) → is_output g m ≡ true → m ≤
         lines-most (suc i) s k.1 (omega arith),
       )
 
-  listing-most : (n : ℕ) (s : List ℕ) (p : ℤ) (o : Outcomes) (w : HourWord) → is_schedule g n s ≡ true → n ≤ price_room
+  listing-most : (n : ℕ) (s : List ℕ) (p : ℤ) (o : Outcomes) (w : HourWord) → is_schedule g n s ≡ true → n ≤ most_horizon
       → length (listing s p o w) ≤ 9 * n + 146
   listing-most n s p o w kept short =
       let k = both (eqb (length s) n) (every (is_output g) s) kept in
@@ -161,12 +160,11 @@ module _ (text : List ℕ) where
       long : Planned → length (printed text) ≤ out_room
       long w =
           let h = (case-of w).order in
-          let few = prices-fit text (all-passed text w.passed).form in
           let own = ((plan-exactly unit h.ranges h.shape prices w.schedule w.profit).0 w.is).own in
           let most =
           listing-most unit.generator (output-most unit h.ranges h.shape) (length prices) w.schedule w.profit (outcomes_of unit prices)
-          (word_of unit.permit) own.schedule few in
-          omega (arith, ap length (lines_of w), most, few)
+          (word_of unit.permit) own.schedule h.checked in
+          omega (arith, ap length (lines_of w), most, h.checked)
 
       short : (cause : Cause) → report_on text ≡ reports.Refused cause → length (printed text) ≤ out_room
       short cause e =

@@ -17,30 +17,21 @@ use Rattle.integers.proofs.Linear.{up, dn, zarith}
 use Rattle.integers.proofs.Order.{le-le_z}
 use Rattle.calendar.specs.declared.Date.{Date}
 use Rattle.calendar.specs.Dates.{days_in, exists}
-use Rattle.calendar.specs.Months.{month_begins}
 use Rattle.costs.specs.declared.CostInputs.{CostInputs}
 use Rattle.commitment.specs.declared.Limit.{Limit}
 use Rattle.commitment.specs.declared.Limit.TheVariants.{None, At}
-use Rattle.commitment.specs.declared.Limitation.{Limitation}
-use Rattle.commitment.specs.declared.Limitation.TheVariants.{Starts, Hours, Mwh}
-use Rattle.commitment.specs.declared.Limits.{Limits}
-use Rattle.commitment.specs.declared.Months.{Months}
-use Rattle.commitment.specs.declared.Months.TheVariants.{Unlimited, Limited}
 use Rattle.commitment.specs.declared.Permit.{Permit}
 use Rattle.commitment.specs.declared.Permit.TheVariants.{AnyHour, Within}
 use Rattle.commitment.specs.declared.UnitRecord.{UnitRecord}
-use Rattle.commitment.specs.Cells.{met}
-use Rattle.commitment.specs.Limits.{limit_kept, limit_for}
+use Rattle.commitment.specs.Limits.{limit_kept}
 use Rattle.commitment.specs.Ranges.{ranges_kept, permit_kept, date_ranged, date_kept, price_kept, prices_kept, horizon_kept}
-use Rattle.commitment.specs.Ranges.{some_figure, monthly_kept, months_kept, besides, each_besides, horizon_counted, months_fit}
 use Rattle.commitment.proofs.Passing.{prices-small}
 use Rattle.costs.specs.Ranges.{one_to, inputs_kept, segments_kept}
 use Rattle.curves.specs.declared.CurveInputs.{CurveInputs}
 use Rattle.curves.specs.Ranges.{points_kept, rising_from, rising}
 use Rattle.curves.specs.Ranges as curves
-use Rattle.promises.specs.Causes.{Misshapen, NoSuchDay, NoSuchDate, NotMet, NotRising}
-use Rattle.promises.specs.Months.{SomeFigure, MonthGiven, NotBeside, SomeNotBeside, MonthsUnfit}
-use Rattle.promises.specs.Ranges.{Figure, InRange, PricesInRange, limit_figure, permit_figures, months_figures, case_figures, cost_ranges, curve_ranges, clock_ranges}
+use Rattle.promises.specs.Causes.{Misshapen, NoSuchDay, NoSuchDate, NotRising}
+use Rattle.promises.specs.Ranges.{Figure, InRange, PricesInRange, limit_figure, permit_figures, case_figures, cost_ranges, curve_ranges, clock_ranges}
 use Rattle.promises.specs.Ranges as ranges
 
 -- ---- tests and what they say
@@ -90,11 +81,6 @@ and-true : (a : Bool) → (a && true) ≡ a
 and-true true = refl
 and-true false = refl
 
-and_comm : (a b : Bool) → (a && b) ≡ (b && a)
-and_comm true b = sym (and-true b)
-and_comm false true = refl
-and_comm false false = refl
-
 from_zero : (n : ℕ) → leb 0 n ≡ true
 from_zero n = le-leb 0 n (omega arith)
 
@@ -110,53 +96,6 @@ permit_in : (p : Permit) → permit_kept p ≡ in_range (permit_figures p)
 permit_in AnyHour = refl
 permit_in (Within w) = simp (from_zero, and-true, and_assoc)
 
--- where months are limited, a figure is given
-abbrev given : Months → Bool
-given Unlimited = true
-given (Limited m) = some_figure m.limits
-
-months-in : (m : Months) → months_kept m ≡ (in_range (months_figures m) && given m)
-months-in Unlimited = refl
-months-in (Limited m) =
-    let starts = limit_figure 2976 m.limits.starts in
-    let hours = limit_figure 744 m.limits.hours in
-    let mwh = limit_figure 372000 m.limits.mwh in
-    let valued = ranges.◌to◌is◌ 1 13 m.valued ∷ [] in
-    let kept : monthly_kept m ≡ (some_figure m.limits && in_range (months_figures (Limited m))) =
-    simp (
-      in-append starts (hours ++ (mwh ++ valued)),
-      in-append hours (mwh ++ valued),
-      in-append mwh valued,
-      and-true,
-      and_assoc,
-      limit-in 2976 m.limits.starts,
-      limit-in 744 m.limits.hours,
-      limit-in 372000 m.limits.mwh,
-    ) in
-    kept ∙ and_comm (some_figure m.limits) (in_range (months_figures (Limited m)))
-
-module _ (limits : Limits) where
-  no-figure : limits.starts ≡ None → limits.hours ≡ None → limits.mwh ≡ None → SomeFigure limits → ⊥
-  no-figure p q r w = by w.0 w.2
-    where
-      by : (which : Limitation) {figure : ℕ} → limit_for limits which ≡ At figure → ⊥
-      by Starts e = let clash = sym p ∙ e in let z : ◌≡◌ {A = ℕ} 0 1 = cc in omega arith
-      by Hours e = let clash = sym q ∙ e in let z : ◌≡◌ {A = ℕ} 0 1 = cc in omega arith
-      by Mwh e = let clash = sym r ∙ e in let z : ◌≡◌ {A = ℕ} 0 1 = cc in omega arith
-
-  some-figure : (some_figure limits ≡ true) ↔ SomeFigure limits
-  some-figure = by limits.starts limits.hours limits.mwh refl refl refl
-    where
-      by : (a b c : Limit) → limits.starts ≡ a → limits.hours ≡ b → limits.mwh ≡ c → (some_figure limits ≡ true) ↔ SomeFigure limits
-      by (At n) b c p q r = (λ _. (Starts, n, p), λ _. rw p refl)
-      by None (At n) c p q r = (λ _. (Hours, n, q), λ _. rw (p, q) refl)
-      by None None (At n) p q r = (λ _. (Mwh, n, r), λ _. rw (p, q, r) refl)
-      by None None None p q r = (λ e. absurd (false≢true (rw (p, q, r) at e)), λ w. absurd (no-figure p q r w))
-
-given-exactly : (m : Months) → (given m ≡ true) ↔ MonthGiven m
-given-exactly Unlimited = (λ _. tt, λ _. refl)
-given-exactly (Limited m) = some-figure m.limits
-
 -- a range of a whole list
 each_in : (most : ℕ) (xs : List ℕ) → every (one_to most) xs ≡ in_range (map (λ x. ranges.◌to◌is◌ 1 most x) xs)
 each_in most [] = refl
@@ -164,26 +103,23 @@ each_in most (x ∷ xs) = simp (each_in most xs, and_assoc)
 
 -- ---- the ranges of each call
 
-case-in : (u : UnitRecord) → ranges_kept u ≡ (in_range (case_figures u) && given u.months)
+case-in : (u : UnitRecord) → ranges_kept u ≡ in_range (case_figures u)
 unfolding ranges_kept
 case-in u =
-    let starts = limit_figure 35136 u.limits.starts in
-    let hours = limit_figure 8784 u.limits.hours in
-    let mwh = limit_figure 4392000 u.limits.mwh in
+    let starts = limit_figure 2976 u.limits.starts in
+    let hours = limit_figure 744 u.limits.hours in
+    let mwh = limit_figure 372000 u.limits.mwh in
     let permit = permit_figures u.permit in
-    let months = months_figures u.months in
     simp (
-      in-append starts (hours ++ (mwh ++ (permit ++ months))),
-      in-append hours (mwh ++ (permit ++ months)),
-      in-append mwh (permit ++ months),
-      in-append permit months,
+      in-append starts (hours ++ (mwh ++ permit)),
+      in-append hours (mwh ++ permit),
+      in-append mwh permit,
       from_zero,
       and_assoc,
-      limit-in 35136 u.limits.starts,
-      limit-in 8784 u.limits.hours,
-      limit-in 4392000 u.limits.mwh,
+      limit-in 2976 u.limits.starts,
+      limit-in 744 u.limits.hours,
+      limit-in 372000 u.limits.mwh,
       permit_in u.permit,
-      months-in u.months,
     )
 
 prices-exactly : (prices : List ℤ) → (prices_kept prices ≡ true) ↔ PricesInRange prices
@@ -198,12 +134,10 @@ prices-exactly prices = (prices-small prices, each prices)
     each [] so = refl
     each (z ∷ prices) so = rw (price z (so 0 (omega arith)), each prices (λ i h. so (suc i) (omega arith))) refl
 
-pub case-range : (u : UnitRecord) (prices : List ℤ) → ((ranges_kept u && prices_kept prices) ≡ true)
-    ↔ ((InRange (case_figures u) × MonthGiven u.months) × PricesInRange prices)
+pub case-range : (u : UnitRecord) (prices : List ℤ) → ((ranges_kept u && prices_kept prices) ≡ true) ↔ (InRange (case_figures u) × PricesInRange prices)
 case-range u prices =
     and_so (ranges_kept u) (prices_kept prices)
-    (Iff.trans (λ e. sym (case-in u) ∙ e, λ e. case-in u ∙ e)
-    (and_so (in_range (case_figures u)) (given u.months) (in-range-exactly (case_figures u)) (given-exactly u.months)))
+    (Iff.trans (λ e. sym (case-in u) ∙ e, λ e. case-in u ∙ e) (in-range-exactly (case_figures u)))
     (prices-exactly prices)
 
 pub cost-range : (k : CostInputs) (mws heats : List ℕ) → ((inputs_kept k && segments_kept mws heats) ≡ true) ↔ InRange (cost_ranges k mws heats)
@@ -255,43 +189,8 @@ pub no-such-date : (p : Permit) → (date_kept p ≡ false) ↔ NoSuchDate p
 no-such-date AnyHour = (λ e. absurd (false≢true (sym e)), λ no. absurd no)
 no-such-date (Within w) = no-such-day w.date
 
-not-beside : (month year : Limit) → (besides month year ≡ false) ↔ NotBeside month year
-not-beside None year = (λ e. absurd (false≢true (sym e)), λ w. let e = w.1 in let z : ◌≡◌ {A = ℕ} 0 1 = cc in absurd (omega arith))
-not-beside (At figure) None = (λ _. (figure, refl, refl), λ _. refl)
-not-beside (At figure) (At all) = (λ e. absurd (false≢true (sym e)), λ w. let e = w.2 in let z : ◌≡◌ {A = ℕ} 0 1 = cc in absurd (omega arith))
-
-some-not-beside : (months year : Limits) → (each_besides months year ≡ false) ↔ SomeNotBeside months year
-some-not-beside months year =
-    Iff.trans
-    (either (besides months.starts year.starts && besides months.hours year.hours) (besides months.mwh year.mwh)
-    (either (besides months.starts year.starts) (besides months.hours year.hours) (not-beside months.starts year.starts)
-    (not-beside months.hours year.hours))
-    (not-beside months.mwh year.mwh))
-    (⊎_elim (⊎_elim (λ w. (Starts, w)) (λ w. (Hours, w))) (λ w. (Mwh, w)), λ w. by w.0 w.1)
-  where
-    At' : Limitation → Type 0
-    At' which = NotBeside (limit_for months which) (limit_for year which)
-
-    by : (which : Limitation) → At' which → (At' Starts ⊎ At' Hours) ⊎ At' Mwh
-    by Starts w = inl (inl w)
-    by Hours w = inl (inr w)
-    by Mwh w = inr w
-
--- 13
-pub months-unfit : (m : Months) (year : Limits) (permit : Permit) (n : ℕ) → (months_fit m year permit n ≡ false) ↔ MonthsUnfit m year permit n
-months-unfit Unlimited year permit n = (λ e. absurd (false≢true (sym e)), λ no. absurd no)
-months-unfit (Limited m) year AnyHour n = (λ _. tt, λ _. refl)
-months-unfit (Limited m) year (Within w) n =
-    let begins = month_begins w.date m.valued in
-    either (each_besides m.limits year) (ltb begins (horizon_counted n)) (some-not-beside m.limits year)
-    (ltb-false begins (horizon_counted n), le-ltb begins (horizon_counted n))
-
-pub horizon : (n : ℕ) → (horizon_kept n ≡ false) ↔ ((n ≡ 0) ⊎ (35136 < n))
-horizon n = either (leb 1 n) (leb n 35136) (λ e. let less = leb-false 1 n e in omega arith, λ e. lt-leb 1 n (omega arith)) (at_most n 35136)
-
-pub not-met : (need cells : ℕ) → (met need cells ≡ false) ↔ NotMet need cells
-unfolding met
-not-met need cells = either (leb need 1000000000000000000) (leb need cells) (at_most need 1000000000000000000) (at_most need cells)
+pub horizon : (n : ℕ) → (horizon_kept n ≡ false) ↔ ((n ≡ 0) ⊎ (2976 < n))
+horizon n = either (leb 1 n) (leb n 2976) (λ e. let less = leb-false 1 n e in omega arith, λ e. lt-leb 1 n (omega arith)) (at_most n 2976)
 
 pub not-rising : (levels : List ℕ) → (rising levels ≡ false) ↔ NotRising levels
 not-rising [] = (λ e. absurd (false≢true (sym e)), λ w. absurd (omega (arith, w.1)))

@@ -3,7 +3,7 @@
 use mathlib.Core.Path.{◌≡◌}
 use mathlib.Core.Bool.{true, not}
 use mathlib.Core.List.{List, [], ◌++◌}
-use mathlib.Core.Logic.{◌↔◌}
+use mathlib.Core.Logic.{◌↔◌, ◌⊎◌}
 use Prim.Native.Nat.{ℕ, ◌≤◌}
 use lib.IntN.{ℤ}
 use lib.ListN.{length, take, drop}
@@ -15,12 +15,12 @@ use Rattle.casefile.specs.Answers.{read_case, read_prices}
 use Rattle.writing.specs.AsWritten.{AsWritten}
 use Rattle.tabletext.specs.Tables.{named}
 use Rattle.tabletext.specs.Pieces.{fields_of}
-use Rattle.casetext.specs.Names.{unit_names, unit_groups, price_names}
+use Rattle.casetext.specs.Names.{unit_names, dated_names, price_names}
 use Rattle.casetext.specs.Form.{most_bytes, unit_head, price_head, form_kept, names_kept}
 use Rattle.writing.specs.Writing.{names_for, written}
 use Rattle.writing.proofs.AsWritten.{read-as-written}
 use Rattle.writing.proofs.Back.{written_read}
-use Rattle.promises.specs.Sequences.{InSomeSequence, WithGroups, ValuedStands}
+use Rattle.promises.specs.Sequences.{InSomeSequence}
 use Rattle.promises.specs.Tables.{TwoTables}
 use Rattle.promises.proofs.Forms as forms
 use Rattle.promises.proofs.Names as names
@@ -30,12 +30,12 @@ use Rattle.promises.proofs.Names as names
 pub form-exactly : (text : List ℕ) → (form_kept text ≡ true) ↔ TwoTables text
 form-exactly = forms.form-exactly
 
--- The names of a text are kept, so that 2 does not hold, exactly when they are the thirteen, with the four of a date and its hour word or without them,
--- with any of the three month figures, and with the month to value exactly where a month figure stands, in some sequence; and `price`.
+-- The names of a text are kept, so that 2 does not hold, exactly when they are the thirteen, or the thirteen and the four of a date and its hour word,
+-- in some sequence, and `price`.
 
 pub names-exactly : (text : List ℕ)
     → (names_kept text ≡ true)
-    ↔ (WithGroups unit_names unit_groups (fields_of (unit_head text)) × ValuedStands (fields_of (unit_head text))
+    ↔ ((InSomeSequence unit_names (fields_of (unit_head text)) ⊎ InSomeSequence (unit_names ++ dated_names) (fields_of (unit_head text)))
     × InSomeSequence price_names (fields_of (price_head text)))
 names-exactly = names.names-exactly
 
@@ -45,10 +45,10 @@ pub as_written : (text : List ℕ) (slice : List ℤ) (u : UnitRecord) (count : 
     → read_case text (length slice) ≡ reading.Case u count → AsWritten text u (take count (read_prices text slice))
 as_written = read-as-written
 
--- and what a writer of the format writes, with the names in any sequence, and with those of the groups that the record has, is read back
+-- and what a writer of the format writes, with the names in any sequence, and with the four where the record has them, is read back
 
 pub written-is-read : (u : UnitRecord) (prices : List ℤ) (names : List (List ℕ)) (slice : List ℤ) → case_checked u (prices_kept prices) (length prices) ≡ Passed
-    → named (names_for u) [] names ≡ true → length (written names u prices) ≤ most_bytes → length prices ≤ length slice
+    → named (names_for u.permit) [] names ≡ true → length (written names u prices) ≤ most_bytes → length prices ≤ length slice
     → (read_case (written names u prices) (length slice) ≡ reading.Case u (length prices))
     × (read_prices (written names u prices) slice ≡ prices ++ drop (length prices) slice)
 written-is-read = written_read

@@ -14,9 +14,7 @@ use Rattle.lists.proofs.Conjunctions.{both}
 use Rattle.commitment.specs.declared.Limit.TheVariants.{At}
 use Rattle.commitment.specs.declared.UnitRecord.{UnitRecord}
 use Rattle.commitment.specs.Best.{Plan, plan, schedule_of, best}
-use Rattle.commitment.specs.Counting.{was_on, output_sum}
-use Rattle.commitment.specs.Keeping.{keeps_starts, keeps_runs, keeps_spells, keeps_hours, keeps_mwh, keeps_window, keeps_year, months_for}
-use Rattle.commitment.specs.Months.{keeps_months}
+use Rattle.commitment.specs.Keeping.{output_sum, keeps_starts, keeps_runs, keeps_spells, keeps_hours, keeps_mwh, keeps_window}
 use Rattle.commitment.specs.Ranges.{prices_kept}
 use Rattle.commitment.specs.Rivals.{Rival}
 use Rattle.commitment.specs.Schedule.{is_output}
@@ -59,14 +57,13 @@ module _ (u : UnitRecord) (prices : List ℤ) where
   -- a rival's outputs add up to no more than the limitation of MWh
   sum_kept : (s : List ℕ) → Rival u prices s → (limit : ℕ) → u.limits.mwh ≡ At limit → output_sum s ≤ 4 * limit
   sum_kept s own limit e =
-      let year = (both (keeps_year u s) (keeps_months (months_for u (length prices)) (was_on u.opening) s) own.kept).0 in
       let first = keeps_starts u s && keeps_runs u s && keeps_spells u s && keeps_hours u s in
-      let kept = (both first (keeps_mwh u s) (both (first && keeps_mwh u s) (keeps_window u s) year).0).1 in
+      let kept = (both first (keeps_mwh u s) (both (first && keeps_mwh u s) (keeps_window u s) own.kept).0).1 in
       leb-true (output_sum s) (4 * limit) (rw e at kept)
 
   of-best : Ranged u → (s : List ℕ) (p : ℤ) → best u prices ≡ plan s p → Rival u prices s → WithTries s
   of-best ok s p is own =
-      let long = rival-length u (months_for u (length prices)) prices s own in
+      let long = rival-length u prices s own in
       let outputs = (both (eqb (length s) (length prices)) (every (is_output u.generator) s) own.schedule).1 in
       let sum : plan_tries u prices ≡ tries_over u.generator.block u.generator.pmin s =
       ap (λ (b : Plan). tries_over u.generator.block u.generator.pmin (schedule_of b)) is in

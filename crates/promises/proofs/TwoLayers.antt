@@ -1,11 +1,11 @@
 -- Two layers of scratch, clause by clause: every answer is the same from two layers on, whichever cells are used; those used are 0 and those beyond are
--- as they were; 8 is fewer than two layers, or two layers above 10^18.
+-- as they were; 8 is fewer than two layers.
 use mathlib.Core.Path.{◌≡◌, refl, sym, ap, ◌∙◌}
-use mathlib.Core.Bool.{true, false}
 use mathlib.Core.List.{List, ◌++◌}
-use Prim.Native.Nat.{ℕ, ◌≤◌}
+use Prim.Native.Nat.{ℕ, ◌≤◌, ◌<◌}
 use native.Mathlib.Omega.{arith}
-use lib.Dec.{leb}
+use borrow.Author.Tests.{le-leb}
+use lib.Dec.{leb, lit≤}
 use lib.IntN.{ℤ, pos}
 use lib.ListN.{length, drop, replicate}
 use Rattle.commitment.specs.declared.Cause.TheVariants.{Scratch}
@@ -13,12 +13,7 @@ use Rattle.commitment.specs.declared.Checked.{Checked}
 use Rattle.commitment.specs.declared.Checked.TheVariants.{Passed}
 use Rattle.commitment.specs.declared.UnitRecord.{UnitRecord}
 use Rattle.commitment.specs.Best.{best}
-use Rattle.commitment.specs.declared.Limit.TheVariants.{None, At}
-use Rattle.commitment.specs.declared.Limits.{Limits}
-use Rattle.commitment.specs.declared.Months.TheVariants.{Unlimited, Limited}
-use Rattle.commitment.specs.Cells.{month_cells, cells_needed, cells_long, cells_used, cells_given, met}
-use Rattle.commitment.specs.Limits.{limited}
-use Rattle.integers.specs.Capped.{largest, capped}
+use Rattle.commitment.specs.Cells.{cells_needed, cells_long, cells_used}
 use Rattle.commitment.specs.Ranges.{ranges_kept, prices_kept}
 use Rattle.commitment.specs.PlanCases.{c1, c7, c1-prices}
 use Rattle.commitment.specs.Valuing.{outcomes_of}
@@ -33,11 +28,10 @@ use Rattle.answers.specs.Sizes.{cell_room}
 use Rattle.answers.proofs.Found.{planned-in-room}
 use Rattle.planner.proofs.Lent.{long-used, two-used}
 
-module _ (u : UnitRecord) (prices : List ℤ) (a b : ℕ) (enough : met (cells_needed u (length prices)) a ≡ true)
-    (also : met (cells_needed u (length prices)) b ≡ true) where
+module _ (u : UnitRecord) (prices : List ℤ) (a b : ℕ) (enough : cells_needed u (length prices) ≤ a) (also : cells_needed u (length prices) ≤ b) where
   -- what is found does not go by which of them is lent
-  fits-same : met (cells_needed u (length prices)) a ≡ met (cells_needed u (length prices)) b
-  fits-same = enough ∙ sym also
+  fits-same : leb (cells_needed u (length prices)) a ≡ leb (cells_needed u (length prices)) b
+  fits-same = le-leb (cells_needed u (length prices)) a enough ∙ sym (le-leb (cells_needed u (length prices)) b also)
 
   found-same : (entries : ℕ) → plan_checked u prices a entries ≡ plan_checked u prices b entries
   unfolding plan_checked
@@ -66,9 +60,8 @@ module _ (u : UnitRecord) (prices : List ℤ) (a b : ℕ) (enough : met (cells_n
 
 -- ---- and so are the bytes printed for a text: those of the report of its case from any scratch of two layers or more
 
-pub same-printed : (text : List ℕ) (cells : ℕ) → written_checked text ≡ Passed
-    → met (cells_needed (unit_in text) (length (prices_in text))) cell_room ≡ true
-    → met (cells_needed (unit_in text) (length (prices_in text))) cells ≡ true
+pub same-printed : (text : List ℕ) (cells : ℕ) → written_checked text ≡ Passed → cells_needed (unit_in text) (length (prices_in text)) ≤ cell_room
+    → cells_needed (unit_in text) (length (prices_in text)) ≤ cells
     → printed_for (plan_checked (unit_in text) (prices_in text) cells (length (prices_in text))) (unit_in text) (prices_in text) ≡ printed text
 unfolding printed
 same-printed text cells passed enough also =
@@ -90,12 +83,12 @@ module _ (u : UnitRecord) (prices was : List ℤ) where
   leaves : (used : ℕ) → used ≡ cells_used u (length prices) (length was) → LeavesCleared used
   leaves used e = (λ entries passed. rw (passed, ← e), λ passed. rw (passed, ← e))
 
-  -- the long table where its need is met, and what lies beyond it as it was
-  pub long-left : met (cells_long u (length prices)) (length was) ≡ true → LeavesCleared (cells_long u (length prices))
+  -- the long table where it fits, and what lies beyond it as it was
+  pub long-left : cells_long u (length prices) ≤ length was → LeavesCleared (cells_long u (length prices))
   long-left fits = leaves (cells_long u (length prices)) (long-used u (length prices) (length was) fits)
 
   -- else two layers
-  pub two-left : met (cells_long u (length prices)) (length was) ≡ false → LeavesCleared (cells_needed u (length prices))
+  pub two-left : length was < cells_long u (length prices) → LeavesCleared (cells_needed u (length prices))
   two-left short = leaves (cells_needed u (length prices)) (two-used u (length prices) (length was) short)
 
 -- for one price the two are the same
@@ -105,69 +98,15 @@ one-price u = refl
 -- ---- C1: 588 cells for the long table, 168 for two layers
 
 pub c1-cells : (cells_long c1 6 ≡ 588) × (cells_needed c1 6 ≡ 168) × (cells_used c1 6 588 ≡ 588) × (cells_used c1 6 587 ≡ 168) × (cells_used c1 6 168 ≡ 168)
-unfolding month_cells met
 c1-cells = (refl, refl, refl, refl, refl)
 
 pub c1-eight : (planned c1 c1-prices 167 6 ≡ planning.Refused Scratch) × (valued c1 c1-prices 167 ≡ valuing.Refused Scratch)
-unfolding month_cells met plan_checked value_checked ranges_kept prices_kept
+unfolding plan_checked value_checked ranges_kept prices_kept
 c1-eight = (refl, refl)
 
 -- from 587 and from 168 of them it is planned as from the program's, and C7 is valued from its 336
 pub c1-planned : (planned c1 c1-prices 587 6 ≡ planned c1 c1-prices cell_room 6) × (planned c1 c1-prices 168 6 ≡ planned c1 c1-prices cell_room 6)
-unfolding month_cells met
-c1-planned = (same-plan c1 c1-prices 587 cell_room refl refl 6, same-plan c1 c1-prices 168 cell_room refl refl 6)
+c1-planned = (same-plan c1 c1-prices 587 cell_room (lit≤ tt) (lit≤ tt) 6, same-plan c1 c1-prices 168 cell_room (lit≤ tt) (lit≤ tt) 6)
 
 pub c7-valued : (cells_needed c7 6 ≡ 336) × (valued c7 c1-prices 336 ≡ valued c7 c1-prices cell_room)
-unfolding month_cells met
-c7-valued = (refl, same-value c7 c1-prices 336 cell_room refl refl)
-
--- ---- above 10^18: the long table of a year for C1's unit at the ends of its limitations, which no scratch holds; and both sizes for the widest unit, 8
-
-abbrev end_limits : Limits
-end_limits = record { starts = At 35136; hours = At 8784; mwh = At 4392000 }
-
-abbrev c1-year : UnitRecord
-c1-year = limited c1 end_limits
-
-abbrev widest : UnitRecord
-widest =
-    record {
-      generator = record { block = 1; pmin = 1; pmax = 500; mot = 96; mdt = 96 };
-      opening = c1.opening;
-      costs = c1.costs;
-      limits = end_limits;
-      permit = c1.permit;
-      months = Unlimited;
-    }
-
-pub year-cells : (cells_given (cells_needed c1-year 35136) ≡ 694077296191496) × (cells_given (cells_long c1-year 35136) ≡ largest)
-unfolding month_cells capped
-year-cells = (refl, refl)
-
--- the same unit without MWh limited, and starts and hours limited in every month too
-abbrev c1-months : UnitRecord
-c1-months =
-    record {
-      generator = c1.generator;
-      opening = c1.opening;
-      costs = c1.costs;
-      limits = record { starts = At 35136; hours = At 8784; mwh = None };
-      permit = c1.permit;
-      months = Limited (record { limits = record { starts = At 2976; hours = At 744; mwh = None }; valued = 1 });
-    }
-
-pub months-cells : cells_given (cells_needed c1-months 35136) ≡ 87534048151334408
-unfolding month_cells capped
-months-cells = refl
-
-pub year-used : (lent : ℕ) → cells_used c1-year 35136 lent ≡ cells_needed c1-year 35136
-unfolding month_cells met
-year-used lent = refl
-
-pub widest-cells : (cells_given (cells_needed widest 35136) ≡ largest) × (cells_given (cells_long widest 35136) ≡ largest)
-unfolding month_cells capped
-widest-cells = (refl, refl)
-
-pub widest-never : (lent : ℕ) → met (cells_needed widest 35136) lent ≡ false
-unfolding month_cells met
-widest-never lent = refl
+c7-valued = (refl, same-value c7 c1-prices 336 cell_room (lit≤ tt) (lit≤ tt))

@@ -5,7 +5,6 @@ use mathlib.Core.List.{List, [], ◌∷◌, ◌++◌, map}
 use Prim.Native.Nat.{ℕ}
 use Rattle.lists.specs.Text.{bytes}
 use Rattle.casefile.specs.Reading.{unit_in, prices_in}
-use Rattle.commitment.specs.Cells.{month_cells, met}
 use Rattle.commitment.specs.Ranges.{ranges_kept, prices_kept}
 use Rattle.casetext.specs.Form.{form_kept, names_kept}
 use Rattle.tabletext.specs.Bytes.{is_of}
@@ -74,7 +73,7 @@ lines =
 
 pub c1-whole : printed text ≡ lines
 unfolding
-    month_cells met printed all_found unit_in prices_in listing refusal number decimal form_kept names_kept is_of is_name is_value value_of numeral ranges_kept prices_kept
+    printed all_found unit_in prices_in listing refusal number decimal form_kept names_kept is_of is_name is_value value_of numeral ranges_kept prices_kept
 c1-whole = refl
 
 -- the same from 3 February 2024, in hour 0 alone
@@ -106,7 +105,7 @@ hour-lines =
 
 pub hour-whole : printed hour-text ≡ hour-lines
 unfolding
-    month_cells met printed all_found unit_in prices_in listing refusal number decimal form_kept names_kept is_of is_name is_value value_of numeral ranges_kept prices_kept
+    printed all_found unit_in prices_in listing refusal number decimal form_kept names_kept is_of is_name is_value value_of numeral ranges_kept prices_kept
     clock_after hours_of is_sunday day_number hours_allowed
 hour-whole = refl
 
@@ -119,13 +118,13 @@ twelve-defined = both planCases.worked costCases.worked
     both p q = cc
 
 pub twelve : answers_of_twelve ≡ said_of_twelve
-unfolding month_cells met rounded plan_checked value_checked costed inputs_checked inputs_kept segments_kept ranges_kept prices_kept
+unfolding rounded plan_checked value_checked costed inputs_checked inputs_kept segments_kept ranges_kept prices_kept
 twelve = refl
 
 -- and of permitted hours; C1's plan handed in with hour 0 alone is refused with 10
 
 pub hour-cases : answers_of_hours ≡ map (λ (r : Row). r.given) table
-unfolding month_cells met plan_checked value_checked ranges_kept prices_kept clock_after hours_of is_sunday day_number
+unfolding plan_checked value_checked ranges_kept prices_kept clock_after hours_of is_sunday day_number
 hour-cases = refl
 
 pub handed-in-shut : assessed (c1-word 1) c1-prices (0 ∷ 20 ∷ 20 ∷ 10 ∷ 20 ∷ 20 ∷ []) ≡ Refused NotKept

@@ -3,7 +3,7 @@ use Rattle.std.specs.Prelude.{◌≡◌, false, List, [], ◌∷◌, ◌++◌, �
 use Rattle.calendar.specs.declared.Date as calendar
 use Rattle.calendar.specs.Dates.{days_in}
 use Rattle.commitment.specs.declared.Cause.{Cause}
-use Rattle.commitment.specs.declared.Cause.TheVariants.{Form, Name, Range, Levels, Shape, Date, Months, Horizon, Segments, Length, Scratch, NoSchedule, NotKept}
+use Rattle.commitment.specs.declared.Cause.TheVariants.{Form, Name, Range, Levels, Shape, Date, Horizon, Segments, Length, Scratch, NoSchedule, NotKept}
 use Rattle.costs.specs.declared.CostInputs.{CostInputs}
 use Rattle.commitment.specs.declared.Permit.{Permit}
 use Rattle.commitment.specs.declared.Permit.TheVariants.{AnyHour, Within}
@@ -18,7 +18,6 @@ use Rattle.curves.specs.declared.CurveInputs.{CurveInputs}
 use Rattle.listing.specs.declared.HourWord.{HourWord}
 use Rattle.listing.specs.declared.HourWord.TheVariants as hours
 use Rattle.answers.specs.Sizes.{cell_room}
-use Rattle.promises.specs.Months.{MonthGiven, MonthsUnfit}
 use Rattle.promises.specs.Ranges.{InRange, PricesInRange, case_figures, cost_ranges, curve_ranges, clock_ranges}
 
 -- a cause of a call, and when it holds; a cause that is not in a call's list does not concern it
@@ -54,19 +53,12 @@ abbrev pub NoSuchDate : Permit → Type 0
 NoSuchDate AnyHour = ⊥
 NoSuchDate (Within w) = NoSuchDay w.date
 
--- what is said of the record and the prices, figure by figure; then month figures, and the horizon
-abbrev pub figure_causes : UnitRecord → List ℤ → List Reason
-figure_causes u prices =
-    (Range when ((InRange (case_figures u) × MonthGiven u.months) × PricesInRange prices → ⊥))
-    ∷ (Shape when Misshapen u.generator.block u.generator.pmin u.generator.pmax)
-    ∷ (Date when NoSuchDate u.permit)
-    ∷ []
-
 abbrev pub case_causes : UnitRecord → List ℤ → List Reason
 case_causes u prices =
-    figure_causes u prices
-    ++ (Months when MonthsUnfit u.months u.limits u.permit (length prices))
-    ∷ (Horizon when ((length prices ≡ 0) ⊎ (35136 < length prices)))
+    (Range when (InRange (case_figures u) × PricesInRange prices → ⊥))
+    ∷ (Shape when Misshapen u.generator.block u.generator.pmin u.generator.pmax)
+    ∷ (Date when NoSuchDate u.permit)
+    ∷ (Horizon when ((length prices ≡ 0) ⊎ (2976 < length prices)))
     ∷ []
 
 -- ---- reading a text into a slice with room for so many prices
@@ -101,12 +93,8 @@ hand_in_causes u prices s = case_causes u prices ++ handed_causes u prices s
 abbrev pub NoRival : UnitRecord → List ℤ → Type 0
 NoRival u prices = (rival : List ℕ) → Rival u prices rival → ⊥
 
--- a need above 10^18 is not met by any cells
-abbrev pub NotMet : ℕ → ℕ → Type 0
-NotMet need cells = (1000000000000000000 < need) ⊎ (cells < need)
-
 abbrev pub table_causes : UnitRecord → List ℤ → ℕ → List Reason
-table_causes u prices cells = (Scratch when NotMet (cells_needed u (length prices)) cells) ∷ (NoSchedule when NoRival u prices) ∷ []
+table_causes u prices cells = (Scratch when cells < cells_needed u (length prices)) ∷ (NoSchedule when NoRival u prices) ∷ []
 
 abbrev pub slices_causes : UnitRecord → List ℤ → ℕ → ℕ → List Reason
 slices_causes u prices cells entries = (Length when entries < length prices) ∷ table_causes u prices cells

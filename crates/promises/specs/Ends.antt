@@ -1,14 +1,11 @@
 -- Both ends of every range, through the calls (specification 2, 3, 10, 12, 21, 22): the figures of an input as a list, and for each figure an input with it at
 -- its least and one with it at its most. Each of the two is answered, and 3 is what one less and one more get.
-use Rattle.std.specs.Prelude.{true, List, [], ◌∷◌, ℕ, zero, suc, ◌+◌, pos, neg_ℤ, get_or, set, replicate}
+use Rattle.std.specs.Prelude.{List, [], ◌∷◌, ℕ, zero, suc, ◌+◌, pos, neg_ℤ, get_or, set, replicate}
 use Rattle.calendar.specs.Dates.{date}
 use Rattle.costs.specs.declared.CostInputs.{CostInputs}
 use Rattle.commitment.specs.declared.Limit.TheVariants.{At}
-use Rattle.commitment.specs.declared.Months.TheVariants.{Limited}
 use Rattle.commitment.specs.declared.Permit.TheVariants.{Within}
 use Rattle.commitment.specs.declared.UnitRecord.{UnitRecord}
-use Rattle.commitment.specs.Causes.{checked_number}
-use Rattle.commitment.specs.Ranges.{case_checked}
 use Rattle.commitment.specs.Valuing.{no_outcomes}
 use Rattle.checking.specs.Clock.{clock_hour, clock_number}
 use Rattle.assessment.specs.Assessed.{assessed, assessed_number}
@@ -59,8 +56,7 @@ beyond (suc less) = 3 ∷ []
 abbrev pub expected_at : Ends → List ℕ
 expected_at e = 0 ∷ 0 ∷ 3 ∷ beyond (get_or e.least e.place 0)
 
--- ---- a case, handed in with one interval off at price 0: block, pmin, pmax, mot, mdt, was, held, vec, mlc, suc, starts, hours, mwh, year, month, day, word, and the
--- figures of every month
+-- ---- a case, handed in with one interval off at price 0: block, pmin, pmax, mot, mdt, was, held, vec, mlc, suc, starts, hours, mwh, year, month, day, word
 
 abbrev unit_at : List ℕ → UnitRecord
 unit_at f =
@@ -70,17 +66,14 @@ unit_at f =
       costs = record { vec = get_or f 7 0; mlc = get_or f 8 0; suc = get_or f 9 0 };
       limits = record { starts = At (get_or f 10 0); hours = At (get_or f 11 0); mwh = At (get_or f 12 0) };
       permit = Within (record { date = date (get_or f 13 0) (get_or f 14 0) (get_or f 15 0); word = get_or f 16 0 });
-      months =
-          Limited
-          (record { limits = record { starts = At (get_or f 17 0); hours = At (get_or f 18 0); mwh = At (get_or f 19 0) }; valued = get_or f 20 0 });
     }
 
 abbrev pub case_number : List ℕ → ℕ
 case_number f = assessed_number (assessed (unit_at f) (pos 0 ∷ []) (0 ∷ []))
 
--- block 1, pmin 1 and pmax 1, mot and mdt 1, off for a quarter-hour, no costs, nothing left, 31 January 2024, no hours, nothing left in its month
+-- block 1, pmin 1 and pmax 1, mot and mdt 1, off for a quarter-hour, no costs, nothing left, 31 January 2024, no hours
 abbrev plain : List ℕ
-plain = 1 ∷ 1 ∷ 1 ∷ 1 ∷ 1 ∷ 0 ∷ 1 ∷ 0 ∷ 0 ∷ 0 ∷ 0 ∷ 0 ∷ 0 ∷ 2024 ∷ 1 ∷ 31 ∷ 0 ∷ 0 ∷ 0 ∷ 0 ∷ 1 ∷ []
+plain = 1 ∷ 1 ∷ 1 ∷ 1 ∷ 1 ∷ 0 ∷ 1 ∷ 0 ∷ 0 ∷ 0 ∷ 0 ∷ 0 ∷ 0 ∷ 2024 ∷ 1 ∷ 31 ∷ 0 ∷ []
 
 abbrev pub case_ends : List Ends
 case_ends =
@@ -94,24 +87,14 @@ case_ends =
     ∷ ends 7 plain (2000000 at 7 of plain)
     ∷ ends 8 plain (1000000000 at 8 of plain)
     ∷ ends 9 plain (4000000000 at 9 of plain)
-    ∷ ends 10 plain (35136 at 10 of plain)
-    ∷ ends 11 plain (8784 at 11 of plain)
-    ∷ ends 12 plain (4392000 at 12 of plain)
+    ∷ ends 10 plain (2976 at 10 of plain)
+    ∷ ends 11 plain (744 at 11 of plain)
+    ∷ ends 12 plain (372000 at 12 of plain)
     ∷ ends 13 (2007 at 13 of plain) (2099 at 13 of plain)
     ∷ ends 14 plain (12 at 14 of plain)
     ∷ ends 15 (1 at 15 of plain) plain
     ∷ ends 16 plain (16777215 at 16 of plain)
-    ∷ ends 17 plain (2976 at 17 of plain)
-    ∷ ends 18 plain (744 at 18 of plain)
-    ∷ ends 19 plain (372000 at 19 of plain)
     ∷ []
-
--- the month to value, in a horizon that reaches into the thirteenth: 336 days and an interval
-abbrev pub valued_number : List ℕ → ℕ
-valued_number f = checked_number (case_checked (unit_at f) true 32257)
-
-abbrev pub valued_ends : List Ends
-valued_ends = ends 20 plain (13 at 20 of plain) ∷ []
 
 -- a price, above 0 and below it
 abbrev pub price_number : List ℕ → ℕ
@@ -237,7 +220,7 @@ clock_ends =
     ends 0 (2007 at 0 of january) (2099 at 0 of january)
     ∷ ends 1 january (12 at 1 of january)
     ∷ ends 2 (1 at 2 of january) january
-    ∷ ends 3 january (35136 at 3 of january)
+    ∷ ends 3 january (2976 at 3 of january)
     ∷ []
 
 -- ---- the word of a listing

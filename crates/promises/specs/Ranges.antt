@@ -4,8 +4,6 @@ use Rattle.calendar.specs.declared.Date.{Date}
 use Rattle.costs.specs.declared.CostInputs.{CostInputs}
 use Rattle.commitment.specs.declared.Limit.{Limit}
 use Rattle.commitment.specs.declared.Limit.TheVariants.{None, At}
-use Rattle.commitment.specs.declared.Months.{Months}
-use Rattle.commitment.specs.declared.Months.TheVariants.{Unlimited, Limited}
 use Rattle.commitment.specs.declared.Permit.{Permit}
 use Rattle.commitment.specs.declared.Permit.TheVariants.{AnyHour, Within}
 use Rattle.commitment.specs.declared.UnitRecord.{UnitRecord}
@@ -39,13 +37,6 @@ abbrev pub permit_figures : Permit → List Figure
 permit_figures AnyHour = []
 permit_figures (Within w) = date_figures w.date ++ (0 to 16777215 is w.word) ∷ []
 
--- the month figures that are given, and the month to value
-abbrev pub months_figures : Months → List Figure
-months_figures Unlimited = []
-months_figures (Limited m) =
-    limit_figure 2976 m.limits.starts
-    ++ (limit_figure 744 m.limits.hours ++ (limit_figure 372000 m.limits.mwh ++ (1 to 13 is m.valued) ∷ []))
-
 abbrev pub case_figures : UnitRecord → List Figure
 case_figures u =
     (1 to 500 is u.generator.block)
@@ -58,8 +49,8 @@ case_figures u =
     ∷ (0 to 2000000 is u.costs.vec)
     ∷ (0 to 1000000000 is u.costs.mlc)
     ∷ (0 to 4000000000 is u.costs.suc)
-    ∷ (limit_figure 35136 u.limits.starts
-    ++ (limit_figure 8784 u.limits.hours ++ (limit_figure 4392000 u.limits.mwh ++ (permit_figures u.permit ++ months_figures u.months))))
+    ∷ (limit_figure 2976 u.limits.starts
+    ++ (limit_figure 744 u.limits.hours ++ (limit_figure 372000 u.limits.mwh ++ permit_figures u.permit)))
 
 -- prices from −200,000 to 200,000
 abbrev pub PricesInRange : List ℤ → Type 0
@@ -105,4 +96,4 @@ curve_ranges k levels rates =
 -- ---- the clock hour of an interval
 
 abbrev pub clock_ranges : Date → ℕ → List Figure
-clock_ranges d interval = date_figures d ++ (1 to 35136 is interval) ∷ []
+clock_ranges d interval = date_figures d ++ (1 to 2976 is interval) ∷ []

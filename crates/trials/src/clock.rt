@@ -15,11 +15,7 @@ pub fn try_clock() {
     try_date(b"2099-12-31", on(2099, 12, 31));
     try_interval(b"2024-02-30 interval 1 refused,", on(2024, 2, 30), 1);
     try_interval(b"2024-02-29 interval 0 refused,", on(2024, 2, 29), 0);
-    try_interval(
-        b"2024-02-29 interval 35137 refused,",
-        on(2024, 2, 29),
-        35137,
-    );
+    try_interval(b"2024-02-29 interval 2977 refused,", on(2024, 2, 29), 2977);
     text(b"\n");
 }
 

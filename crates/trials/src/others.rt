@@ -1,5 +1,4 @@
-// C1 besides its plan: the cells that it needs, slices too short, schedules handed in, and those two where only hour 0 is permitted. The cells of other cases,
-// one with month figures among them.
+// C1 besides its plan: the cells that it needs, slices too short, schedules handed in, and those two where only hour 0 is permitted. The cells of other cases.
 
 use crate::files::{contents, hand_in, try_case};
 use casefile::CaseRead;
@@ -18,8 +17,6 @@ pub fn try_others() {
     try_schedules(unit, &prices);
     try_first_hour();
     try_two_layers();
-    try_month_cells();
-    try_month_layers();
     text(b"\n");
 }
 
@@ -28,7 +25,7 @@ fn unit_in(path: &[u8], prices: &mut [i64]) -> UnitRecord {
 }
 
 fn read_from(path: &[u8], prices: &mut [i64]) -> CaseRead {
-    let mut bytes = [0u8; 1024];
+    let mut bytes = [0u8; 512];
     let size = contents(path, &mut bytes);
     casefile::read_into(&bytes[..size], prices)
 }
@@ -100,47 +97,9 @@ fn try_two_layers() {
     try_case(unit, &prices, &mut scratch);
 }
 
-// Starts of a year and of a month: four states, and a cell for each count of both that can be left.
-fn try_month_cells() {
-    let mut prices = [0i64; 100];
-    let unit = unit_in(b"months-starts.csv", &mut prices);
-    let mut long = [0i64; 6060];
-    let mut between = [0i64; 6059];
-    text(b"\n");
-    line(
-        b"months planned with 6060 cells,",
-        planned(unit, &prices, &mut long),
-    );
-    lending::fill(&mut between);
-    line(
-        b"months planned with 6059 cells,",
-        planned(unit, &prices, &mut between),
-    );
-    line(
-        b"120 cells 0 and the others as they were,",
-        one_if(lending::is_left(&between, 120)),
-    );
-}
-
-// Two layers, and a cell less.
-fn try_month_layers() {
-    let mut prices = [0i64; 100];
-    let unit = unit_in(b"months-starts.csv", &mut prices);
-    let mut two = [0i64; 120];
-    let mut short = [0i64; 119];
-    line(
-        b"months planned with 120 cells,",
-        planned(unit, &prices, &mut two),
-    );
-    line(
-        b"months planned with 119 cells,",
-        planned(unit, &prices, &mut short),
-    );
-}
-
-// With room for a hundred intervals, the most that these cases have.
+// With room for six intervals, the most that these cases have.
 fn planned(unit: UnitRecord, prices: &[i64], scratch: &mut [i64]) -> u64 {
-    let mut schedule = [0u64; 100];
+    let mut schedule = [0u64; 6];
     planner::contents::planned_number(planner::plan_into(unit, prices, scratch, &mut schedule))
 }
 

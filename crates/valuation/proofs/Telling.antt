@@ -1,6 +1,6 @@
 -- What a first layer tells: the best profit of every run, and whether there is a plan.
-use mathlib.Core.Path.{◌≡◌, sym, ap, ◌∙◌}
-use mathlib.Core.List.{List, []}
+use mathlib.Core.Path.{◌≡◌, sym, ◌∙◌}
+use mathlib.Core.List.{List}
 use Prim.Native.Nat.{ℕ, ◌≤◌, ◌<◌}
 use native.Mathlib.Omega.{arith}
 use lib.IntN.{ℤ, nat_abs}
@@ -8,12 +8,10 @@ use lib.ListN.{length}
 use Rattle.commitment.specs.declared.BestProfit.{BestProfit}
 use Rattle.commitment.specs.declared.BestProfit.TheVariants.{Nothing, Profit}
 use Rattle.commitment.specs.declared.Limits.{Limits}
-use Rattle.commitment.specs.declared.Months.{Months}
-use Rattle.commitment.specs.declared.Months.TheVariants.{Unlimited}
 use Rattle.commitment.specs.declared.UnitRecord.{UnitRecord}
-use Rattle.commitment.specs.Best.{best, best_in, profit_of}
+use Rattle.commitment.specs.Best.{best, profit_of}
 use Rattle.commitment.specs.Bounds.{most_intervals}
-use Rattle.commitment.specs.Keeping.{opens_in, months_under}
+use Rattle.commitment.specs.Keeping.{opens_in}
 use Rattle.commitment.specs.Limits.{limited}
 use Rattle.commitment.specs.Ranges.{InOrder}
 use Rattle.optimality.specs.Machine.{anywhere}
@@ -28,29 +26,22 @@ use Rattle.geometry.specs.Layers.{told, in_front, Holds, Layer}
 use Rattle.geometry.proofs.Telling.{front-told}
 use Rattle.valuation.specs.Telling.{amount, most_amount, Told}
 
-pub stored-small : (n : ℕ) (v : BestProfit) (r : ℤ) → n ≤ most_intervals → Holds n v r → nat_abs (amount v) < most_amount
+stored-small : (n : ℕ) (v : BestProfit) (r : ℤ) → n ≤ most_intervals → Holds n v r → nat_abs (amount v) < most_amount
 stored-small n Nothing r h k = omega arith
 stored-small n (Profit p) r h k = omega (arith, k.1)
 
--- the best profits of a case without month figures
-alone : (u : UnitRecord) (prices : List ℤ) → u.months ≡ Unlimited → (limits : Limits) → best (limited u limits) prices ≡ best_in (limited u limits) [] prices
-alone u prices e limits = ap (λ (m : Months). best_in (limited u limits) (months_under m u.permit (length prices)) prices) e
-
--- of a case in order without them, the first layer at the front
-pub told_in : (u : UnitRecord) (prices cells : List ℤ) → u.months ≡ Unlimited → InOrder u (length prices) → width (figures_of u (length prices)) ≤ length cells
+-- of a case in order, the first layer at the front
+pub told_in : (u : UnitRecord) (prices cells : List ℤ) → InOrder u (length prices) → width (figures_of u (length prices)) ≤ length cells
     → Layer (figures_of u (length prices)) anywhere (quarters_of u prices) (in_front (figures_of u (length prices)) cells) → Told u prices cells
-told_in u prices cells none order wide layer =
+told_in u prices cells order wide layer =
     let f = figures_of u (length prices) in
     let quarters = quarters_of u prices in
     let short : length quarters ≤ most_intervals = omega (arith, quarters-length (opens_in u.permit) 0 prices, order.short) in
     record {
       order = order;
       wide = wide;
-      value = value_at f anywhere quarters;
       first = λ c i. front-told f anywhere quarters cells c layer short i;
       small = λ c i. stored-small (length quarters) (value_at f anywhere quarters c) _ short (layer.holds c i);
-      runs = λ limits under.
-          ap profit_of (alone u prices none limits) ∙ profit-under u (ranged u order.ranges order.shape) prices limits under;
     }
 
 module _ (u : UnitRecord) (prices cells : List ℤ) (t : Told u prices cells) where
@@ -67,21 +58,18 @@ module _ (u : UnitRecord) (prices cells : List ℤ) (t : Told u prices cells) wh
     -- the opening cell under smaller limitations tells their best profit
     pub run-told : told (in_front (figures_of u (length prices)) cells (opening_cell (limited u limits) (length prices)))
         ≡ profit_of (best (limited u limits) prices)
-    run-told = t.first (opening_cell (limited u limits) (length prices)) run_inside ∙ sym (t.runs limits under)
+    run-told = t.first (opening_cell (limited u limits) (length prices)) run_inside ∙ sym (profit-under u unit-ranged prices limits under)
 
     pub run_small : nat_abs (amount (profit_of (best (limited u limits) prices))) < most_amount
-    run_small = rw (t.runs limits under) (t.small (opening_cell (limited u limits) (length prices)) run_inside)
+    run_small = rw (profit-under u unit-ranged prices limits under) (t.small (opening_cell (limited u limits) (length prices)) run_inside)
 
   pub opening-inside : InTable (figures_of u (length prices)) (opening_cell u (length prices))
   opening-inside = run_inside u.limits (under-itself u.limits)
 
-  module _ (none : u.months ≡ Unlimited) where
-    pub opening-plan : plan_at (figures_of u (length prices)) anywhere (quarters_of u prices) (opening_cell u (length prices)) ≡ best u prices
-    opening-plan = sym (alone u prices none u.limits ∙ best-cell u unit-ranged prices)
+  pub opening-plan : plan_at (figures_of u (length prices)) anywhere (quarters_of u prices) (opening_cell u (length prices)) ≡ best u prices
+  opening-plan = sym (best-cell u unit-ranged prices)
 
-    -- where there is a schedule, the opening cell has a plan
-    pub opening-some : (profit_of (best u prices) ≡ Nothing → ⊥)
-        → value_at (figures_of u (length prices)) anywhere (quarters_of u prices) (opening_cell u (length prices)) ≡ Nothing → ⊥
-    opening-some some empty =
-        some
-        (ap profit_of (alone u prices none u.limits) ∙ profit-under u unit-ranged prices u.limits (under-itself u.limits) ∙ empty)
+  -- where there is a schedule, the opening cell has a plan
+  pub opening-some : (profit_of (best u prices) ≡ Nothing → ⊥)
+      → value_at (figures_of u (length prices)) anywhere (quarters_of u prices) (opening_cell u (length prices)) ≡ Nothing → ⊥
+  opening-some some none = some (profit-under u unit-ranged prices u.limits (under-itself u.limits) ∙ none)

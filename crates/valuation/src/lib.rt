@@ -1,21 +1,19 @@
 // The runs of valuing, each a look at one cell of the first layer.
 
-ghost use Rattle.std.specs.Prelude.{◌≡◌, ◌<◌, nat_abs, length};
-ghost use Rattle.commitment.specs.declared.Months.TheVariants.{Unlimited};
+ghost use Rattle.std.specs.Prelude.{◌≡◌, ◌<◌, nat_abs};
 ghost use Rattle.commitment.specs.declared.Limit.TheVariants.{At};
 ghost use Rattle.commitment.specs.Best.{best, profit_of};
 ghost use Rattle.commitment.specs.Limits.{limit_for, limited};
-ghost use Rattle.commitment.specs.Keeping.{months_for};
-ghost use Rattle.commitment.specs.Valuing.{run_at, runs_at, gap_between, gap_over, outcomes_of};
+ghost use Rattle.commitment.specs.Valuing.{run_at, gap_between, gap_at, outcome_of, outcomes_of};
 ghost use Rattle.optimality.specs.Runs.{AtMost, Under};
-ghost use Rattle.valuation.specs.Telling.{ToldBy, outcome_whole, amount, most_amount};
+ghost use Rattle.valuation.specs.Telling.{ToldBy, amount, most_amount};
 
 use commitment::{BestProfit, Limit, Limitation, Limits, Outcome, Outcomes, UnitRecord};
 use optimality::Figures;
 
-// All from one first layer: a run with less is a cell of it with less left. No month is limited here.
+// All from one first layer: a run with less is a cell of it with less left.
 pub fn outcomes_in(unit: UnitRecord, f: Figures, prices: &[i64], cells: &[i64]) -> Outcomes
-    requires { (ToldBy f unit prices.now cells.now) × (unit.months ≡ Unlimited) }
+    requires { ToldBy f unit prices.now cells.now }
     ensures { result ≡ outcomes_of unit prices.now }
 {
     let starts = outcome_in(unit, f, prices, cells, Limitation::Starts);
@@ -24,8 +22,8 @@ pub fn outcomes_in(unit: UnitRecord, f: Figures, prices: &[i64], cells: &[i64]) 
     Outcomes { starts, hours, mwh }
 }
 
-// A limitation without a month figure. What is not limited is not valued.
-pub fn outcome_in(
+// What is not limited is not valued.
+fn outcome_in(
     unit: UnitRecord,
     f: Figures,
     prices: &[i64],
@@ -33,7 +31,7 @@ pub fn outcome_in(
     which: Limitation,
 ) -> Outcome
     requires { ToldBy f unit prices.now cells.now }
-    ensures { result ≡ outcome_whole unit prices.now which }
+    ensures { result ≡ outcome_of unit prices.now which }
 {
     let limits = unit.limits;
     let limit = commitment::limit_for(limits, which);
@@ -54,7 +52,7 @@ fn run_pair(
 ) -> Outcome
     requires told_by { ToldBy f unit prices.now cells.now }
     requires at_most { AtMost (At figure) (limit_for unit.limits which) }
-    ensures { result ≡ gap_over prices.now (runs_at unit (months_for unit (length prices.now)) which figure) }
+    ensures { result ≡ gap_at (λ k. profit_of (best (run_at unit which k) prices.now)) figure }
 {
     if figure == 0 {
         return Outcome::Empty;
@@ -108,7 +106,7 @@ fn profit_under(
 }
 
 // Without a schedule of the lower run there is nothing to compare with.
-pub fn gap_between(first: BestProfit, lower: BestProfit) -> Outcome
+fn gap_between(first: BestProfit, lower: BestProfit) -> Outcome
     requires { (nat_abs (amount first) < most_amount) × (nat_abs (amount lower) < most_amount) }
     ensures { result ≡ gap_between first lower }
 {

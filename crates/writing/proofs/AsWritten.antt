@@ -1,6 +1,6 @@
 -- Demand 1's sentence: in a text that is not refused each field is the value written under its name, and the prices are those of the lines in order.
 use mathlib.Core.Path.{◌≡◌, refl, sym, ap, ap₂, ◌∙◌}
-use mathlib.Core.Bool.{Bool, true, false, ◌&&◌, ◌||◌, not, cond, false≢true}
+use mathlib.Core.Bool.{Bool, true, false, ◌&&◌, cond}
 use mathlib.Core.List.{List, [], ◌∷◌, map}
 use Prim.Native.Nat.{ℕ, zero, suc, ◌+◌, ◌≤◌, ◌<◌}
 use native.Mathlib.Omega.{arith}
@@ -9,41 +9,38 @@ use lib.IntN.{ℤ, pos, negsuc, nat_abs}
 use lib.ListN.{length, take, drop, get_or, length-map}
 use lib.Seq.{take-append_seam}
 use borrow.Author.Tests.{leb-true, eqb-true}
-use Rattle.commitment.specs.Bounds.{most_starts, most_hours, most_mwh, most_month_starts, most_month_hours, most_month_mwh}
+use Rattle.commitment.specs.Bounds.{most_starts, most_hours, most_mwh}
 use Rattle.commitment.specs.declared.Checked.TheVariants.{Passed}
-use Rattle.commitment.specs.declared.Limit.TheVariants.{None, At}
-use Rattle.commitment.specs.declared.Months.TheVariants.{Unlimited, Limited}
 use Rattle.commitment.specs.declared.Permit.TheVariants.{AnyHour, Within}
 use Rattle.commitment.specs.declared.UnitRecord.{UnitRecord}
 use Rattle.commitment.specs.Limits.{limit_kept}
-use Rattle.commitment.specs.Ranges.{permit_kept, months_kept, prices_kept, case_checked}
+use Rattle.commitment.specs.Ranges.{permit_kept, prices_kept, case_checked}
 use Rattle.lists.specs.Every.{every}
 use Rattle.lists.proofs.Conjunctions.{both}
 use Rattle.commitment.proofs.Passing.{Passing, passing, prices-small}
 use Rattle.lists.proofs.Every.{every-at}
-use Rattle.commitment.proofs.Ranges.{InRange, in-range, window-ranges, monthly-ranges}
+use Rattle.commitment.proofs.Ranges.{InRange, in-range, window-ranges}
 use Rattle.tabletext.specs.declared.Class.TheVariants.{Comma}
 use Rattle.tabletext.specs.declared.Value.{Value}
 use Rattle.tabletext.specs.declared.Value.TheVariants.{Malformed, WordNone, Number}
 use Rattle.tabletext.specs.Bytes.{is_of, same}
-use Rattle.tabletext.specs.Pieces.{onto, lines_of, fields_of, last_closed}
-use Rattle.tabletext.specs.Tables.{name_line, value_line, occurs, standing, known, named, under, together}
+use Rattle.tabletext.specs.Pieces.{onto, lines_of, last_closed, fields_of}
+use Rattle.tabletext.specs.Tables.{name_line, value_line, occurs, standing, known, named, under}
 use Rattle.tabletext.specs.Values.{value_of, is_value}
 use Rattle.tabletext.proofs.Alike.{same-eq}
 use Rattle.casefile.specs.declared.CaseRead.TheVariants.{Case}
 use Rattle.casefile.specs.Answers.{read_case, read_prices}
 use Rattle.casetext.specs.Names.{block_name, pmin_name, pmax_name, mot_name, mdt_name, was_name, held_name, vec_name, mlc_name, suc_name}
 use Rattle.casetext.specs.Names.{starts_name, hours_name, mwh_name, year_name, month_name, day_name, window_name}
-use Rattle.casetext.specs.Names.{mstarts_name, mhours_name, mmwh_name, valued_name, dated_names}
 use Rattle.casetext.specs.Names.{price_name, unit_names, unit_groups, price_names}
-use Rattle.casetext.specs.Form.{unit_head, unit_row, price_head, price_rows, form_kept, names_kept, most_bytes, empty_line, is_empty, table_formed, some_monthly, valued_kept}
-use Rattle.casetext.proofs.Formed.{Formed, formed-is}
-use Rattle.casefile.specs.Reading.{beyond, whole_of, limit_of, cents_of, window_of, permit_of, unit_in, price_of, prices_in, text_checked, monthly_of}
+use Rattle.casetext.specs.Form.{most_bytes, unit_head, unit_row, empty_line, price_head, price_rows, is_empty, table_formed, form_kept, names_kept}
+use Rattle.casefile.specs.Reading.{beyond, whole_of, limit_of, cents_of, window_of, permit_of, unit_in, price_of, prices_in, text_checked}
 use Rattle.casefile.proofs.Checking.{text-passed, read-case, answer-read}
-use Rattle.writing.specs.AsWritten.{StandsUnder, limit_value, StandsNowhere, PermitWritten, FigureWritten, MonthsWritten, AsWritten}
+use Rattle.writing.specs.AsWritten.{StandsUnder, limit_value, StandsNowhere, PermitWritten, AsWritten}
+use Rattle.writing.specs.Writing.{names_for}
 use Rattle.writing.proofs.Places.{nowhere, stands}
-use Rattle.writing.proofs.Sequences.{parts-of, names-are, all-this}
-use Rattle.writing.proofs.Marks.{stands_as, group-told}
+use Rattle.writing.proofs.Sequences.{Named, names-are, none_of, all-this}
+use Rattle.writing.proofs.Permits.{named-for}
 
 -- ---- a number in its range is the number that is written
 
@@ -85,7 +82,40 @@ one_field (b ∷ bs) h = go (is_of Comma b) refl (fields_of bs) (some-field bs) 
     go false e [] some below h = absurd (omega arith)
     go false e (f ∷ fs) some below h = let k : suc (length fs) ≡ 1 = rw e at h in rw e (ap (onto b) (below k))
 
--- ---- the lines and the names of a text that is not refused
+-- ---- the form and the names of a text that is not refused
+
+pub record Formed (text : List ℕ) : Type 0 where
+  pub short : length text ≤ most_bytes
+  pub closed : last_closed text ≡ true
+  pub four : 4 ≤ length (lines_of text)
+  pub third-empty : empty_line text ≡ []
+  pub unit-table : table_formed (unit_head text) (unit_row text ∷ []) ≡ true
+  pub price-table : table_formed (price_head text) (price_rows text) ≡ true
+
+empty-is : (s : List ℕ) → is_empty s ≡ true → s ≡ []
+empty-is [] e = refl
+empty-is (b ∷ bs) e = let z : ◌≡◌ {A = Bool} false true = e in let n : ◌≡◌ {A = ℕ} 0 1 = cc in absurd (omega arith)
+
+pub formed-is : (text : List ℕ) → form_kept text ≡ true → Formed text
+unfolding form_kept
+formed-is text e =
+    let start = leb (length text) most_bytes && last_closed text in
+    let four = leb 4 (length (lines_of text)) in
+    let third = is_empty (empty_line text) in
+    let unit = table_formed (unit_head text) (unit_row text ∷ []) in
+    let p = both (start && four && third && unit) (table_formed (price_head text) (price_rows text)) e in
+    let u = both (start && four && third) unit p.0 in
+    let g = both (start && four) third u.0 in
+    let f = both start four g.0 in
+    let s = both (leb (length text) most_bytes) (last_closed text) f.0 in
+    record {
+      short = leb-true (length text) most_bytes s.0;
+      closed = s.1;
+      four = leb-true 4 (length (lines_of text)) f.1;
+      third-empty = empty-is (empty_line text) g.1;
+      unit-table = u.1;
+      price-table = p.1;
+    }
 
 pub lines_are : (ls : List (List ℕ)) → 4 ≤ length ls → ls ≡ get_or ls 0 [] ∷ get_or ls 1 [] ∷ get_or ls 2 [] ∷ get_or ls 3 [] ∷ drop 4 ls
 lines_are [] h = absurd (omega arith)
@@ -133,23 +163,12 @@ module _ (text : List ℕ) (form : form_kept text ≡ true) (names-once : names_
   formed : Formed text
   formed = formed-is text form
 
-  -- the names of the unit's table, the month to value among them, and those of the prices
-  unit-named : (named unit_names unit_groups (names_in text) ≡ true) × (valued_kept (names_in text) ≡ true)
+  both-named : (named unit_names unit_groups (names_in text) ≡ true) × (named price_names [] (fields_of (price_head text)) ≡ true)
   unfolding names_kept
-  unit-named = both (named unit_names unit_groups (names_in text)) (valued_kept (names_in text)) (both _ (named price_names [] (fields_of (price_head text))) names-once).0
+  both-named = both (named unit_names unit_groups (names_in text)) (named price_names [] (fields_of (price_head text))) names-once
 
-  price-named : named price_names [] (fields_of (price_head text)) ≡ true
-  unfolding names_kept
-  price-named =
-      (both (named unit_names unit_groups (names_in text) && valued_kept (names_in text)) (named price_names [] (fields_of (price_head text))) names-once).1
-
-  each-once : (k : ℕ) → k < length unit_names → occurs (get_or unit_names k []) (names_in text) ≡ 1
-  each-once k h =
-      eqb-true _ 1 (every-at (standing 1 (names_in text)) [] unit_names k (parts-of unit_names unit_groups (names_in text) unit-named.0).each h)
-
-  -- a group of the table stands as its first name tells
-  told : (k : ℕ) → k < length unit_groups → together (names_in text) (get_or unit_groups k []) ≡ true
-  told k h = every-at (together (names_in text)) [] unit_groups k (parts-of unit_names unit_groups (names_in text) unit-named.0).grouped h
+  names-for : Named (names_for (permit_of (names_in text) (values_in text))) (names_in text)
+  names-for = names-are _ (names_in text) (named-for (names_in text) (values_in text) both-named.0)
 
   -- under a name that stands once
   under-name : (name : List ℕ) → occurs name (names_in text) ≡ 1 → Standing text name (found text name)
@@ -168,89 +187,25 @@ module _ (text : List ℕ) (form : form_kept text ≡ true) (names-once : names_
       → Standing text name (limit_value (limit_of (found text name)))
   limit-at name once most m b = as-value (limit_is most _ m b) (under-name name once)
 
-  missing : (name : List ℕ) → standing 0 (names_in text) name ≡ true → StandsNowhere (names_in text) name
-  missing name e = nowhere name (names_in text) (eqb-true (occurs name (names_in text)) 0 e)
-
-  -- so often each name of a group
-  of-group : (times : ℕ) (group : List (List ℕ)) → every (standing times (names_in text)) group ≡ true → (k : ℕ) → k < length group
-      → standing times (names_in text) (get_or group k []) ≡ true
-  of-group times group e k h = every-at (standing times (names_in text)) [] group k e h
-
   -- the permit, by whether the four names are there
   permit-at : (t : Bool) →
       let p = cond t (Within (window_of (names_in text) (values_in text))) AnyHour in
-      stands_as t (names_in text) dated_names ≡ true → permit_kept p ≡ true → PermitWritten (names_in text) (values_in text) p
+      Named (names_for p) (names_in text) → permit_kept p ≡ true → PermitWritten (names_in text) (values_in text) p
   permit-at true n k =
       let r = window-ranges (window_of (names_in text) (values_in text)) k in
-      let once : (i : ℕ) → i < 4 → occurs (get_or dated_names i []) (names_in text) ≡ 1 = λ i h. eqb-true _ 1 (of-group 1 dated_names n i h) in
       record {
-        year = whole-at year_name (once 0 (omega arith)) (omega (arith, r.year-most));
-        month = whole-at month_name (once 1 (omega arith)) (omega (arith, r.month-most));
-        day = whole-at day_name (once 2 (omega arith)) (omega (arith, r.day-most));
-        window = whole-at window_name (once 3 (omega arith)) (omega (arith, r.word-most));
+        year = whole-at year_name (n.once 13 (omega arith)) (omega (arith, r.year-most));
+        month = whole-at month_name (n.once 14 (omega arith)) (omega (arith, r.month-most));
+        day = whole-at day_name (n.once 15 (omega arith)) (omega (arith, r.day-most));
+        window = whole-at window_name (n.once 16 (omega arith)) (omega (arith, r.word-most));
       }
-  permit-at false n k =
-      record {
-        no-year = missing year_name (of-group 0 dated_names n 0 (omega arith));
-        no-month = missing month_name (of-group 0 dated_names n 1 (omega arith));
-        no-day = missing day_name (of-group 0 dated_names n 2 (omega arith));
-        no-window = missing window_name (of-group 0 dated_names n 3 (omega arith));
-      }
-
-  -- a month figure, by whether its name is there
-  figure-at : (name : List ℕ) (t : Bool) → stands_as t (names_in text) (name ∷ []) ≡ true → (most : ℕ) → most < beyond
-      → limit_kept most (cond t (At (whole_of (found text name))) None) ≡ true
-      → FigureWritten (names_in text) (values_in text) name (cond t (At (whole_of (found text name))) None)
-  figure-at name true s most m k =
-      whole-at name (eqb-true _ 1 (of-group 1 (name ∷ []) s 0 (omega arith))) (omega (arith, leb-true (whole_of (found text name)) most k))
-  figure-at name false s most m k = missing name (of-group 0 (name ∷ []) s 0 (omega arith))
-
-  -- a month figure stands nowhere where none does
-  none-of-three : (a b c : Bool) → not (a || b || c) ≡ true → (a ≡ false) × (b ≡ false) × (c ≡ false)
-  none-of-three false false false e = (refl, refl, refl)
-  none-of-three true b c e = absurd (false≢true e)
-  none-of-three false true c e = absurd (false≢true e)
-  none-of-three false false true e = absurd (false≢true e)
-
-  absent : (name : List ℕ) → stands_as (standing 1 (names_in text) name) (names_in text) (name ∷ []) ≡ true → standing 1 (names_in text) name ≡ false
-      → StandsNowhere (names_in text) name
-  absent name s e =
-      missing name (of-group 0 (name ∷ []) (sym (ap (λ (t : Bool). stands_as t (names_in text) (name ∷ [])) e) ∙ s) 0 (omega arith))
-
-  starts-told : stands_as (standing 1 (names_in text) mstarts_name) (names_in text) (mstarts_name ∷ []) ≡ true
-  starts-told = group-told (names_in text) mstarts_name [] (told 1 (omega arith))
-
-  hours-told : stands_as (standing 1 (names_in text) mhours_name) (names_in text) (mhours_name ∷ []) ≡ true
-  hours-told = group-told (names_in text) mhours_name [] (told 2 (omega arith))
-
-  mwh-told : stands_as (standing 1 (names_in text) mmwh_name) (names_in text) (mmwh_name ∷ []) ≡ true
-  mwh-told = group-told (names_in text) mmwh_name [] (told 3 (omega arith))
-
-  -- the months, by whether the month to value is there
-  months-at : (t : Bool) →
-      let ms = cond t (Limited (monthly_of (names_in text) (values_in text))) Unlimited in
-      let some = some_monthly (names_in text) in
-      stands_as t (names_in text) (valued_name ∷ []) ≡ true → cond t some (not some) ≡ true → months_kept ms ≡ true
-      → MonthsWritten (names_in text) (values_in text) ms
-  months-at true s v k =
-      let r = monthly-ranges (monthly_of (names_in text) (values_in text)) k in
-      record {
-        starts = figure-at mstarts_name (standing 1 (names_in text) mstarts_name) starts-told most_month_starts (omega arith) r.starts-kept;
-        hours = figure-at mhours_name (standing 1 (names_in text) mhours_name) hours-told most_month_hours (omega arith) r.hours-kept;
-        mwh = figure-at mmwh_name (standing 1 (names_in text) mmwh_name) mwh-told most_month_mwh (omega arith) r.mwh-kept;
-        valued = whole-at valued_name (eqb-true _ 1 (of-group 1 (valued_name ∷ []) s 0 (omega arith))) (omega (arith, r.valued-most));
-      }
-  months-at false s v k =
-      let none = none-of-three _ _ _ v in
-      record {
-        no-starts = absent mstarts_name starts-told none.0;
-        no-hours = absent mhours_name hours-told none.1;
-        no-mwh = absent mmwh_name mwh-told none.2;
-        no-valued = missing valued_name (of-group 0 (valued_name ∷ []) s 0 (omega arith));
-      }
+  permit-at false n k = record { no-year = missing refl; no-month = missing refl; no-day = missing refl; no-window = missing refl }
+    where
+      missing : {name : List ℕ} → known unit_names [] name ≡ false → StandsNowhere (names_in text) name
+      missing {name} u = nowhere name (names_in text) (none_of unit_names [] (names_in text) n.no_other name u)
 
   head-is : price_head text ≡ price_name
-  head-is = one_name price_name (price_head text) price-named
+  head-is = one_name price_name (price_head text) both-named.1
 
   -- each line of the second table is one field, the price
   price-at : (i : ℕ) → i < length (price_rows text) → price_of (price_head text) (get_or (price_rows text) i []) ≡ cents_of (value_of (get_or (price_rows text) i []))
@@ -284,7 +239,7 @@ module _ (text : List ℕ) (form : form_kept text ≡ true) (names-once : names_
   unfolding unit_in
   text-as-written =
       let r = in-ranges in
-      let once = each-once in
+      let once = names-for.once in
       record {
         lines = lines_are (lines_of text) formed.four
             ∙ ap (λ (third : List ℕ). unit_head text ∷ unit_row text ∷ third ∷ price_head text ∷ price_rows text) formed.third-empty;
@@ -301,11 +256,7 @@ module _ (text : List ℕ) (form : form_kept text ≡ true) (names-once : names_
         starts = limit-at starts_name (once 10 (omega arith)) most_starts (omega arith) r.limits.starts-kept;
         hours = limit-at hours_name (once 11 (omega arith)) most_hours (omega arith) r.limits.hours-kept;
         mwh = limit-at mwh_name (once 12 (omega arith)) most_mwh (omega arith) r.limits.mwh-kept;
-        permit =
-            permit-at (standing 1 (names_in text) year_name)
-            (group-told (names_in text) year_name (month_name ∷ day_name ∷ window_name ∷ []) (told 0 (omega arith))) r.permit;
-        months =
-            months-at (standing 1 (names_in text) valued_name) (group-told (names_in text) valued_name [] (told 4 (omega arith))) unit-named.1 r.months;
+        permit = permit-at (standing 1 (names_in text) year_name) names-for r.permit;
         price-name = head-is;
         one-a-line = prices-long;
         price = price-written;

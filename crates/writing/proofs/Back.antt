@@ -1,21 +1,18 @@
 -- The way back: the text that a writer makes of any record and prices within range, its names in any sequence, is read as that record and those prices.
 use mathlib.Core.Path.{◌≡◌, refl, sym, ap, ap₂, ◌∙◌}
-use mathlib.Core.Bool.{Bool, true, false, ◌&&◌, ◌||◌, not, cond, false≢true}
+use mathlib.Core.Bool.{Bool, true, false, ◌&&◌, cond}
 use mathlib.Core.List.{List, [], ◌∷◌, ◌++◌, map}
 use Prim.Native.Nat.{ℕ, suc, ◌≤◌, ◌<◌, ◌^◌}
 use native.Mathlib.Omega.{arith}
 use lib.Dec.{leb}
 use lib.IntN.{ℤ, pos, nat_abs}
 use lib.ListN.{length, drop, get_or, length-map}
-use borrow.Author.Tests.{leb-true, le-leb, eq-eqb, eqb-true}
+use borrow.Author.Tests.{leb-true, le-leb, eq-eqb}
 use Rattle.commitment.specs.declared.Opening.{Opening}
 use Rattle.commitment.specs.declared.Costs.{Costs}
 use Rattle.commitment.specs.declared.Generator.{Generator}
 use Rattle.commitment.specs.declared.Limits.{Limits}
-use Rattle.commitment.specs.declared.Monthly.{Monthly}
-use Rattle.commitment.specs.declared.Months.{Months}
-use Rattle.commitment.specs.declared.Months.TheVariants.{Unlimited, Limited}
-use Rattle.commitment.specs.Bounds.{most_starts, most_hours, most_mwh, most_month_starts, most_month_hours, most_month_mwh}
+use Rattle.commitment.specs.Bounds.{most_starts, most_hours, most_mwh}
 use Rattle.commitment.specs.declared.Checked.{Checked}
 use Rattle.commitment.specs.declared.Checked.TheVariants.{Passed}
 use Rattle.commitment.specs.declared.Limit.{Limit}
@@ -24,19 +21,17 @@ use Rattle.commitment.specs.declared.Permit.{Permit}
 use Rattle.commitment.specs.declared.Permit.TheVariants.{AnyHour, Within}
 use Rattle.commitment.specs.declared.Window.{Window}
 use Rattle.commitment.specs.declared.UnitRecord.{UnitRecord}
-use Rattle.commitment.specs.Limits.{limit_kept, is_limited, figures_in}
-use Rattle.commitment.specs.Ranges.{permit_kept, some_figure, months_kept, prices_kept, case_checked}
+use Rattle.commitment.specs.Limits.{limit_kept}
+use Rattle.commitment.specs.Ranges.{permit_kept, prices_kept, case_checked}
 use Rattle.lists.specs.Every.{every}
 use Rattle.commitment.proofs.Passing.{Passing, passing, prices-small}
-use Rattle.lists.proofs.Conjunctions.{both}
-use Rattle.lists.proofs.Every.{every-at}
-use Rattle.commitment.proofs.Ranges.{WindowRanges, window-ranges, MonthlyRanges, monthly-ranges, InRange, in-range}
+use Rattle.commitment.proofs.Ranges.{WindowRanges, window-ranges, InRange, in-range}
 use Rattle.tabletext.specs.declared.Class.TheVariants.{Comma, LineEnd}
 use Rattle.tabletext.specs.declared.Value.{Value}
 use Rattle.tabletext.specs.declared.Value.TheVariants.{Number}
 use Rattle.tabletext.specs.Bytes.{is_of, same}
 use Rattle.tabletext.specs.Pieces.{lines_of, fields_of}
-use Rattle.tabletext.specs.Tables.{value_line, occurs, standing, named, under}
+use Rattle.tabletext.specs.Tables.{value_line, occurs, named, under}
 use Rattle.tabletext.specs.Values.{is_name, value_of, well_formed, is_value}
 use Rattle.tabletext.proofs.Alike.{same-eq}
 use Rattle.tabletext.proofs.Groups.{every_map}
@@ -46,19 +41,15 @@ use Rattle.casefile.specs.declared.CaseRead.TheVariants.{Case}
 use Rattle.casefile.specs.Answers.{read_by, read_case, read_prices}
 use Rattle.casetext.specs.Names.{block_name, pmin_name, pmax_name, mot_name, mdt_name, was_name, held_name, vec_name, mlc_name, suc_name}
 use Rattle.casetext.specs.Names.{starts_name, hours_name, mwh_name, year_name, month_name, day_name, window_name}
-use Rattle.casetext.specs.Names.{mstarts_name, mhours_name, mmwh_name, valued_name}
 use Rattle.casetext.specs.Names.{price_name, unit_names, dated_names, unit_groups, price_names}
-use Rattle.casetext.specs.Form.{most_bytes, is_empty, unit_head, unit_row, price_head, price_rows, table_formed, form_kept, valued_kept, names_kept}
-use Rattle.casefile.specs.Reading.{figure_of, monthly_of, months_given}
+use Rattle.casetext.specs.Form.{most_bytes, is_empty, unit_head, unit_row, price_head, price_rows, table_formed, form_kept, names_kept}
 use Rattle.casefile.specs.Reading.{whole_of, limit_of, cents_of, window_of, permit_of, unit_of, unit_in, price_of, prices_in, case_in, room_checks, text_checked}
 use Rattle.casefile.proofs.Checking.{case-decides, text_in-turn, answer-read}
-use Rattle.writing.specs.Writing.{joined, shown_whole, shown_price, shown_limit, shown_monthly, shown_dated, shown_field}
-use Rattle.writing.specs.Writing.{is_dated, are_limited, marked, marks_for, names_for, written}
+use Rattle.writing.specs.Writing.{joined, shown_whole, shown_price, shown_limit, shown_dated, shown_field, dated_for, names_for, written}
 use Rattle.writing.specs.AsWritten.{limit_value}
 use Rattle.writing.proofs.Numbers.{whole_back, price-back, limit-back, whole-unparted, price-unparted, limit-unparted}
 use Rattle.writing.proofs.Sequences.{Named, names-are, some-name, of-names}
-use Rattle.writing.proofs.Groups.{every_append}
-use Rattle.writing.proofs.Marks.{stands_as, all_stand, first-stands, chosen-pass, marked-pass, restored}
+use Rattle.writing.proofs.Permits.{dated, every-name, year-tells, unit-named}
 use Rattle.writing.proofs.Pieces.{free, field-alone, fields_back, lines-back, closing-closed, joined_line}
 
 -- ---- tests of every element
@@ -116,35 +107,27 @@ window-alike : {a a' b b' c c' d d' : ℕ} → a ≡ a' → b ≡ b' → c ≡ c
     (record { date = record { year = a'; month = b'; day = c' }; word = d' })
 window-alike p q r s = cc
 
-monthly-alike : {l l' : Limits} {v v' : ℕ} → l ≡ l' → v ≡ v' → ◌≡◌ {A = Monthly} (record { limits = l; valued = v }) (record { limits = l'; valued = v' })
-monthly-alike p q = cc
-
-unit-alike : {g g' : Generator} {k k' : Costs} {o o' : Opening} {l l' : Limits} {h h' : Permit} {m m' : Months}
-    → g ≡ g' → k ≡ k' → o ≡ o' → l ≡ l' → h ≡ h' → m ≡ m'
-    → ◌≡◌ {A = UnitRecord} (record { generator = g; costs = k; opening = o; limits = l; permit = h; months = m })
-    (record { generator = g'; costs = k'; opening = o'; limits = l'; permit = h'; months = m' })
-unit-alike p q r s t v = cc
+unit-alike : {g g' : Generator} {k k' : Costs} {o o' : Opening} {l l' : Limits} {h h' : Permit} → g ≡ g' → k ≡ k' → o ≡ o' → l ≡ l' → h ≡ h'
+    → ◌≡◌ {A = UnitRecord} (record { generator = g; costs = k; opening = o; limits = l; permit = h })
+    (record { generator = g'; costs = k'; opening = o'; limits = l'; permit = h' })
+unit-alike p q r s t = cc
 
 -- ---- a record and prices within range, and the names in some sequence
 
 module _ (u : UnitRecord) (prices : List ℤ) (names : List (List ℕ))
-    (kept : case_checked u (prices_kept prices) (length prices) ≡ Passed) (each : named (names_for u) [] names ≡ true) where
-  names-kept : Named (names_for u) names
-  names-kept = names-are (names_for u) names each
+    (kept : case_checked u (prices_kept prices) (length prices) ≡ Passed) (each : named (names_for u.permit) [] names ≡ true) where
+  names-for : (p : Permit) → u.permit ≡ p → Named (names_for p) names
+  names-for p is = names-are (names_for p) names (ap (λ (q : Permit). named (names_for q) [] names) (sym is) ∙ each)
 
-  -- the groups beside the required names again, each as the record marks it
-  grouped : (named unit_names unit_groups names ≡ true) × (all_stand names (marks_for u) unit_groups ≡ true)
-  grouped = restored names unit_names unit_names (marks_for u) unit_groups refl (λ name e. e) refl each
+  names-kept : Named (names_for u.permit) names
+  names-kept = names-for u.permit refl
 
   some : 0 < length names
-  some = some-name (names_for u) names names-kept (omega arith)
+  some = some-name (names_for u.permit) names names-kept (omega arith)
 
   -- a test that each name of the tables passes, every name passes
-  names-pass : (test : List ℕ → Bool) → every test unit_names ≡ true → every (every test) unit_groups ≡ true → every test names ≡ true
-  names-pass test plain groups =
-      of-names (names_for u) names test
-      (every_append test unit_names (marked (marks_for u) unit_groups) ∙ conj plain (marked-pass test (marks_for u) unit_groups groups))
-      names-kept.no_other
+  names-pass : (test : List ℕ → Bool) → every test unit_names ≡ true → every test (unit_names ++ dated_names) ≡ true → every test names ≡ true
+  names-pass test plain dated = of-names (names_for u.permit) names test (every-name test plain dated u.permit) names-kept.no_other
 
   case-kept : Passing u (prices_kept prices) (length prices)
   case-kept = passing u (prices_kept prices) (length prices) kept
@@ -158,74 +141,8 @@ module _ (u : UnitRecord) (prices : List ℤ) (names : List (List ℕ))
     dated-ranges : WindowRanges w
     dated-ranges = window-ranges w (ap permit_kept (sym is) ∙ ranges.permit)
 
-    dated-shown : (name : List ℕ) →
-        let others = shown_monthly u.months name in
-        shown_dated u.permit name others ≡ shown_dated (Within w) name others
-    dated-shown name = ap (λ (p : Permit). shown_dated p name (shown_monthly u.months name)) is
-
-  -- ---- of a record with month figures
-
-  -- a name that is none of the four of a date
-  undated : (name : List ℕ) → ((w : Window) (others : List ℕ) → shown_dated (Within w) name others ≡ others) → (p : Permit) (others : List ℕ)
-      → shown_dated p name others ≡ others
-  undated name h AnyHour others = refl
-  undated name h (Within w) others = h w others
-
-  module _ (m : Monthly) (is : u.months ≡ Limited m) where
-    month-ranges : MonthlyRanges m
-    month-ranges = monthly-ranges m (ap months_kept (sym is) ∙ ranges.months)
-
-    monthly-shown : (name : List ℕ) → shown_monthly u.months name ≡ shown_monthly (Limited m) name
-    monthly-shown name = ap (λ (ms : Months). shown_monthly ms name) is
-
-    starts-shown : shown_field u mstarts_name ≡ shown_limit m.limits.starts
-    starts-shown = undated mstarts_name (λ w o. refl) u.permit (shown_monthly u.months mstarts_name) ∙ monthly-shown mstarts_name
-
-    hours-shown : shown_field u mhours_name ≡ shown_limit m.limits.hours
-    hours-shown = undated mhours_name (λ w o. refl) u.permit (shown_monthly u.months mhours_name) ∙ monthly-shown mhours_name
-
-    mwh-shown : shown_field u mmwh_name ≡ shown_limit m.limits.mwh
-    mwh-shown = undated mmwh_name (λ w o. refl) u.permit (shown_monthly u.months mmwh_name) ∙ monthly-shown mmwh_name
-
-    valued-shown : shown_field u valued_name ≡ shown_whole m.valued
-    valued-shown = undated valued_name (λ w o. refl) u.permit (shown_monthly u.months valued_name) ∙ monthly-shown valued_name
-
-  -- ---- which groups stand
-
-  dated-stands : (p : Permit) → u.permit ≡ p → stands_as (is_dated p) names dated_names ≡ true
-  dated-stands p is = ap (λ (q : Permit). stands_as (is_dated q) names dated_names) (sym is) ∙ (both _ _ grouped.1).0
-
-  record Stand (ms : Months) : Type 0 where
-    starts : standing 1 names mstarts_name ≡ is_limited (figures_in ms).starts
-    hours : standing 1 names mhours_name ≡ is_limited (figures_in ms).hours
-    mwh : standing 1 names mmwh_name ≡ is_limited (figures_in ms).mwh
-    valued : standing 1 names valued_name ≡ are_limited ms
-
-  stand : (ms : Months) → u.months ≡ ms → Stand ms
-  stand ms is =
-      let as-marked : Bool → List ℕ → Bool = λ mark name. stands_as mark names (name ∷ []) in
-      let f =
-      both (as-marked (is_limited (figures_in u.months).starts) mstarts_name) _
-      (both (stands_as (is_dated u.permit) names dated_names) _ grouped.1).1 in
-      let g = both (as-marked (is_limited (figures_in u.months).hours) mhours_name) _ f.1 in
-      let h = both (as-marked (is_limited (figures_in u.months).mwh) mmwh_name) _ g.1 in
-      let v = both (as-marked (are_limited u.months) valued_name) true h.1 in
-      record {
-        starts = first-stands names mstarts_name [] _ f.0 ∙ ap (λ (ms : Months). is_limited (figures_in ms).starts) is;
-        hours = first-stands names mhours_name [] _ g.0 ∙ ap (λ (ms : Months). is_limited (figures_in ms).hours) is;
-        mwh = first-stands names mmwh_name [] _ h.0 ∙ ap (λ (ms : Months). is_limited (figures_in ms).mwh) is;
-        valued = first-stands names valued_name [] _ v.0 ∙ ap are_limited is;
-      }
-
-  -- a figure stands exactly where the record has one
-  valued-kept : (ms : Months) → u.months ≡ ms → valued_kept names ≡ true
-  valued-kept ms is =
-      let s = stand ms is in
-      ap₂ (λ (v : Bool) (some : Bool). cond v some (not some)) s.valued (ap₂ ◌||◌ (ap₂ ◌||◌ s.starts s.hours) s.mwh) ∙ by ms is
-    where
-      by : (ms : Months) → u.months ≡ ms → cond (are_limited ms) (some_figure (figures_in ms)) (not (some_figure (figures_in ms))) ≡ true
-      by Unlimited is = refl
-      by (Limited m) is = (month-ranges m is).some
+    dated-shown : (name : List ℕ) → shown_dated u.permit name ≡ shown_dated (Within w) name
+    dated-shown name = ap (λ (p : Permit). shown_dated p name) is
 
   -- ---- tests that what is shown passes
 
@@ -235,10 +152,10 @@ module _ (u : UnitRecord) (prices : List ℤ) (names : List (List ℕ))
   abbrev rows : List (List ℕ)
   rows = map shown_price prices
 
-  dated-pass : (test : List ℕ → Bool) → ((n : ℕ) → n < 10 ^ 10 → test (shown_whole n) ≡ true) → (p : Permit) → u.permit ≡ p → is_dated p ≡ true
-      → every (λ name. test (shown_field u name)) dated_names ≡ true
-  dated-pass test whole AnyHour is d = absurd (false≢true d)
-  dated-pass test whole (Within w) is d =
+  dated-pass : (test : List ℕ → Bool) → ((n : ℕ) → n < 10 ^ 10 → test (shown_whole n) ≡ true) → (p : Permit) → u.permit ≡ p
+      → every (λ name. test (shown_field u name)) (dated_for p) ≡ true
+  dated-pass test whole AnyHour is = refl
+  dated-pass test whole (Within w) is =
       let r = dated-ranges w is in
       let shown = dated-shown w is in
       conj (ap test (shown year_name) ∙ whole w.date.year (omega (arith, r.year-most)))
@@ -246,45 +163,12 @@ module _ (u : UnitRecord) (prices : List ℤ) (names : List (List ℕ))
       (conj (ap test (shown day_name) ∙ whole w.date.day (omega (arith, r.day-most)))
       (conj (ap test (shown window_name) ∙ whole w.word (omega (arith, r.word-most))) refl)))
 
-  -- of the month figures and the month to value
-  record MonthlyPass (test : List ℕ → Bool) : Type 0 where
-    starts : is_limited (figures_in u.months).starts ≡ true → every (λ name. test (shown_field u name)) (mstarts_name ∷ []) ≡ true
-    hours : is_limited (figures_in u.months).hours ≡ true → every (λ name. test (shown_field u name)) (mhours_name ∷ []) ≡ true
-    mwh : is_limited (figures_in u.months).mwh ≡ true → every (λ name. test (shown_field u name)) (mmwh_name ∷ []) ≡ true
-    valued : are_limited u.months ≡ true → every (λ name. test (shown_field u name)) (valued_name ∷ []) ≡ true
-
-  none-limited : (mark : Months → Bool) → mark Unlimited ≡ false → u.months ≡ Unlimited → mark u.months ≡ true → ⊥
-  none-limited mark off is on = false≢true (sym off ∙ sym (ap mark is) ∙ on)
-
-  monthly-pass : (test : List ℕ → Bool) → ((n : ℕ) → n < 10 ^ 10 → test (shown_whole n) ≡ true)
-      → ((l : Limit) → ((n : ℕ) → l ≡ At n → n < 10 ^ 10) → test (shown_limit l) ≡ true) → (ms : Months) → u.months ≡ ms → MonthlyPass test
-  monthly-pass test whole limit Unlimited is =
-      record {
-        starts = λ on. absurd (none-limited (λ ms. is_limited (figures_in ms).starts) refl is on);
-        hours = λ on. absurd (none-limited (λ ms. is_limited (figures_in ms).hours) refl is on);
-        mwh = λ on. absurd (none-limited (λ ms. is_limited (figures_in ms).mwh) refl is on);
-        valued = λ on. absurd (none-limited are_limited refl is on);
-      }
-  monthly-pass test whole limit (Limited m) is =
-      let r = month-ranges m is in
-      record {
-        starts = λ _. conj (ap test (starts-shown m is)
-            ∙ limit m.limits.starts (limit-small most_month_starts m.limits.starts (omega arith) r.starts-kept)) refl;
-        hours = λ _. conj (ap test (hours-shown m is)
-            ∙ limit m.limits.hours (limit-small most_month_hours m.limits.hours (omega arith) r.hours-kept)) refl;
-        mwh = λ _. conj (ap test (mwh-shown m is)
-            ∙ limit m.limits.mwh (limit-small most_month_mwh m.limits.mwh (omega arith) r.mwh-kept)) refl;
-        valued = λ _. conj (ap test (valued-shown m is) ∙ whole m.valued (omega (arith, r.valued-most))) refl;
-      }
-
   -- a test that every number and every limitation passes as it is shown, every field of the record passes
   fields-pass : (test : List ℕ → Bool) → ((n : ℕ) → n < 10 ^ 10 → test (shown_whole n) ≡ true)
       → ((l : Limit) → ((n : ℕ) → l ≡ At n → n < 10 ^ 10) → test (shown_limit l) ≡ true)
-      → every (λ name. test (shown_field u name)) (names_for u) ≡ true
+      → every (λ name. test (shown_field u name)) (names_for u.permit) ≡ true
   fields-pass test whole limit =
       let r = ranges in
-      let passes : List ℕ → Bool = λ name. test (shown_field u name) in
-      let months = monthly-pass test whole limit u.months refl in
       conj (whole u.generator.block (omega (arith, r.generator.block-most)))
       (conj (whole u.generator.pmin (omega (arith, r.generator.pmin-most)))
       (conj (whole u.generator.pmax (omega (arith, r.generator.pmax-most)))
@@ -298,16 +182,12 @@ module _ (u : UnitRecord) (prices : List ℤ) (names : List (List ℕ))
       (conj (limit u.limits.starts (limit-small most_starts u.limits.starts (omega arith) r.limits.starts-kept))
       (conj (limit u.limits.hours (limit-small most_hours u.limits.hours (omega arith) r.limits.hours-kept))
       (conj (limit u.limits.mwh (limit-small most_mwh u.limits.mwh (omega arith) r.limits.mwh-kept))
-      (chosen-pass passes (is_dated u.permit) dated_names _ (dated-pass test whole u.permit refl)
-      (chosen-pass passes (is_limited (figures_in u.months).starts) (mstarts_name ∷ []) _ months.starts
-      (chosen-pass passes (is_limited (figures_in u.months).hours) (mhours_name ∷ []) _ months.hours
-      (chosen-pass passes (is_limited (figures_in u.months).mwh) (mmwh_name ∷ []) _ months.mwh
-      (chosen-pass passes (are_limited u.months) (valued_name ∷ []) [] months.valued refl)))))))))))))))))
+      (dated-pass test whole u.permit refl)))))))))))))
 
-  values-pass : (test : List ℕ → Bool) → every (λ name. test (shown_field u name)) (names_for u) ≡ true → every test values ≡ true
+  values-pass : (test : List ℕ → Bool) → every (λ name. test (shown_field u name)) (names_for u.permit) ≡ true → every test values ≡ true
   values-pass test h =
       sym (every_map test (shown_field u) names)
-      ∙ of-names (names_for u) names (λ name. test (shown_field u name)) h names-kept.no_other
+      ∙ of-names (names_for u.permit) names (λ name. test (shown_field u name)) h names-kept.no_other
 
   rows_pass : (test : List ℕ → Bool) → ((z : ℤ) → nat_abs z < 10 ^ 10 → test (shown_price z) ≡ true) → every test rows ≡ true
   rows_pass test price =
@@ -404,8 +284,7 @@ module _ (u : UnitRecord) (prices : List ℤ) (names : List (List ℕ))
     named-text : names_kept text ≡ true
     unfolding names_kept is_of
     named-text =
-        let back = ap fields_of head-is ∙ names-back in
-        conj (conj (ap (named unit_names unit_groups) back ∙ grouped.0) (ap valued_kept back ∙ valued-kept u.months refl))
+        conj (ap (named unit_names unit_groups) (ap fields_of head-is ∙ names-back) ∙ unit-named names u.permit each)
         (ap (λ (head : List ℕ). named price_names [] (fields_of head)) price-head-is)
 
     -- ---- the record and the prices
@@ -419,45 +298,22 @@ module _ (u : UnitRecord) (prices : List ℤ) (names : List (List ℕ))
         ap limit_of (under_back (shown_field u) name names (omega (arith, once)) ∙ ap value_of e ∙ limit-back l (limit-small most l m b)) ∙ limit-of-value l
 
     -- the four names stand where the record has a date
-    told : (p : Permit) → u.permit ≡ p → permit_of names values ≡ cond (is_dated p) (Within (window_of names values)) AnyHour
-    told p is = ap (λ (t : Bool). cond t (Within (window_of names values)) AnyHour) (first-stands names year_name (month_name ∷ day_name ∷ window_name ∷ []) (is_dated p) (dated-stands p is))
+    told : (p : Permit) → u.permit ≡ p → permit_of names values ≡ cond (dated p) (Within (window_of names values)) AnyHour
+    told p is = ap (λ (t : Bool). cond t (Within (window_of names values)) AnyHour) (year-tells names p (names-for p is))
 
     permit-is : (p : Permit) → u.permit ≡ p → permit_of names values ≡ p
     permit-is AnyHour is = told AnyHour is
     permit-is (Within w) is =
-        let once : (k : ℕ) → k < 4 → occurs (get_or dated_names k []) names ≡ 1 =
-        λ k h. eqb-true _ 1 (every-at (standing 1 names) [] dated_names k (dated-stands (Within w) is) h) in
+        let once = (names-for (Within w) is).once in
         let r = dated-ranges w is in
         let shown = dated-shown w is in
         told (Within w) is
         ∙ ap Within
         (window-alike
-        (whole-field year_name (once 0 (omega arith)) w.date.year (omega (arith, r.year-most)) (shown year_name))
-        (whole-field month_name (once 1 (omega arith)) w.date.month (omega (arith, r.month-most)) (shown month_name))
-        (whole-field day_name (once 2 (omega arith)) w.date.day (omega (arith, r.day-most)) (shown day_name))
-        (whole-field window_name (once 3 (omega arith)) w.word (omega (arith, r.word-most)) (shown window_name)))
-
-    -- a month figure, by whether there is one
-    figure-is : (name : List ℕ) (l : Limit) → standing 1 names name ≡ is_limited l → (most : ℕ) → most < 10 ^ 10 → limit_kept most l ≡ true
-        → shown_field u name ≡ shown_limit l → figure_of names values name ≡ l
-    figure-is name None s most m k e = ap (λ (t : Bool). cond t (At (whole_of (under name names values))) None) s
-    figure-is name (At n) s most m k e =
-        ap (λ (t : Bool). cond t (At (whole_of (under name names values))) None) s
-        ∙ ap At (whole-field name (eqb-true _ 1 s) n (limit-small most (At n) m k n refl) e)
-
-    months-are : (ms : Months) → u.months ≡ ms → months_given names values ≡ ms
-    months-are Unlimited is = ap (λ (t : Bool). cond t (Limited (monthly_of names values)) Unlimited) (stand Unlimited is).valued
-    months-are (Limited m) is =
-        let s = stand (Limited m) is in
-        let r = month-ranges m is in
-        ap (λ (t : Bool). cond t (Limited (monthly_of names values)) Unlimited) s.valued
-        ∙ ap Limited
-        (monthly-alike
-        (limits-alike
-        (figure-is mstarts_name m.limits.starts s.starts most_month_starts (omega arith) r.starts-kept (starts-shown m is))
-        (figure-is mhours_name m.limits.hours s.hours most_month_hours (omega arith) r.hours-kept (hours-shown m is))
-        (figure-is mmwh_name m.limits.mwh s.mwh most_month_mwh (omega arith) r.mwh-kept (mwh-shown m is)))
-        (whole-field valued_name (eqb-true _ 1 s.valued) m.valued (omega (arith, r.valued-most)) (valued-shown m is)))
+        (whole-field year_name (once 13 (omega arith)) w.date.year (omega (arith, r.year-most)) (shown year_name))
+        (whole-field month_name (once 14 (omega arith)) w.date.month (omega (arith, r.month-most)) (shown month_name))
+        (whole-field day_name (once 15 (omega arith)) w.date.day (omega (arith, r.day-most)) (shown day_name))
+        (whole-field window_name (once 16 (omega arith)) w.word (omega (arith, r.word-most)) (shown window_name)))
 
     fields-are : unit_of names values ≡ u
     fields-are =
@@ -482,7 +338,6 @@ module _ (u : UnitRecord) (prices : List ℤ) (names : List (List ℕ))
         (limit-field hours_name (once 11 (omega arith)) most_hours (omega arith) u.limits.hours r.limits.hours-kept refl)
         (limit-field mwh_name (once 12 (omega arith)) most_mwh (omega arith) u.limits.mwh r.limits.mwh-kept refl))
         (permit-is u.permit refl)
-        (months-are u.months refl)
 
     unit-is : unit_in text ≡ u
     unfolding unit_in
@@ -515,7 +370,7 @@ module _ (u : UnitRecord) (prices : List ℤ) (names : List (List ℕ))
 
 -- what is written is read: the answer is the record, and the slice has the prices in front and behind them what was there
 pub written_read : (u : UnitRecord) (prices : List ℤ) (names : List (List ℕ)) (slice : List ℤ) → case_checked u (prices_kept prices) (length prices) ≡ Passed
-    → named (names_for u) [] names ≡ true → length (written names u prices) ≤ most_bytes → length prices ≤ length slice
+    → named (names_for u.permit) [] names ≡ true → length (written names u prices) ≤ most_bytes → length prices ≤ length slice
     → (read_case (written names u prices) (length slice) ≡ Case u (length prices))
     × (read_prices (written names u prices) slice ≡ prices ++ drop (length prices) slice)
 written_read u prices names slice kept each short fits =

@@ -1,4 +1,4 @@
--- C1's text as it stands in the specification, the same with a date and with month figures, and damaged ones, each with the number that it gets: from the
+-- C1's text as it stands in the specification, the same with a date, and damaged ones, each with the number that it gets: from the
 -- definitions alone, by computing.
 use mathlib.Core.List.{List, [], ◌∷◌, ◌++◌, map}
 use mathlib.Core.Path.{◌≡◌, refl}
@@ -6,11 +6,7 @@ use Prim.Native.Nat.{ℕ}
 use Prim.Native.String.{String}
 use lib.IntN.{pos}
 use lib.ListN.{replicate}
-use Rattle.calendar.specs.Dates.{day_number, is_sunday}
-use Rattle.calendar.specs.Clock.{hours_of}
-use Rattle.calendar.specs.Months.{month_begins}
 use Rattle.commitment.specs.declared.Limit.TheVariants.{None, At}
-use Rattle.commitment.specs.declared.Months.TheVariants.{Unlimited, Limited}
 use Rattle.commitment.specs.declared.Permit.TheVariants.{AnyHour, Within}
 use Rattle.commitment.specs.Causes.{checked_number}
 use Rattle.commitment.specs.Ranges.{ranges_kept, prices_kept}
@@ -45,7 +41,6 @@ pub c1-case : read_case c1 6
       opening = record { was = 0; held = 2 };
       limits = record { starts = At 2; hours = At 2; mwh = None };
       permit = AnyHour;
-      months = Unlimited;
     }) 6
 unfolding is_of is_name numeral value_of is_value ranges_kept prices_kept form_kept names_kept unit_in prices_in text_checked read_case
 c1-case = refl
@@ -64,29 +59,9 @@ pub c1-dated-case : read_case c1-dated 6
       opening = record { was = 0; held = 2 };
       limits = record { starts = At 2; hours = At 2; mwh = None };
       permit = Within (record { date = record { year = 2026; month = 3; day = 8 }; word = 16776960 });
-      months = Unlimited;
     }) 6
 unfolding is_of is_name numeral value_of is_value ranges_kept prices_kept form_kept names_kept unit_in prices_in text_checked read_case
 c1-dated-case = refl
-
--- with month figures and the month to value, their names among the others
-abbrev c1-monthly : List ℕ
-c1-monthly =
-    closing
-    (bytes "window,block,valued,pmin,pmax,day,mot,mdt,was,held,vec,mhours,year,mlc,suc,starts,hours,mwh,month,mstarts"
-    ∷ bytes "16777215,10,1,1,2,31,2,2,0,2,3000,1,2026,30000,5000,2,2,none,1,0" ∷ [] ∷ head ∷ prices)
-
-pub c1-monthly-case : read_case c1-monthly 6
-    ≡ Case (record {
-      generator = record { block = 10; pmin = 1; pmax = 2; mot = 2; mdt = 2 };
-      costs = record { vec = 3000; mlc = 30000; suc = 5000 };
-      opening = record { was = 0; held = 2 };
-      limits = record { starts = At 2; hours = At 2; mwh = None };
-      permit = Within (record { date = record { year = 2026; month = 1; day = 31 }; word = 16777215 });
-      months = Limited (record { limits = record { starts = At 0; hours = At 1; mwh = None }; valued = 1 });
-    }) 6
-unfolding is_of is_name numeral value_of is_value ranges_kept prices_kept form_kept names_kept unit_in prices_in text_checked read_case month_begins
-c1-monthly-case = refl
 
 pub c1-prices : prices_in c1 ≡ pos 2000 ∷ pos 9000 ∷ pos 8000 ∷ pos 1000 ∷ pos 7000 ∷ pos 10000 ∷ []
 unfolding is_of is_name numeral value_of is_value ranges_kept prices_kept form_kept names_kept unit_in prices_in text_checked
@@ -184,10 +159,10 @@ texts =
     ∷ (closing (names ∷ bytes "500,1,2,2,2,0,2,3000,30000,5000,2,2,none" ∷ [] ∷ head ∷ prices))
     -- 5: no price
     ∷ (closing (names ∷ values ∷ [] ∷ head ∷ []))
-    -- 0: as many prices as a text can hold, and more than a month has
-    ∷ (closing (names ∷ values ∷ [] ∷ head ∷ replicate 6089 (bytes "0")))
-    -- 3: a price out of range behind as many
-    ∷ (closing (names ∷ values ∷ [] ∷ head ∷ (replicate 6000 (bytes "0") ++ bytes "200001" ∷ [])))
+    -- 5: 2,977 prices
+    ∷ (closing (names ∷ values ∷ [] ∷ head ∷ replicate 2977 (bytes "0")))
+    -- 3: a price out of range beyond the 2,976th
+    ∷ (closing (names ∷ values ∷ [] ∷ head ∷ (replicate 2976 (bytes "0") ++ bytes "200001" ∷ [])))
     -- 0: a date and its word
     ∷ (closing (dated ∷ values_and "2026,3,8,16776960" ∷ [] ∷ head ∷ prices))
     -- 2: a date without its word
@@ -207,36 +182,11 @@ texts =
     ∷ (closing (dated ∷ values_and "2024,2,30,1" ∷ [] ∷ head ∷ []))
     -- 4: 30 February and pmin over pmax: 4 comes before 12
     ∷ (closing (dated ∷ bytes "10,3,2,2,2,0,2,3000,30000,5000,2,2,none,2024,2,30,1" ∷ [] ∷ head ∷ prices))
-    -- 0: month figures and the month to value
-    ∷ (closing ((dated ++ bytes ",mstarts,mhours,valued") ∷ values_and "2026,1,31,16777215,2,1,1" ∷ [] ∷ head ∷ prices))
-    -- 2: a month figure without the month to value
-    ∷ (closing ((dated ++ bytes ",mstarts") ∷ values_and "2026,1,31,16777215,2" ∷ [] ∷ head ∷ prices))
-    -- 2: the month to value alone
-    ∷ (closing ((dated ++ bytes ",valued") ∷ values_and "2026,1,31,16777215,1" ∷ [] ∷ head ∷ prices))
-    -- 2: a month figure twice
-    ∷ (closing ((dated ++ bytes ",mstarts,valued,mstarts") ∷ values_and "2026,1,31,16777215,2,1,2" ∷ [] ∷ head ∷ prices))
-    -- 3: a month figure that is `none`
-    ∷ (closing ((dated ++ bytes ",mstarts,valued") ∷ values_and "2026,1,31,16777215,none,1" ∷ [] ∷ head ∷ prices))
-    -- 3: a month figure over its range
-    ∷ (closing ((dated ++ bytes ",mhours,valued") ∷ values_and "2026,1,31,16777215,745,1" ∷ [] ∷ head ∷ prices))
-    -- 3: a fourteenth month
-    ∷ (closing ((dated ++ bytes ",mstarts,valued") ∷ values_and "2026,1,31,16777215,2,14" ∷ [] ∷ head ∷ prices))
-    -- 13: a month figure without a date
-    ∷ (closing ((names ++ bytes ",mstarts,valued") ∷ values_and "2,1" ∷ [] ∷ head ∷ prices))
-    -- 13: one beside a year figure that is `none`
-    ∷ (closing ((dated ++ bytes ",mmwh,valued") ∷ values_and "2026,1,31,16777215,5,1" ∷ [] ∷ head ∷ prices))
-    -- 13: a month to value that begins after the horizon, with prices and without: 13 comes before 5
-    ∷ (closing ((dated ++ bytes ",mstarts,valued") ∷ values_and "2026,1,31,16777215,2,2" ∷ [] ∷ head ∷ prices))
-    ∷ (closing ((dated ++ bytes ",mstarts,valued") ∷ values_and "2026,1,31,16777215,2,2" ∷ [] ∷ head ∷ []))
-    -- 5: no prices, and the first month
-    ∷ (closing ((dated ++ bytes ",mstarts,valued") ∷ values_and "2026,1,31,16777215,2,1" ∷ [] ∷ head ∷ []))
-    -- 12: 30 February and a month after the horizon: 12 comes before 13
-    ∷ (closing ((dated ++ bytes ",mstarts,valued") ∷ values_and "2024,2,30,1,2,2" ∷ [] ∷ head ∷ prices))
     ∷ []
 
 pub numbers : map (λ text. checked_number (text_checked text 6144)) texts
     ≡ 0 ∷ 0 ∷ 1 ∷ 1 ∷ 1 ∷ 1 ∷ 1 ∷ 1 ∷ 1 ∷ 1 ∷ 1 ∷ 1 ∷ 1 ∷ 1 ∷ 1 ∷ 1 ∷ 1 ∷ 1 ∷ 1 ∷ 1 ∷ 1 ∷ 1 ∷ 1 ∷ 1
-    ∷ 2 ∷ 2 ∷ 2 ∷ 2 ∷ 2 ∷ 2 ∷ 3 ∷ 3 ∷ 3 ∷ 3 ∷ 3 ∷ 3 ∷ 4 ∷ 4 ∷ 5 ∷ 0 ∷ 3 ∷ 0 ∷ 2 ∷ 2 ∷ 2 ∷ 3 ∷ 3 ∷ 3
-    ∷ 12 ∷ 12 ∷ 4 ∷ 0 ∷ 2 ∷ 2 ∷ 2 ∷ 3 ∷ 3 ∷ 3 ∷ 13 ∷ 13 ∷ 13 ∷ 13 ∷ 5 ∷ 12 ∷ []
-unfolding is_of is_name numeral value_of is_value ranges_kept prices_kept form_kept names_kept unit_in prices_in text_checked hours_of is_sunday day_number month_begins
+    ∷ 2 ∷ 2 ∷ 2 ∷ 2 ∷ 2 ∷ 2 ∷ 3 ∷ 3 ∷ 3 ∷ 3 ∷ 3 ∷ 3 ∷ 4 ∷ 4 ∷ 5 ∷ 5 ∷ 3 ∷ 0 ∷ 2 ∷ 2 ∷ 2 ∷ 3 ∷ 3 ∷ 3
+    ∷ 12 ∷ 12 ∷ 4 ∷ []
+unfolding is_of is_name numeral value_of is_value ranges_kept prices_kept form_kept names_kept unit_in prices_in text_checked
 numbers = refl

@@ -17,7 +17,7 @@ pub occurs-append : (name : List ℕ) (xs ys : List (List ℕ)) → occurs name 
 occurs-append name [] ys = omega arith
 occurs-append name (x ∷ xs) ys = omega (arith, occurs-append name xs ys)
 
-pub every_append : (test : List ℕ → Bool) (xs ys : List (List ℕ)) → every test (xs ++ ys) ≡ every test xs && every test ys
+every_append : (test : List ℕ → Bool) (xs ys : List (List ℕ)) → every test (xs ++ ys) ≡ every test xs && every test ys
 every_append test [] ys = refl
 every_append test (x ∷ xs) ys =
     ap (λ (t : Bool). test x && t) (every_append test xs ys) ∙ sym (and_assoc (test x) (every test xs) (every test ys))
@@ -28,13 +28,10 @@ some-of-two zero n =
     ap (leb 1) e
 some-of-two (suc m) n = rw (le-leb 1 (suc m + n) (omega arith), le-leb 1 (suc m) (omega arith))
 
-pub some-append : (name : List ℕ) (xs ys : List (List ℕ)) → leb 1 (occurs name (xs ++ ys)) ≡ leb 1 (occurs name xs) || leb 1 (occurs name ys)
-some-append name xs ys = ap (leb 1) (occurs-append name xs ys) ∙ some-of-two (occurs name xs) (occurs name ys)
-
 module _ (required group : List (List ℕ)) where
   -- a field is known whether the group stands beside the required names or among them
   known_among : (groups : List (List (List ℕ))) (field : List ℕ) → known (required ++ group) groups field ≡ known required (group ∷ groups) field
-  known_among groups field = go groups (some-append field required group)
+  known_among groups field = go groups (ap (leb 1) (occurs-append field required group) ∙ some-of-two (occurs field required) (occurs field group))
     where
       go : (groups : List (List (List ℕ))) → leb 1 (occurs field (required ++ group)) ≡ leb 1 (occurs field required) || leb 1 (occurs field group)
           → known (required ++ group) groups field ≡ known required (group ∷ groups) field
@@ -77,28 +74,23 @@ module _ (required group : List (List ℕ)) (groups : List (List (List ℕ))) (f
         no_other = alike (known (required ++ group) groups) wider (λ field some. known_among required group groups field) p.no_other;
       })
 
-  -- where no name of the group is another's, none of it stands
-  pub none-stand : every (λ name. not (known required groups name)) group ≡ true → named required groups fields ≡ true
-      → every (standing 0 fields) group ≡ true
-  none-stand own e = every_of (standing 0 fields) group absent
-    where
-      absent : (name : List ℕ) → 1 ≤ occurs name group → standing 0 fields name ≡ true
-      absent name some =
-          eq-eqb (occurs name fields) 0
-          (none_of required groups fields (parts-of required groups fields e).no_other name
-          (not-true _ (of-table (λ name. not (known required groups name)) group name own some)))
-
+  -- where no name of the group is another's
   pub without-group : every (λ name. not (known required groups name)) group ≡ true → named required groups fields ≡ true
       → named required (group ∷ groups) fields ≡ true
   without-group own e =
       let p = parts-of required groups fields e in
-      let none = none-stand own e in
+      let none = every_of (standing 0 fields) group (absent p.no_other) in
       of_parts required (group ∷ groups) fields
       (record {
         each = p.each;
         grouped = ap₂ ◌&&◌ (ap (λ (t : Bool). every (standing 1 fields) group || t) none ∙ or-true (every (standing 1 fields) group)) p.grouped;
         no_other = alike (known required groups) wider (λ field some. sym (apart none field some)) p.no_other;
       })
+    where
+      absent : every (known required groups) fields ≡ true → (name : List ℕ) → 1 ≤ occurs name group → standing 0 fields name ≡ true
+      absent k name some =
+          eq-eqb (occurs name fields) 0
+          (none_of required groups fields k name (not-true _ (of-table (λ name. not (known required groups name)) group name own some)))
 
   pub group-cases : named required (group ∷ groups) fields ≡ true
       → (named required groups fields ≡ true) ⊎ (named (required ++ group) groups fields ≡ true)

@@ -2,9 +2,6 @@
 use Rattle.std.specs.Prelude.{◌≡◌, List, [], ◌∷◌, ℕ, ◌<◌, ℤ, pos, length, get_or}
 use Rattle.commitment.specs.declared.Limit.{Limit}
 use Rattle.commitment.specs.declared.Limit.TheVariants.{None, At}
-use Rattle.commitment.specs.declared.Monthly.{Monthly}
-use Rattle.commitment.specs.declared.Months.{Months}
-use Rattle.commitment.specs.declared.Months.TheVariants.{Unlimited, Limited}
 use Rattle.commitment.specs.declared.Permit.{Permit}
 use Rattle.commitment.specs.declared.Permit.TheVariants.{AnyHour, Within}
 use Rattle.commitment.specs.declared.Window.{Window}
@@ -15,7 +12,6 @@ use Rattle.tabletext.specs.Pieces.{lines_of, fields_of}
 use Rattle.tabletext.specs.Values.{value_of}
 use Rattle.casetext.specs.Names.{block_name, pmin_name, pmax_name, mot_name, mdt_name, was_name, held_name, vec_name, mlc_name, suc_name}
 use Rattle.casetext.specs.Names.{starts_name, hours_name, mwh_name, year_name, month_name, day_name, window_name, price_name}
-use Rattle.casetext.specs.Names.{mstarts_name, mhours_name, mmwh_name, valued_name}
 use Rattle.casetext.specs.Form.{unit_head, unit_row, price_head, price_rows}
 
 -- the value under its name: the name stands at one place of the line of names, and the value at that place of the line of values
@@ -52,28 +48,6 @@ abbrev pub PermitWritten : List (List ℕ) → List (List ℕ) → Permit → Ty
 PermitWritten names values AnyHour = NoWindow names
 PermitWritten names values (Within w) = WindowWritten names values w
 
--- a month figure stands under its name, or its name is missing
-abbrev pub FigureWritten : List (List ℕ) → List (List ℕ) → List ℕ → Limit → Type 0
-FigureWritten names values name None = StandsNowhere names name
-FigureWritten names values name (At n) = StandsUnder names values name (Number (pos n))
-
-pub record MonthlyWritten (names values : List (List ℕ)) (m : Monthly) : Type 0 where
-  pub starts : FigureWritten names values mstarts_name m.limits.starts
-  pub hours : FigureWritten names values mhours_name m.limits.hours
-  pub mwh : FigureWritten names values mmwh_name m.limits.mwh
-  pub valued : StandsUnder names values valued_name (Number (pos m.valued))
-
-pub record NoMonths (names : List (List ℕ)) : Type 0 where
-  pub no-starts : StandsNowhere names mstarts_name
-  pub no-hours : StandsNowhere names mhours_name
-  pub no-mwh : StandsNowhere names mmwh_name
-  pub no-valued : StandsNowhere names valued_name
-
--- without month figures none of the four names is there
-abbrev pub MonthsWritten : List (List ℕ) → List (List ℕ) → Months → Type 0
-MonthsWritten names values Unlimited = NoMonths names
-MonthsWritten names values (Limited m) = MonthlyWritten names values m
-
 pub record AsWritten (text : List ℕ) (u : UnitRecord) (prices : List ℤ) : Type 0 where
   pub lines : lines_of text ≡ unit_head text ∷ unit_row text ∷ [] ∷ price_head text ∷ price_rows text
   pub block : StandsUnder (fields_of (unit_head text)) (fields_of (unit_row text)) block_name (Number (pos u.generator.block))
@@ -90,7 +64,6 @@ pub record AsWritten (text : List ℕ) (u : UnitRecord) (prices : List ℤ) : Ty
   pub hours : StandsUnder (fields_of (unit_head text)) (fields_of (unit_row text)) hours_name (limit_value u.limits.hours)
   pub mwh : StandsUnder (fields_of (unit_head text)) (fields_of (unit_row text)) mwh_name (limit_value u.limits.mwh)
   pub permit : PermitWritten (fields_of (unit_head text)) (fields_of (unit_row text)) u.permit
-  pub months : MonthsWritten (fields_of (unit_head text)) (fields_of (unit_row text)) u.months
   pub price-name : price_head text ≡ price_name
   pub one-a-line : length prices ≡ length (price_rows text)
   pub price : (i : ℕ) → i < length prices → value_of (get_or (price_rows text) i []) ≡ Number (get_or prices i (pos 0))

@@ -1,18 +1,14 @@
 -- The text that a writer of the format makes of a record and prices (specification 11).
-use Rattle.std.specs.Prelude.{Bool, true, false, cond, List, [], ◌∷◌, ◌++◌, map, ℕ, zero, suc, ◌+◌, ◌/◌, ◌%◌, ltb, ℤ, pos, negsuc}
+use Rattle.std.specs.Prelude.{cond, List, [], ◌∷◌, ◌++◌, map, ℕ, zero, suc, ◌+◌, ◌/◌, ◌%◌, ltb, ℤ, pos, negsuc}
 use Rattle.commitment.specs.declared.Limit.{Limit}
 use Rattle.commitment.specs.declared.Limit.TheVariants.{None, At}
-use Rattle.commitment.specs.declared.Months.{Months}
-use Rattle.commitment.specs.declared.Months.TheVariants.{Unlimited, Limited}
 use Rattle.commitment.specs.declared.Permit.{Permit}
 use Rattle.commitment.specs.declared.Permit.TheVariants.{AnyHour, Within}
 use Rattle.commitment.specs.declared.UnitRecord.{UnitRecord}
-use Rattle.commitment.specs.Limits.{is_limited, figures_in}
 use Rattle.tabletext.specs.Bytes.{same}
 use Rattle.tabletext.specs.Values.{none_word}
 use Rattle.casetext.specs.Names.{block_name, pmin_name, pmax_name, mot_name, mdt_name, was_name, held_name, vec_name, mlc_name, suc_name}
-use Rattle.casetext.specs.Names.{starts_name, hours_name, mwh_name, year_name, month_name, day_name, window_name, price_name}
-use Rattle.casetext.specs.Names.{mstarts_name, mhours_name, mmwh_name, valued_name, unit_names, unit_groups}
+use Rattle.casetext.specs.Names.{starts_name, hours_name, mwh_name, year_name, month_name, day_name, window_name, price_name, unit_names, dated_names}
 
 -- fields joined by commas
 abbrev pub joined : List (List ℕ) → List ℕ
@@ -42,25 +38,15 @@ abbrev pub shown_limit : Limit → List ℕ
 shown_limit None = none_word
 shown_limit (At n) = shown_whole n
 
--- of the month figures and the month to value, by the name
-abbrev pub shown_monthly : Months → List ℕ → List ℕ
-shown_monthly Unlimited name = []
-shown_monthly (Limited m) name =
-    cond (same name mstarts_name) (shown_limit m.limits.starts)
-    (cond (same name mhours_name) (shown_limit m.limits.hours)
-    (cond (same name mmwh_name) (shown_limit m.limits.mwh)
-    (cond (same name valued_name) (shown_whole m.valued)
-    [])))
-
--- of a date and its word, by the name, or another's
-abbrev pub shown_dated : Permit → List ℕ → List ℕ → List ℕ
-shown_dated AnyHour name others = others
-shown_dated (Within w) name others =
+-- of a date and its word, by the name
+abbrev pub shown_dated : Permit → List ℕ → List ℕ
+shown_dated AnyHour name = []
+shown_dated (Within w) name =
     cond (same name year_name) (shown_whole w.date.year)
     (cond (same name month_name) (shown_whole w.date.month)
     (cond (same name day_name) (shown_whole w.date.day)
     (cond (same name window_name) (shown_whole w.word)
-    others)))
+    [])))
 
 -- a field of the record, by its name
 abbrev pub shown_field : UnitRecord → List ℕ → List ℕ
@@ -78,35 +64,15 @@ shown_field u name =
     (cond (same name starts_name) (shown_limit u.limits.starts)
     (cond (same name hours_name) (shown_limit u.limits.hours)
     (cond (same name mwh_name) (shown_limit u.limits.mwh)
-    (shown_dated u.permit name (shown_monthly u.months name))))))))))))))
+    (shown_dated u.permit name)))))))))))))
 
--- the groups of names that stand, by a mark for each
-abbrev pub marked : List Bool → List (List (List ℕ)) → List (List ℕ)
-marked [] groups = []
-marked (stands ∷ marks) [] = []
-marked (stands ∷ marks) (group ∷ groups) = cond stands group [] ++ marked marks groups
+-- the names that a record is written under: the thirteen, and with a date the four
+abbrev pub dated_for : Permit → List (List ℕ)
+dated_for AnyHour = []
+dated_for (Within w) = dated_names
 
--- the marks of a record: of the four of a date, of each month figure, and of the month to value
-abbrev pub is_dated : Permit → Bool
-is_dated AnyHour = false
-is_dated (Within w) = true
-
-abbrev pub are_limited : Months → Bool
-are_limited Unlimited = false
-are_limited (Limited m) = true
-
-abbrev pub marks_for : UnitRecord → List Bool
-marks_for u =
-    is_dated u.permit
-    ∷ is_limited (figures_in u.months).starts
-    ∷ is_limited (figures_in u.months).hours
-    ∷ is_limited (figures_in u.months).mwh
-    ∷ are_limited u.months
-    ∷ []
-
--- the names that a record is written under: the thirteen, and those of the groups that it has
-abbrev pub names_for : UnitRecord → List (List ℕ)
-names_for u = unit_names ++ marked (marks_for u) unit_groups
+abbrev pub names_for : Permit → List (List ℕ)
+names_for permit = unit_names ++ dated_for permit
 
 -- the text of a case, its names in a sequence of the writer's own
 unfoldable pub written : List (List ℕ) → UnitRecord → List ℤ → List ℕ

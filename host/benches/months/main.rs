@@ -1,12 +1,9 @@
 //! Months on the library and on the same algorithm in plain Rust, alternating in one run over the same scratch. Prints ns per cell, the ratio of
 //! the two, and the floor: each cell written, read and cleared once. Some cases come once more with permitted hours, all of them and half. Two layers
-//! beside the long table come behind them, and years last.
+//! beside the long table come last.
 
-mod halves;
 mod layers;
 mod plain;
-mod yearly;
-mod years;
 
 use ralwinga::{cells, plan_into, report_into, Unit, Window};
 use std::hint::black_box;
@@ -17,10 +14,10 @@ const INTERVALS: usize = 2976;
 const ROUNDS: usize = 5;
 const SECONDS: f64 = 3.0;
 
-/// Prices: a daily wave with noise, below vec at night and above it by day, some negative.
-fn prices_of(intervals: usize) -> Vec<i64> {
+/// A month of prices: a daily wave with noise, below vec at night and above it by day, some negative.
+fn month() -> Vec<i64> {
     let mut seed: u64 = 20_071_231;
-    (0..intervals)
+    (0..INTERVALS)
         .map(|t| {
             seed = seed
                 .wrapping_mul(6364136223846793005)
@@ -50,7 +47,6 @@ fn unit() -> Unit {
         hours: None,
         mwh: None,
         window: None,
-        months: None,
     }
 }
 
@@ -198,7 +194,7 @@ fn is_wanted(wanted: &Option<String>, name: &str) -> bool {
 fn main() {
     // cargo hands on `--bench`; any other word picks the cases that have it in their name
     let wanted = std::env::args().skip(1).find(|word| !word.starts_with('-'));
-    let prices = prices_of(INTERVALS);
+    let prices = month();
     println!("{INTERVALS} intervals, least of {ROUNDS} rounds or more; ns per cell");
     println!(
         "{:<30}{:>13}{:>9}{:>9}{:>9}{:>9}{:>9}{:>12}",
@@ -226,5 +222,4 @@ fn main() {
         );
     }
     layers::run(&wanted, &prices);
-    years::run(&wanted);
 }

@@ -1,7 +1,7 @@
 //! A drawing of a bid curve: a staircase, MW across and the price up.
 
 use super::{axis, in_dollars, open, upright, Panel};
-use super::{BOTTOM, HEIGHT, LEFT, PRICE_TOP, RIGHT, WIDTH};
+use super::{BOTTOM, LEFT, PRICE_TOP, RIGHT, WIDTH};
 use crate::amounts::dollars;
 use crate::Segment;
 use std::fmt::Write;
@@ -45,7 +45,7 @@ fn panel_of(segments: &[Segment]) -> Panel {
 pub fn draw(segments: &[Segment]) -> String {
     let (across, panel) = (Across::of(segments), panel_of(segments));
     let mut out = String::new();
-    open(&mut out, &heading(segments), HEIGHT);
+    open(&mut out, &heading(segments));
     axis(&mut out, &panel, "$/MWh");
     marks(&mut out, &across, segments);
     staircase(&mut out, &across, &panel, segments);
@@ -91,7 +91,7 @@ fn marks(out: &mut String, across: &Across, segments: &[Segment]) {
     let mut free = LEFT;
     for level in begins.into_iter().chain(ends) {
         let at = across.x(level);
-        upright(out, at, PRICE_TOP, BOTTOM);
+        upright(out, at);
         // the last level is written in any case
         if level == across.last || (free..=end - LEAST_ROOM).contains(&at) {
             under(out, at, 18.0, &level.to_string());

@@ -1,7 +1,7 @@
 //! What to do about a line or a value that is not of the form.
 
 /// What the values under a name are counted in. `rate` is left out: it is one thing of cost inputs and another of a curve.
-const COUNTED_IN: [(&str, &str); 30] = [
+const COUNTED_IN: [(&str, &str); 27] = [
     ("block", "MW"),
     ("pmin", "blocks"),
     ("pmax", "blocks"),
@@ -14,9 +14,6 @@ const COUNTED_IN: [(&str, &str); 30] = [
     ("starts", "starts"),
     ("hours", "hours"),
     ("mwh", "MWh"),
-    ("mstarts", "starts"),
-    ("mhours", "hours"),
-    ("mmwh", "MWh"),
     ("gas", "cents per MMBtu"),
     ("transport", "cents per MMBtu"),
     ("allowance", "cents per tonne"),

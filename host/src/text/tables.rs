@@ -25,11 +25,6 @@ impl<'a> Names<'a> {
         self.place(name).is_some()
     }
 
-    /// The field of a name that stands.
-    pub fn field(&self, name: &str) -> Option<Field<'a>> {
-        Some(self.fields[self.place(name)?])
-    }
-
     fn place(&self, name: &str) -> Option<usize> {
         let is_name = |field: &Field| field.bytes == name.as_bytes();
         self.fields.iter().position(is_name)
@@ -37,26 +32,14 @@ impl<'a> Names<'a> {
 
     /// Where each of `names` stands. Each has to stand once, and no other.
     fn places<const N: usize>(&self, names: [&str; N]) -> Result<[usize; N], Fault> {
-        self.judge(&names, &names)?;
-        Ok(names.map(|name| self.place(name).expect("none is missing")))
-    }
-
-    /// Each of `names` stands once at most, no other does, and each of `required` stands.
-    fn judge(&self, names: &[&str], required: &[&str]) -> Result<(), Fault> {
-        let lacking = |names: &[&'_ str]| -> Vec<String> {
-            let lacks = names.iter().filter(|name| !self.has(name));
-            lacks.map(|name| name.to_string()).collect()
-        };
-        let missing = lacking(required);
+        let missing: Vec<&str> = names.into_iter().filter(|name| !self.has(name)).collect();
         let lacks = missing.iter().map(|name| format!("'{name}' is missing"));
         for (i, field) in self.fields.iter().enumerate() {
             let known = names.iter().any(|name| name.as_bytes() == field.bytes);
             let before = self.fields[..i].iter().any(|f| f.bytes == field.bytes);
             let wrong = match (known, before) {
                 (false, _) => {
-                    let near = lacking(names);
-                    let near: Vec<&str> = near.iter().map(String::as_str).collect();
-                    let near = did_you_mean(&field.bytes.escape_ascii().to_string(), &near);
+                    let near = did_you_mean(&field.bytes.escape_ascii().to_string(), &missing);
                     format!("{field} is unknown{near}")
                 }
                 (true, true) => format!("{field} is repeated"),
@@ -69,7 +52,7 @@ impl<'a> Names<'a> {
             let said: Vec<String> = lacks.collect();
             return Err(Fault::in_line(Refusal::Name, self.line, said.join(", ")));
         }
-        Ok(())
+        Ok(names.map(|name| self.place(name).expect("none is missing")))
     }
 
     /// The cells of a row at some places. Every cell of the row has to be of the form.
@@ -148,23 +131,6 @@ impl FirstTable {
         let places = read.places(names)?;
         let cells = read.cells(self.row.line(), Some(places))?;
         Ok(cells.expect("places were given"))
-    }
-
-    /// The row's cells under those of `names` that stand: each once at most, no other, and all of `required`.
-    pub fn standing<const N: usize>(
-        &self,
-        names: [&str; N],
-        required: &[&str],
-    ) -> Result<[Option<Cell<'_>>; N], Fault> {
-        let read = self.names()?;
-        read.judge(&names, required)?;
-        let mut cells = [None; N];
-        for (cell, name) in cells.iter_mut().zip(names) {
-            if let Some(place) = read.place(name) {
-                *cell = read.cells(self.row.line(), Some([place]))?.map(|[c]| c);
-            }
-        }
-        Ok(cells)
     }
 }
 

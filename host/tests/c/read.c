@@ -11,8 +11,7 @@ int main(void) {
     struct ralwinga_case read = ralwinga_read(text, length, prices, 6144);
     struct ralwinga_unit u = read.unit;
     const uint64_t figures[] = {u.block, u.pmin, u.pmax, u.mot,   u.mdt, u.was,  u.held,  u.vec, u.mlc,
-                                u.suc,   u.starts, u.hours, u.mwh, u.year, u.month, u.day, u.window,
-                                u.mstarts, u.mhours, u.mmwh, u.valued};
+                                u.suc,   u.starts, u.hours, u.mwh, u.year, u.month, u.day, u.window};
     printf("%" PRIu64 " %zu", read.number, read.count);
     for (size_t i = 0; i < sizeof figures / sizeof *figures; i++)
         printf(" %" PRIu64, figures[i]);

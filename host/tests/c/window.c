@@ -14,8 +14,7 @@ static uint8_t out[256];
 int main(void) {
     uint64_t year, month, day, window;
     while (scanf("%" SCNu64 "%" SCNu64 "%" SCNu64 "%" SCNu64, &year, &month, &day, &window) == 4) {
-        struct ralwinga_unit unit = {10, 1, 2, 2, 2, 0, 2, 3000, 30000, 5000, 2, 2, RALWINGA_NONE, year, month, day, window,
-                                     RALWINGA_NONE, RALWINGA_NONE, RALWINGA_NONE, RALWINGA_NONE};
+        struct ralwinga_unit unit = {10, 1, 2, 2, 2, 0, 2, 3000, 30000, 5000, 2, 2, RALWINGA_NONE, year, month, day, window};
         struct ralwinga_cells cells = ralwinga_cells(unit, INTERVALS);
         struct ralwinga_assessment assessment = ralwinga_assess(unit, prices, INTERVALS, off, INTERVALS);
         struct ralwinga_plan plan = ralwinga_plan(unit, prices, INTERVALS, scratch, CELLS, schedule, INTERVALS);

@@ -1,4 +1,4 @@
-//! Dates, clock hours and months once more in plain Rust, by the hours that pass: standard time counts them without a gap, and the clock is an hour ahead of
+//! Dates and clock hours once more in plain Rust, by the hours that pass: standard time counts them without a gap, and the clock is an hour ahead of
 //! it from one change to the other. It shares no code with the library or the host.
 
 use std::ops::Range;
@@ -81,22 +81,4 @@ pub fn shown(date: Date, intervals: usize) -> Vec<Shown> {
     });
     let quarters = hours.flat_map(|shown| [shown; 4]);
     quarters.take(intervals).collect()
-}
-
-/// The calendar month of each of so many intervals from midnight of a date on, that of the date counted 1.
-pub fn months(date: Date, intervals: usize) -> Vec<u64> {
-    let counted = |(year, month, _): Date| 12 * year + month;
-    let shown = shown(date, intervals).into_iter();
-    shown
-        .map(|shown| counted(shown.date) + 1 - counted(date))
-        .collect()
-}
-
-/// The last day of a date's month.
-pub fn last_day((year, month, _): Date) -> Date {
-    let next = match month {
-        12 => (year + 1, 1, 1),
-        _ => (year, month + 1, 1),
-    };
-    days_after(next, -1)
 }

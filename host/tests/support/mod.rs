@@ -15,8 +15,7 @@ mod running;
 mod texts;
 
 pub use cases::{
-    any_case, any_schedule, any_window, c1, damage, dated, limited_by_month, long_case,
-    longer_month_case, month, month_case, small_case, three_months_case, year_case,
+    any_case, any_schedule, any_window, c1, damage, dated, long_case, month, small_case,
 };
 pub use cases::{C1, FULL};
 pub use lent::Lent;
@@ -25,7 +24,7 @@ pub use running::{answer_on, limited, proved_program, ralwinga, run_on, run_unre
 pub use texts::{columns_of, damage_text, shuffled_table, text_of, text_with};
 
 /// How often each number came up, 0 for no refusal.
-pub type Seen = [usize; 14];
+pub type Seen = [usize; 13];
 
 /// Each of these numbers came up more often than now and then.
 pub fn each_came_up(seen: &[usize], numbers: &[usize]) {

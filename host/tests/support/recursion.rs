@@ -1,7 +1,7 @@
 //! The best plan by a plain recursion with a memory, from the front and by what was used so far: for cases too long to try every list.
 
-use super::paper::{self, Run};
-use ralwinga::{Report, Unit};
+use super::paper;
+use ralwinga::Unit;
 use std::collections::HashMap;
 
 /// Where a schedule stands after some intervals, and what it used.
@@ -14,24 +14,20 @@ struct Place {
     starts: u64,
     on_intervals: u64,
     output: u64,
-    /// What it used in the month of the interval before it.
-    in_month: [u64; 3],
 }
 
 struct Search<'a> {
-    run: &'a Run,
+    unit: &'a Unit,
     prices: &'a [i64],
     /// Whether the unit may run, interval by interval.
     permitted: Vec<bool>,
-    /// The month of each interval.
-    months: Vec<u64>,
     known: HashMap<Place, Option<i64>>,
 }
 
 impl Search<'_> {
     /// The place that an output leads to and what it brings, where it is allowed.
     fn step(&self, place: Place, output: u64) -> Option<(Place, i64)> {
-        let u = &self.run.unit;
+        let u = self.unit;
         let on = output > 0;
         if on && !self.permitted[place.interval] {
             return None;
@@ -43,12 +39,6 @@ impl Search<'_> {
         let started = turned && on;
         // where a limitation is not there, what was used of it does not tell two places apart
         let used = |limit: Option<u64>, before: u64, more: u64| limit.map_or(0, |_| before + more);
-        let month = self.months[place.interval];
-        let most_in_month = self.run.most_in(month);
-        let begins = place.interval > 0 && self.months[place.interval - 1] != month;
-        let before = if begins { [0; 3] } else { place.in_month };
-        let more = [started as u64, on as u64, output];
-        let in_month = std::array::from_fn(|i| used(most_in_month[i], before[i], more[i]));
         let next = Place {
             interval: place.interval + 1,
             on,
@@ -56,15 +46,10 @@ impl Search<'_> {
             starts: used(u.starts, place.starts, started as u64),
             on_intervals: used(u.hours, place.on_intervals, on as u64),
             output: used(u.mwh, place.output, output),
-            in_month,
         };
         let within = u.starts.is_none_or(|most| next.starts <= most)
             && u.hours.is_none_or(|most| next.on_intervals <= 4 * most)
-            && u.mwh.is_none_or(|most| next.output <= 4 * most)
-            && in_month
-                .iter()
-                .zip(most_in_month)
-                .all(|(used, most)| most.is_none_or(|most| *used <= most));
+            && u.mwh.is_none_or(|most| next.output <= 4 * most);
         let earned = match on {
             true => {
                 let above = output as i64 - (u.pmin * u.block) as i64;
@@ -77,7 +62,7 @@ impl Search<'_> {
     }
 
     fn outputs(&self) -> impl Iterator<Item = u64> {
-        let u = self.run.unit;
+        let u = *self.unit;
         std::iter::once(0).chain((u.pmin..=u.pmax).map(move |k| k * u.block))
     }
 
@@ -105,13 +90,11 @@ impl Search<'_> {
 }
 
 /// The best profit and the earliest schedule that earns it.
-pub fn best(run: &Run, prices: &[i64]) -> Option<(i64, Vec<u64>)> {
-    let unit = &run.unit;
+pub fn best(unit: &Unit, prices: &[i64]) -> Option<(i64, Vec<u64>)> {
     let mut search = Search {
-        run,
+        unit,
         prices,
         permitted: paper::permitted(unit, prices.len()),
-        months: paper::months(unit, prices.len()),
         known: HashMap::new(),
     };
     let mut place = Place {
@@ -121,7 +104,6 @@ pub fn best(run: &Run, prices: &[i64]) -> Option<(i64, Vec<u64>)> {
         starts: 0,
         on_intervals: 0,
         output: 0,
-        in_month: [0; 3],
     };
     let profit = search.best(place)?;
     let mut plan = Vec::new();
@@ -135,16 +117,4 @@ pub fn best(run: &Run, prices: &[i64]) -> Option<(i64, Vec<u64>)> {
         place = search.step(place, output).expect("it was allowed").0;
     }
     Some((profit, plan))
-}
-
-/// The best plan of a case with its profit and outcomes; none where no schedule keeps it.
-pub fn reported(unit: &Unit, prices: &[i64]) -> Option<(Report, Vec<u64>)> {
-    let (profit, plan) = best(&Run::from(*unit), prices)?;
-    let earned = |run| best(&run, prices).map(|(earned, _)| earned.into());
-    let report = Report {
-        count: plan.len(),
-        profit,
-        outcomes: paper::outcomes_by(unit, earned),
-    };
-    Some((report, plan))
 }

@@ -10,8 +10,6 @@ const UNIT_NAMES: [&str; 13] = [
 
 const WINDOW_NAMES: [&str; 4] = ["year", "month", "day", "window"];
 
-const MONTH_NAMES: [&str; 4] = ["mstarts", "mhours", "mmwh", "valued"];
-
 /// The names of a case and what stands under them.
 pub fn columns_of(u: &Unit) -> Vec<(&'static str, String)> {
     let limit = |figure: Option<u64>| figure.map_or("none".to_string(), |f| f.to_string());
@@ -25,13 +23,7 @@ pub fn columns_of(u: &Unit) -> Vec<(&'static str, String)> {
         let values = [w.year, w.month, w.day, w.word].map(|figure| figure.to_string());
         WINDOW_NAMES.into_iter().zip(values)
     });
-    let months = u.months.map(|m| {
-        let values = [m.starts, m.hours, m.mwh, Some(m.valued)];
-        let standing = MONTH_NAMES.into_iter().zip(values);
-        standing.filter_map(|(name, value)| Some((name, value?.to_string())))
-    });
-    let columns = columns.chain(window.into_iter().flatten());
-    columns.chain(months.into_iter().flatten()).collect()
+    columns.chain(window.into_iter().flatten()).collect()
 }
 
 /// The text of a case, its names in a random sequence.
@@ -59,7 +51,7 @@ pub fn shuffled_table(random: &mut Random, mut columns: Vec<(&str, String)>) -> 
 }
 
 /// What a damaged text gains.
-const PIECES: [&str; 22] = [
+const PIECES: [&str; 19] = [
     "none",
     "-",
     "0",
@@ -73,9 +65,6 @@ const PIECES: [&str; 22] = [
     "year",
     "day",
     "window",
-    "mstarts",
-    "mhours",
-    "valued",
     "9999999999",
     "10000000000",
     "-1",

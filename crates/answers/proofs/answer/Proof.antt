@@ -1,19 +1,15 @@
 -- What reading found: the line of its cause, or the report of the case, whose prices stand in front.
-use mathlib.Core.Path.{◌≡◌, refl, sym, ap, ap₂, ◌∙◌}
-use mathlib.Core.List.{List}
+use mathlib.Core.Path.{◌≡◌, refl, sym, ap, ◌∙◌}
 use Prim.Native.Nat.{◌≤◌}
 use native.Mathlib.Omega.{arith}
-use lib.IntN.{ℤ}
 use lib.ListN.{length, take}
 use lib.Seq.{length-take-le}
 use Rattle.commitment.specs.declared.Checked.{Checked}
-use Rattle.commitment.specs.declared.UnitRecord.{UnitRecord}
 use Rattle.casefile.specs.Answers.{read_case}
 use Rattle.casefile.specs.Reading.{unit_in, prices_in}
 use Rattle.listing.specs.Listing.{buffer_after}
 use Rattle.answers.specs.Answering.{answered_for, printed_for, answered, printed}
-use Rattle.planner.specs.Planning.{plan_checked}
-use Rattle.answers.specs.Sizes.{cell_room, price_room}
+use Rattle.answers.specs.Sizes.{price_room}
 use borrow.Author.Rules.{rules}
 use Rattle.answers.proofs.Found.{Read, refused-is, read-is-planned}
 use Rattle.answers.proofs.answer.Statement.{statement}
@@ -58,13 +54,10 @@ returns-2 c =
     let text = s.args.text.now in
     let h = held told in
     let front : take told.unit.given.0.1.0 r.read-into.new.1.0 ≡ prices_in text =
-    ap (take told.unit.given.0.1.0) r.read-into.ensures.1 ∙ h.front _ refl in (
-      w.report.ensures.0
-          ∙ ap₂ (λ (u : UnitRecord) (prices : List ℤ). answered_for (plan_checked u prices cell_room price_room) u prices (length s.args.out.now)) h.unit-is front
-          ∙ ap (λ (k : Checked). answered_for k (unit_in text) (prices_in text) (length s.args.out.now)) h.plan-is,
-      w.report.ensures.1
-          ∙ ap₂ (λ (u : UnitRecord) (prices : List ℤ). buffer_after (printed_for (plan_checked u prices cell_room price_room) u prices) s.args.out.now) h.unit-is front
-          ∙ ap (λ (k : Checked). buffer_after (printed_for k (unit_in text) (prices_in text)) s.args.out.now) h.plan-is,
+    ap (take told.unit.given.0.1.0) r.read-into.ensures.1 ∙ h.front _ refl in
+    let made = rw (front, h.unit-is) at w.report.ensures in (
+      made.0 ∙ ap (λ (k : Checked). answered_for k (unit_in text) (prices_in text) (length s.args.out.now)) h.plan-is,
+      made.1 ∙ ap (λ (k : Checked). buffer_after (printed_for k (unit_in text) (prices_in text)) s.args.out.now) h.plan-is,
     )
 
 pub answer-spec : {M : Type 1} → statement M

@@ -1,4 +1,4 @@
--- The six groups of fields.
+-- The five groups of fields.
 use Rattle.commitment.specs.Ranges.{ranges_kept}
 use borrow.Author.Rules.{rules}
 use Rattle.checking.proofs.ranges_kept.Statement.{statement}
@@ -12,7 +12,6 @@ pub ranges-kept-spec : {M : Type 1} → statement M
 ranges-kept-spec =
     tie.close
     (tie.spec
-    (λ c κs. search rules)
     (λ c κs. search rules)
     (λ c κs. search rules)
     (λ c κs. search rules)

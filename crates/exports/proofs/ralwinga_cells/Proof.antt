@@ -3,7 +3,7 @@ use mathlib.Core.Path.{◌≡◌, sym, ap, ◌∙◌}
 use mathlib.Core.Bool.{true}
 use borrow.Author.Rules.{rules}
 use Rattle.commitment.specs.declared.Checked.{Checked}
-use Rattle.commitment.specs.Cells.{cells_needed, cells_long, cells_given}
+use Rattle.commitment.specs.Cells.{cells_needed, cells_long}
 use Rattle.commitment.specs.Ranges.{case_checked, InOrder}
 use Rattle.commitment.proofs.Passing.{passing}
 use Rattle.exports.specs.Answers.{cells_numbers}
@@ -19,14 +19,13 @@ checked-is c = rw c.before.record_of.ensures at c.check-case.ensures
 
 found : (c : tie.After-check-case) {k : Checked} → c.check-case.result ≡ k →
     let a = c.before.before.args in
-    let needed = cells_given (cells_needed (record_of a.unit) a.intervals) in
-    let long = cells_given (cells_long (record_of a.unit) a.intervals) in
+    let needed = cells_needed (record_of a.unit) a.intervals in
+    let long = cells_long (record_of a.unit) a.intervals in
     cells_numbers k needed long ≡ cells_numbers (case_checked (record_of a.unit) true a.intervals) needed long
 found c e =
     let a = c.before.before.args in
-    let needed = cells_given (cells_needed (record_of a.unit) a.intervals) in
-    let long = cells_given (cells_long (record_of a.unit) a.intervals) in
-    ap (λ (x : Checked). cells_numbers x needed long) (sym e ∙ checked-is c)
+    ap (λ (x : Checked). cells_numbers x (cells_needed (record_of a.unit) a.intervals) (cells_long (record_of a.unit) a.intervals))
+    (sym e ∙ checked-is c)
 
 -- a case that passed is in order
 order : (c : tie.After-enum-told) → let check = c.before.before in InOrder check.before.record_of.result check.before.before.args.intervals

@@ -1,15 +1,14 @@
 -- By the limitation.
 use mathlib.Core.Path.{◌≡◌, sym, ap, ◌∙◌}
 use Prim.Native.Nat.{ℕ}
-use lib.ListN.{length}
 use borrow.Author.Tests.{leb-true}
 use Rattle.commitment.specs.declared.Limit.{Limit}
 use Rattle.commitment.specs.declared.Outcome.{Outcome}
-use Rattle.commitment.specs.declared.Limit.TheVariants.{None, At}
-use Rattle.commitment.specs.Keeping.{months_for}
+use Rattle.commitment.specs.declared.Limit.TheVariants.{At}
+use Rattle.commitment.specs.Best.{best, profit_of}
 use Rattle.commitment.specs.Bounds.{most_mwh}
 use Rattle.commitment.specs.Limits.{limit_kept, limit_for}
-use Rattle.commitment.specs.Valuing.{runs_at, runs_under, valued_month, gap_over}
+use Rattle.commitment.specs.Valuing.{run_at, gap_at, gap_under}
 use Rattle.commitment.proofs.Ranges.{limit-small}
 use Rattle.optimality.proofs.Runs.{lowered-less}
 use borrow.Author.Rules.{rules}
@@ -21,10 +20,7 @@ limit_is c = sym c.before.before.limit-for.ensures ∙ c.limit.given.1
 
 -- the outcome by the limitation's figure
 abbrev outcome : tie.Start → Limit → Outcome
-outcome c l =
-    let a = c.args in
-    gap_over a.prices.now
-    (runs_under a.unit (months_for a.unit (length a.prices.now)) a.which (valued_month a.unit.months) l None)
+outcome c l = gap_under (λ (k : ℕ). profit_of (best (run_at c.args.unit c.args.which k) c.args.prices.now)) l
 
 lowered-requires : tie.Need-lowered-requires
 lowered-requires c κs =
@@ -49,8 +45,7 @@ returns-2 c =
     let limit = c.before.before.before in
     let s = limit.before.before.before.before in
     c.run-pair.ensures
-    ∙ ap (λ (k : ℕ). gap_over s.args.prices.now (runs_at s.args.unit (months_for s.args.unit (length s.args.prices.now)) s.args.which k))
-    c.before.lowered.ensures
+    ∙ ap (gap_at (λ (k : ℕ). profit_of (best (run_at s.args.unit s.args.which k) s.args.prices.now))) c.before.lowered.ensures
     ∙ ap (outcome s) (sym (limit_is limit))
 
 pub outcome-in-spec : {M : Type 1} → statement M

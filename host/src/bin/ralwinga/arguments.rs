@@ -47,8 +47,6 @@ pub enum Command {
     Curve(CurveWords),
     /// Tell the plan of a case as runs, limitations used and adders for the bid
     Explain(ExplainWords),
-    /// Print what one more start, hour and MWh is worth, a row to each month as the valued one
-    Months(MonthsWords),
     /// Print the completion of the command for a shell
     Completion(CompletionWords),
 }
@@ -81,27 +79,6 @@ pub struct ExplainWords {
     pub case: PathBuf,
     #[command(flatten)]
     pub options: CaseOptions,
-}
-
-#[derive(Args)]
-pub struct MonthsWords {
-    /// A file with a case that has month figures, or - for standard input
-    #[arg(value_name = "CASE", value_hint = ValueHint::FilePath)]
-    pub case: PathBuf,
-    /// At most N months side by side; fewer where the memory for all at once is not there [default: the cores]
-    #[arg(long, value_name = "N", value_parser = positive)]
-    pub jobs: Option<usize>,
-    /// At most N cells of 8 bytes for a month [default: what free memory holds]
-    #[arg(long, value_name = "N")]
-    pub cells: Option<usize>,
-    /// Print the table in quarter-cents, for programs: valued,month,starts,hours,mwh
-    #[arg(long)]
-    pub raw: bool,
-    /// Print the table without its heading
-    #[arg(long)]
-    pub no_header: bool,
-    #[command(flatten)]
-    pub common: Common,
 }
 
 /// What concerns every file that is read.
@@ -176,7 +153,6 @@ impl Command {
         let common = match self {
             Command::Plan(words) => &words.options.common,
             Command::Explain(words) => &words.options.common,
-            Command::Months(words) => &words.common,
             Command::Assess(words) => &words.common,
             Command::Costs(words) => &words.common,
             Command::Curve(words) => &words.common,
@@ -230,8 +206,7 @@ pub fn in_one_line(error: &clap::Error) -> String {
 #[cfg(test)]
 mod tests {
     use super::*;
-    use ralwinga::reader::{horizon, read_case};
-    use ralwinga::reader::{MONTH_NAMES, UNIT_NAMES, VALUED_NAME, WINDOW_NAMES};
+    use ralwinga::reader::{horizon, read_case, UNIT_NAMES, WINDOW_NAMES};
     use ralwinga::Refusal;
 
     const PAGE: &str = include_str!("../../../ralwinga.1");
@@ -269,13 +244,13 @@ mod tests {
         let (table, _) = table.split_once("\n.TE\n").expect("an end");
         let rows: Vec<Vec<&str>> = table.lines().map(|row| row.split('|').collect()).collect();
         let names: Vec<&str> = rows.iter().map(|row| row[0]).collect();
-        let unit = [&UNIT_NAMES[..], &WINDOW_NAMES, &MONTH_NAMES, &[VALUED_NAME]].concat();
+        let unit = [&UNIT_NAMES[..], &WINDOW_NAMES].concat();
         assert_eq!(names, [&unit[..], &["price"]].concat());
         for (place, row) in rows.iter().enumerate() {
-            let mut values = ["1"; 22];
+            let mut values = ["1"; 18];
             values[13] = "2024";
             values[place] = "9999999999";
-            let (unit_values, price) = (values[..21].join(","), values[21]);
+            let (unit_values, price) = (values[..17].join(","), values[17]);
             let text = format!("{}\n{unit_values}\n\nprice\n{price}\n", unit.join(","));
             let said = read_case(text.as_bytes()).expect_err(row[0]).to_string();
             let told = format!("{} '9999999999' is outside its range, {} (", row[0], row[2]);

@@ -8,7 +8,6 @@ mod identity;
 mod input;
 mod many;
 mod memory;
-mod months;
 mod one;
 mod output;
 mod pictures;
@@ -18,7 +17,6 @@ mod standard;
 mod stop;
 mod table;
 mod ways;
-mod work;
 
 use arguments::{in_one_line, misspelt, Arguments, Command, CompletionWords, PlanWords};
 use clap::{CommandFactory, Parser};
@@ -27,7 +25,6 @@ use std::process::ExitCode;
 use stop::{be_quiet, print, say, Stop};
 
 fn main() -> ExitCode {
-    memory::reserve_stack();
     let answer = match Arguments::try_parse() {
         Ok(words) => run(words),
         Err(error) if error.use_stderr() => Err(Stop::words(in_one_line(&error))),
@@ -62,7 +59,6 @@ fn run(words: Arguments) -> Result<bool, Stop> {
         Command::Costs(words) => calls::costs(&words)?,
         Command::Curve(words) => calls::curve(&words)?,
         Command::Explain(words) => one::explain(&words.case, &words.options)?,
-        Command::Months(words) => months::value(&words)?,
         Command::Completion(words) => complete(&words)?,
     }
     Ok(true)

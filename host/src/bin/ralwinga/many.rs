@@ -11,7 +11,7 @@ use crate::stop::{is_standard_input, note, print, say, shown, Stop};
 use crate::table::Form;
 use crate::ways::Way;
 use rayon::prelude::*;
-use rayon::{ThreadPool, ThreadPoolBuilder};
+use rayon::ThreadPoolBuilder;
 use std::cell::RefCell;
 use std::collections::HashMap;
 use std::fs;
@@ -19,7 +19,7 @@ use std::path::{Path, PathBuf};
 
 thread_local! {
     /// Each thread's own. Together they are at most as large as the largest cases that may go side by side.
-    pub static SCRATCH: RefCell<Scratch> = RefCell::default();
+    static SCRATCH: RefCell<Scratch> = RefCell::default();
 }
 
 /// What came of a case: its answer, and whether that could be written to the folder.
@@ -49,11 +49,10 @@ pub fn plan(words: &PlanWords) -> Result<bool, Stop> {
     if let Some(folder) = &words.out {
         fs::create_dir_all(folder).map_err(|error| Stop::unwritten(folder, error))?;
     }
-    let options = &words.options;
     let prepared: Vec<Result<Prepared, Stop>> = words
         .cases
         .iter()
-        .map(|file| Prepared::from_file(file, options.common.crlf, options.cells))
+        .map(|file| Prepared::from_file(file, &words.options))
         .collect();
     let entries = planned(prepared, &listings, words.jobs)?;
     let stops: Vec<&Stop> = entries.iter().flat_map(Entry::stops).collect();
@@ -133,26 +132,20 @@ fn planned(
         let written = listing.map_or(Ok(()), |file| write(file, &printed(&answer)));
         Entry { answer, written }
     };
-    let pool = threads_of(jobs)?;
+    let pool = ThreadPoolBuilder::new().num_threads(jobs).build();
+    let pool =
+        pool.map_err(|error| Stop::System(format!("cannot start {jobs} threads: {error}")))?;
     let cases = prepared.into_par_iter().zip(listings).with_max_len(1);
     Ok(pool.install(|| cases.map(entry).collect()))
-}
-
-/// So many threads.
-pub fn threads_of(jobs: usize) -> Result<ThreadPool, Stop> {
-    let pool = ThreadPoolBuilder::new().num_threads(jobs).build();
-    pool.map_err(|error| Stop::System(format!("cannot start {jobs} threads: {error}")))
 }
 
 /// From so many cases to a thread on the memory of the long tables is paid for: it is handed out once, and then they are the faster way.
 const MANY: usize = 16;
 
-/// The long tables, where each thread plans many cases in the same cells and has its own at the same time as the others. Those of cases with month
-/// figures would be cleared and not be filled.
+/// The long tables, where each thread plans many cases in the same cells and has its own at the same time as the others.
 fn take_tables(prepared: &mut [Result<Prepared, Stop>], threads: usize, free: usize) {
     let ready = prepared.iter_mut().flatten();
-    let filled = |case: &&mut Prepared| case.table_fits() && case.case.unit.months.is_none();
-    let mut cases: Vec<&mut Prepared> = ready.filter(filled).collect();
+    let mut cases: Vec<&mut Prepared> = ready.filter(|case| case.table_fits()).collect();
     let tables: Vec<usize> = cases.iter().map(|case| case.cells.table).collect();
     if cases.len() >= MANY * threads && at_once(&tables, threads) <= free {
         for case in &mut cases {
@@ -192,7 +185,7 @@ fn layered_since(cases: usize, of_one: &str, of_more: &str) -> Option<String> {
     }
 }
 
-pub fn cores() -> usize {
+fn cores() -> usize {
     std::thread::available_parallelism().map_or(1, usize::from)
 }
 

@@ -7,19 +7,6 @@ use std::time::{Duration, Instant};
 
 const CELL_BYTES: usize = 8;
 
-/// What the library gives for a size above 10^18, which no scratch meets.
-const UNCOUNTED: usize = usize::MAX;
-
-/// More than the planner's calls take of the stack.
-const STACK: usize = 384 << 10;
-
-/// Has the system hand out the stack that planning takes before memory for cells is asked for: a stack that cannot grow any more ends the process by a signal.
-#[inline(never)]
-pub fn reserve_stack() {
-    let mut room = [0u8; STACK];
-    std::hint::black_box(&mut room);
-}
-
 /// At most so many cells, and by whose word.
 #[derive(Clone, Copy)]
 pub struct Cap {
@@ -120,19 +107,8 @@ pub fn at_once(needs: &[usize], jobs: usize) -> usize {
     largest.iter().take(jobs).fold(0, add)
 }
 
-/// A number of cells; the library counts them no further than 10^18.
-fn counted(cells: usize) -> String {
-    match cells {
-        UNCOUNTED => "more than 10^18".to_string(),
-        cells => cells.to_string(),
-    }
-}
-
 /// Cells, and their size.
 pub fn scratch_of(cells: usize) -> String {
-    if cells == UNCOUNTED {
-        return format!("{} cells of scratch", counted(cells));
-    }
     let kib = cells as f64 * CELL_BYTES as f64 / 1024.0;
     match kib {
         small if small < 1024.0 => format!("{cells} cells, {small:.1} KiB of scratch"),
@@ -142,8 +118,8 @@ pub fn scratch_of(cells: usize) -> String {
 
 /// Two layers of a case that may have so many cells, and why not the long table.
 pub fn two_layers_of(cells: Cells, most: usize) -> String {
-    let (scratch, table) = (scratch_of(cells.needed), counted(cells.table));
-    if cells.table <= most {
+    let (scratch, table) = (scratch_of(cells.needed), cells.table);
+    if table <= most {
         format!("{scratch}: two layers, which are faster than the long table of {table} cells")
     } else {
         format!("{scratch}: two layers, since the long table of {table} cells does not fit")
@@ -153,10 +129,7 @@ pub fn two_layers_of(cells: Cells, most: usize) -> String {
 /// The need, what there is, and what would make the case fit.
 pub fn too_large(unit: Unit, intervals: usize, needed: usize, cap: Cap) -> String {
     let fits = |unit, n| cells(unit, n).is_ok_and(|cells| cells.needed <= cap.cells);
-    let mut ways = Vec::new();
-    if needed != UNCOUNTED {
-        ways.push(format!("{needed} cells"));
-    }
+    let mut ways = vec![format!("{needed} cells")];
     if let Some(n) = (1..intervals).rev().find(|n| fits(unit, *n)) {
         ways.push(format!("the first {n} of the {intervals} prices"));
     }
@@ -164,50 +137,33 @@ pub fn too_large(unit: Unit, intervals: usize, needed: usize, cap: Cap) -> Strin
         freed(unit)
             .into_iter()
             .filter(|(_, unit)| fits(*unit, intervals))
-            .map(|(change, _)| change.to_string()),
+            .map(|(name, _)| format!("{name} none")),
     );
-    let fits = match ways.as_slice() {
-        [] => String::new(),
-        ways => format!("; it fits with {}", ways.join(", or ")),
-    };
     format!(
-        "the case needs {}; {} {}{fits}",
+        "the case needs {}; {} {}; it fits with {}",
         scratch_of(needed),
         cap.from,
-        cap.cells
+        cap.cells,
+        ways.join(", or ")
     )
 }
 
-/// The unit without each of its limitations, whose month figure goes with it, and without each of its month figures.
+/// The unit without each of its limitations.
 fn freed(unit: Unit) -> Vec<(&'static str, Unit)> {
-    let free_starts = unit.with_months(|months| months.starts = None);
-    let free_hours = unit.with_months(|months| months.hours = None);
-    let free_mwh = unit.with_months(|months| months.mwh = None);
-    let (starts, hours, mwh) = (None, None, None);
-    let changes = [
-        (
-            "starts none",
-            Unit {
-                starts,
-                ..free_starts
-            },
-        ),
-        (
-            "hours none",
-            Unit {
-                hours,
-                ..free_hours
-            },
-        ),
-        ("mwh none", Unit { mwh, ..free_mwh }),
-        ("no mstarts", free_starts),
-        ("no mhours", free_hours),
-        ("no mmwh", free_mwh),
-    ];
-    changes
-        .into_iter()
-        .filter(|(_, freed)| *freed != unit)
-        .collect()
+    let mut freed = Vec::new();
+    if unit.starts.is_some() {
+        let starts = None;
+        freed.push(("starts", Unit { starts, ..unit }));
+    }
+    if unit.hours.is_some() {
+        let hours = None;
+        freed.push(("hours", Unit { hours, ..unit }));
+    }
+    if unit.mwh.is_some() {
+        let mwh = None;
+        freed.push(("mwh", Unit { mwh, ..unit }));
+    }
+    freed
 }
 
 #[cfg(test)]

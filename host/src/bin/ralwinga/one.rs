@@ -4,7 +4,7 @@ use crate::arguments::CaseOptions;
 use crate::identity;
 use crate::memory::Scratch;
 use crate::planning::{Planned, Prepared};
-use crate::progress::{seconds_of, Progress};
+use crate::progress::Progress;
 use crate::stop::{all_of, note, print, say, Stop};
 use ralwinga::explanation::Explanation;
 use std::path::Path;
@@ -42,11 +42,8 @@ fn answer(
 }
 
 fn prepare_and_plan(case: &Path, options: &CaseOptions) -> Result<(Prepared, Planned), Stop> {
-    let prepared = Prepared::from_file(case, options.common.crlf, options.cells)?;
+    let prepared = Prepared::from_file(case, options)?;
     note(prepared.said_of_scratch());
-    if let Some(seconds) = seconds_of(&prepared, 1, 1) {
-        note(format!("about {seconds:.0} s to plan"));
-    }
     let progress = Progress::over(&[&prepared], 1);
     let planned = prepared.plan(&mut Scratch::default(), &progress)?;
     Ok((prepared, planned))

@@ -1,15 +1,14 @@
 //! One case from its file to its plan.
 
+use crate::arguments::CaseOptions;
 use crate::input::read;
 use crate::memory::{scratch_of, too_large, two_layers_of, Cap, Scratch};
 use crate::progress::Progress;
 use crate::stop::{note, shown, Stop};
 use crate::ways::Way;
-use crate::work::work;
 use ralwinga::explanation::{usages, Usage};
 use ralwinga::reader::case_from;
-use ralwinga::{cells, listing, refusal_line, report_into, value};
-use ralwinga::{Case, Cells, Outcomes, Refusal, Report, Unit};
+use ralwinga::{cells, listing, refusal_line, report_into, Case, Cells, Report, Unit};
 use std::path::{Path, PathBuf};
 
 /// A case that is in order and may have the cells that it needs, and the way to plan it in what it may have.
@@ -31,10 +30,9 @@ pub struct Planned {
 }
 
 impl Prepared {
-    /// From a file whose lines may end with CR LF, in at most so many cells.
-    pub fn from_file(file: &Path, crlf: bool, most: Option<usize>) -> Result<Prepared, Stop> {
-        let case = read(file, crlf, case_from)?;
-        let cap = Cap::new(most);
+    pub fn from_file(file: &Path, options: &CaseOptions) -> Result<Prepared, Stop> {
+        let case = read(file, options.common.crlf, case_from)?;
+        let cap = Cap::new(options.cells);
         let cells =
             cells(case.unit, case.prices.len()).map_err(|refusal| Stop::refused(file, refusal))?;
         let way =
@@ -56,7 +54,7 @@ impl Prepared {
 
     /// The cells that a way works out for it.
     pub fn work(&self, way: Way) -> f64 {
-        work(&self.case.unit, way, self.cells, self.case.prices.len())
+        way.work(self.cells, self.case.prices.len())
     }
 
     /// Whether its long table fits in what it may have, taken or not.
@@ -73,43 +71,21 @@ impl Prepared {
     }
 
     pub fn plan(&self, scratch: &mut Scratch, progress: &Progress) -> Result<Planned, Stop> {
+        let way = self.way_in(scratch, progress)?;
+        let scratch = scratch.first(self.scratch(way));
         let Case { unit, prices } = &self.case;
         let mut schedule = vec![0; prices.len()];
-        let report = self.lent(scratch, progress, |scratch| {
-            report_into(*unit, prices, scratch, &mut schedule)
-        })?;
+        let report = progress
+            .planning(self.work(way), || {
+                report_into(*unit, prices, scratch, &mut schedule)
+            })
+            .map_err(|refusal| Stop::refused(&self.file, refusal))?;
         Ok(Planned {
             unit: *unit,
             usages: usages(&self.case, &schedule),
             schedule,
             report,
         })
-    }
-
-    /// The outcomes with another month as the valued one.
-    pub fn value_month(
-        &self,
-        month: u64,
-        scratch: &mut Scratch,
-        progress: &Progress,
-    ) -> Result<Outcomes, Stop> {
-        let Case { unit, prices } = &self.case;
-        let unit = unit.with_months(|months| months.valued = month);
-        self.lent(scratch, progress, |scratch| value(unit, prices, scratch))
-    }
-
-    /// What a call answers that is lent the cells of the way chosen.
-    fn lent<T>(
-        &self,
-        scratch: &mut Scratch,
-        progress: &Progress,
-        call: impl FnOnce(&mut [i64]) -> Result<T, Refusal>,
-    ) -> Result<T, Stop> {
-        let way = self.way_in(scratch, progress)?;
-        let scratch = scratch.first(self.scratch(way));
-        progress
-            .planning(self.work(way), || call(scratch))
-            .map_err(|refusal| Stop::refused(&self.file, refusal))
     }
 
     /// The way chosen; another where the system does not give its memory, though that was free.

@@ -8,9 +8,8 @@ use crate::memory::Scratch;
 use crate::planning::Prepared;
 use crate::stop::is_quiet;
 use crate::ways::Way;
-use crate::work::work;
 use indicatif::{ProgressBar, ProgressStyle};
-use ralwinga::{cells, report_into, Case, Unit};
+use ralwinga::{cells, report_into, Case};
 use std::io::{self, IsTerminal};
 use std::sync::mpsc::{channel, RecvTimeoutError, Sender};
 use std::sync::{Arc, Mutex, MutexGuard};
@@ -91,19 +90,17 @@ struct Shown {
 impl Progress {
     /// Over cases that are planned so many at a time.
     pub fn over(cases: &[&Prepared], jobs: usize) -> Progress {
-        let work_of = |case: &Prepared| case.work(case.way);
-        let most = cases
-            .iter()
-            .max_by(|a, b| work_of(a).total_cmp(&work_of(b)));
+        let work = |case: &Prepared| case.work(case.way);
+        let longest = cases.iter().max_by(|a, b| work(a).total_cmp(&work(b)));
         let seen = std::io::stderr().is_terminal() && !is_quiet();
-        let shown = most.filter(|_| seen).and_then(|longest| {
+        let shown = longest.filter(|_| seen).and_then(|longest| {
             Shown::new(Work {
                 cases: cases.len(),
                 jobs: jobs as f64,
                 cells_per_second: measured_rate(longest)?,
                 tally: Mutex::new(Tally {
                     to_hand_out: cases.iter().map(|c| c.scratch(c.way) as f64).sum(),
-                    to_plan: cases.iter().map(|case| work_of(case)).sum(),
+                    to_plan: cases.iter().map(|case| work(case)).sum(),
                     ..Tally::default()
                 }),
             })
@@ -181,10 +178,11 @@ impl Drop for Shown {
 fn measured_rate(prepared: &Prepared) -> Option<f64> {
     let Prepared { case, way, .. } = prepared;
     let Case { unit, prices } = case;
-    let unit = first_month_valued(*unit);
-    let sizes = |n| cells(unit, n).unwrap_or(prepared.cells);
-    let of_front = |n: usize| work(&unit, *way, sizes(n), n);
-    let front = longest(prices.len(), |n| of_front(n) <= SAMPLE_CELLS);
+    let sizes = |n| cells(*unit, n).unwrap_or(prepared.cells);
+    let front = (1..=prices.len())
+        .rev()
+        .find(|n| way.work(sizes(*n), *n) <= SAMPLE_CELLS)
+        .unwrap_or(1);
     let size = way.scratch(sizes(front));
     let mut scratch = Scratch::default();
     // the memory is there before; the time is what is asked for, and the front may have no schedule
@@ -193,51 +191,6 @@ fn measured_rate(prepared: &Prepared) -> Option<f64> {
     }
     let mut schedule = vec![0; front];
     let began = Instant::now();
-    let _ = report_into(unit, &prices[..front], scratch.first(size), &mut schedule);
-    Some(of_front(front) / began.elapsed().as_secs_f64().max(1e-9))
-}
-
-/// The front of a case may end before the month that is valued.
-fn first_month_valued(unit: Unit) -> Unit {
-    unit.with_months(|months| months.valued = 1)
-}
-
-/// The largest number up to `most` that holds, 1 where none does; where one holds, so do those below it.
-fn longest(most: usize, holds: impl Fn(usize) -> bool) -> usize {
-    let (mut low, mut high) = (1, most.max(1));
-    while low < high {
-        let middle = low + (high - low).div_ceil(2);
-        match holds(middle) {
-            true => low = middle,
-            false => high = middle - 1,
-        }
-    }
-    low
-}
-
-/// The work from which on a plan takes some seconds.
-const LONG: f64 = 1e9;
-
-/// The seconds that so many cases take, about, so many at a time and each like this one; none where that is soon done.
-pub fn seconds_of(prepared: &Prepared, cases: usize, jobs: usize) -> Option<f64> {
-    let all = prepared.work(prepared.way) * cases.div_ceil(jobs.max(1)) as f64;
-    if all < LONG {
-        return None;
-    }
-    measured_rate(prepared).map(|rate| all / rate)
-}
-
-#[cfg(test)]
-mod tests {
-    use super::longest;
-
-    #[test]
-    fn the_longest_front() {
-        for most in [1, 2, 3, 10, 35_136] {
-            for limit in [0, 1, 2, 9, 10, 11, 35_135, 35_136] {
-                let found = longest(most, |n| n <= limit);
-                assert_eq!(found, most.min(limit).max(1), "{most} {limit}");
-            }
-        }
-    }
+    let _ = report_into(*unit, &prices[..front], scratch.first(size), &mut schedule);
+    Some(way.work(sizes(front), front) / began.elapsed().as_secs_f64().max(1e-9))
 }

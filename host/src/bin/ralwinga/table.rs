@@ -63,8 +63,7 @@ fn figures_in_dollars(planned: &Planned) -> String {
     format!("0,{profit},{},{}", adders.join(","), usages.join(","))
 }
 
-/// In dollars, or the word of an outcome that has no amount.
-pub fn adder(outcome: Outcome) -> String {
+fn adder(outcome: Outcome) -> String {
     match outcome {
         Outcome::Gap(gap) => plain_dollars(gap),
         word => word.to_string(),

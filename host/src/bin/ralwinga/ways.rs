@@ -1,6 +1,5 @@
 //! The two ways to plan a case. The long table keeps a layer for every interval and is worked out once, but the system has to hand out its memory,
-//! which takes several times as long as working it out. Two layers are little memory; they are worked out about twice, by halves. With month figures
-//! both make a layer to each month, and what the long table has more is room to keep all of them.
+//! which takes several times as long as working it out. Two layers are little memory; they are worked out about twice, by halves.
 
 use ralwinga::Cells;
 

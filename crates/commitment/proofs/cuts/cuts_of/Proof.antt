@@ -48,7 +48,7 @@ returns c =
     let o = months.before in
     cuts_are o.args.date o.requires.0 o.args.intervals o.requires.1 l.at
     (λ k h. l.invariant.2 k (omega (arith, months.month-of.ensures)))
-    months.month-of.result months.month-of.ensures o.requires.2 l.invariant.1
+    months.month-of.result months.month-of.ensures o.requires.2
 
 pub cuts-of-spec : {M : Type 1} → statement M
 cuts-of-spec =

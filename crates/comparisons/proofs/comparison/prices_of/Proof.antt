@@ -2,14 +2,15 @@
 use borrow.Author.Rules.{rules}
 use native.Mathlib.Omega.{arith}
 use Prim.Native.Nat.{◌≤◌, ◌-◌}
+use Rattle.enumeration.specs.Lists.{room}
 use Rattle.comparisons.proofs.comparison.prices_of.Statement.{statement}
 use Rattle.comparisons.proofs.comparison.prices_of.Tie as tie
 
 abbrev invariant-loop : tie.invariant-loop
-invariant-loop case n pause prices₀ i₀ prices i = (i ≤ n) × (n ≤ 3072)
+invariant-loop up down prices₀ i₀ prices i = i ≤ room
 
 abbrev decreases-loop : tie.decreases-loop
-decreases-loop case n pause prices₀ i₀ prices i = n - i
+decreases-loop up down prices₀ i₀ prices i = room - i
 
 pub prices-of-spec : {M : Type 1} → statement M
 prices-of-spec =
@@ -18,6 +19,8 @@ prices-of-spec =
     invariant-loop
     decreases-loop
     (λ c κs. search rules)
+    (λ c. omega arith)
+    (λ c. omega arith)
     (λ c. omega arith)
     (λ c κs. search rules)
     (λ c κs. search rules)

@@ -2,14 +2,15 @@
 use borrow.Author.Rules.{rules}
 use native.Mathlib.Omega.{arith}
 use Prim.Native.Nat.{◌≤◌, ◌-◌}
+use Rattle.enumeration.specs.Lists.{room}
 use Rattle.comparisons.proofs.comparison.same_entries.Statement.{statement}
 use Rattle.comparisons.proofs.comparison.same_entries.Tie as tie
 
 abbrev invariant-loop : tie.invariant-loop
-invariant-loop n schedule pause wanted i₀ i = i ≤ 3081
+invariant-loop schedule wanted i₀ i = i ≤ room
 
 abbrev decreases-loop : tie.decreases-loop
-decreases-loop n schedule pause wanted i₀ i = 3081 - i
+decreases-loop schedule wanted i₀ i = room - i
 
 pub same-entries-spec : {M : Type 1} → statement M
 same-entries-spec =
@@ -20,7 +21,8 @@ same-entries-spec =
     (λ c. omega arith)
     (λ c. omega arith)
     (λ c. omega arith)
-    (λ c κs. search rules)
+    (λ c. omega arith)
+    (λ c. omega arith)
     (λ c. search rules)
     (λ c. omega arith)
     (λ c. omega arith)

@@ -1,17 +1,15 @@
 -- The lists are handed in one after another.
-use mathlib.Core.Path.{◌≡◌}
 use Prim.Native.Nat.{◌≤◌, ◌-◌}
 use native.Mathlib.Omega.{arith}
 use borrow.Author.Rules.{rules}
-use lib.ListN.{length}
 use Rattle.comparisons.proofs.comparison.same_profits.Statement.{statement}
 use Rattle.comparisons.proofs.comparison.same_profits.Tie as tie
 
 abbrev invariant-loop : tie.invariant-loop
-invariant-loop case unit prices schedule₀ lists number₀ schedule number = (length schedule ≡ length schedule₀) × (number ≤ lists)
+invariant-loop case unit prices lists number₀ number = number ≤ lists
 
 abbrev decreases-loop : tie.decreases-loop
-decreases-loop case unit prices schedule₀ lists number₀ schedule number = lists - number
+decreases-loop case unit prices lists number₀ number = lists - number
 
 pub same-profits-spec : {M : Type 1} → statement M
 same-profits-spec =
@@ -23,9 +21,7 @@ same-profits-spec =
     (λ c. omega arith)
     (λ c κs. search rules)
     (λ c. search rules)
-    (λ c. search rules)
     (λ c. omega arith)
     (λ c. omega arith)
     (λ c. omega arith)
-    (λ c. search rules)
     (λ c. search rules))

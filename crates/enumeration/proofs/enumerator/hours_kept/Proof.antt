@@ -4,13 +4,13 @@ use Rattle.enumeration.proofs.enumerator.hours_kept.Statement.{statement}
 use Rattle.enumeration.proofs.enumerator.hours_kept.Tie as tie
 
 abbrev invariant-loop : tie.invariant-loop
-invariant-loop case list n allowed i₀ i = i ≤ n
+invariant-loop list n allowed i₀ i = i ≤ n
 
 abbrev decreases-loop : tie.decreases-loop
-decreases-loop case list n allowed i₀ i = n - i
+decreases-loop list n allowed i₀ i = n - i
 
 pub hours-kept-spec : {M : Type 1} → statement M
 hours-kept-spec =
     tie.close
     (tie.spec invariant-loop decreases-loop (λ c κs. search rules) (λ c. search rules) (λ c. omega arith) (λ c. omega arith) (λ c. omega arith)
-    (λ c κs. omega arith) (λ c κs. omega arith) (λ c. search rules) (λ c. omega arith) (λ c. omega arith) (λ c. omega arith) (λ c. search rules))
+    (λ c κs. omega arith) (λ c. search rules) (λ c. omega arith) (λ c. omega arith) (λ c. omega arith) (λ c. search rules))

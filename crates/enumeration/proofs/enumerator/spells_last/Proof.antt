@@ -1,16 +1,16 @@
--- A spell grows by at most the intervals of an entry.
-use Rattle.std.proofs.Common.{◌+◌, ◌-◌, ◌*◌, ◌≤◌, arith, rules}
+-- A spell grows by at most one in an interval.
+use Rattle.std.proofs.Common.{◌+◌, ◌-◌, ◌≤◌, arith, rules}
 use Rattle.enumeration.proofs.enumerator.spells_last.Statement.{statement}
 use Rattle.enumeration.proofs.enumerator.spells_last.Tie as tie
 
 abbrev invariant-loop : tie.invariant-loop
-invariant-loop on before least list n pause spell₀ i₀ spell i = (spell ≤ before + 65536 * i) × (i ≤ n)
+invariant-loop n on before least list spell₀ i₀ spell i = (spell ≤ before + i) × (i ≤ n)
 
 abbrev decreases-loop : tie.decreases-loop
-decreases-loop on before least list n pause spell₀ i₀ spell i = n - i
+decreases-loop n on before least list spell₀ i₀ spell i = n - i
 
 pub spells-last-spec : {M : Type 1} → statement M
 spells-last-spec =
     tie.close
-    (tie.spec invariant-loop decreases-loop (λ c κs. search rules) (λ c. omega arith) (λ c. omega arith) (λ c. omega arith) (λ c. search rules) (λ c κs. search rules)
-    (λ c κs. omega arith) (λ c. omega arith) (λ c. omega arith) (λ c. omega arith) (λ c. search rules))
+    (tie.spec invariant-loop decreases-loop (λ c. omega arith) (λ c. omega arith) (λ c. omega arith) (λ c. search rules) (λ c κs. search rules) (λ c. omega arith)
+    (λ c. omega arith) (λ c. omega arith) (λ c. search rules))

@@ -1,7 +1,8 @@
 -- Each interval adds what one may.
-use Rattle.std.proofs.Common.{◌-◌, ◌≤◌, arith, rules}
-use Rattle.enumeration.specs.Expecting.{Summed}
-use Rattle.enumeration.proofs.Sums.{more, all}
+use Rattle.std.proofs.Common.{ℕ, ◌+◌, ◌-◌, ◌≤◌, arith, rules}
+use Rattle.enumeration.specs.declared.enumerator.Sums.{Sums}
+use Rattle.enumeration.specs.Expecting.{Summed, OneMore}
+use Rattle.enumeration.specs.Lists.{room}
 use Rattle.enumeration.proofs.enumerator.sums_of.Statement.{statement}
 use Rattle.enumeration.proofs.enumerator.sums_of.Tie as tie
 
@@ -10,6 +11,26 @@ invariant-loop case list n sums₀ i₀ sums i = Summed i sums × (i ≤ n)
 
 abbrev decreases-loop : tie.decreases-loop
 decreases-loop case list n sums₀ i₀ sums i = n - i
+
+more : {i : ℕ} {was sums : Sums} → Summed i was → OneMore was sums → Summed (i + 1) sums
+more s m =
+    record {
+      starts = omega (arith, s.starts, m.starts);
+      running = omega (arith, s.running, m.running);
+      output = omega (arith, s.output, m.output);
+      earned = omega (arith, s.earned, m.earned);
+      spent = omega (arith, s.spent, m.spent);
+    }
+
+all : {i : ℕ} {sums : Sums} → i ≤ room → Summed i sums → Summed room sums
+all h s =
+    record {
+      starts = omega (arith, s.starts);
+      running = omega (arith, s.running);
+      output = omega (arith, s.output);
+      earned = omega (arith, s.earned);
+      spent = omega (arith, s.spent);
+    }
 
 loop-holds : tie.Need-loop-init invariant-loop decreases-loop
 loop-holds c = (c.nothing_yet.ensures, omega arith)

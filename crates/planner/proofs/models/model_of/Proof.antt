@@ -1,18 +1,15 @@
 -- Each part of the model, of a case that passed.
-use mathlib.Core.Path.{ap, ◌∙◌}
+use mathlib.Core.Path.{ap}
 use mathlib.Core.Bool.{true}
 use Prim.Native.Nat.{ℕ}
-use lib.ListN.{length}
-use Rattle.commitment.specs.Cells.{cells_long, met}
-use Rattle.commitment.proofs.Cells.{met-given}
+use lib.Dec.{leb}
 use Rattle.commitment.proofs.Passing.{prices-small}
 use Rattle.planner.proofs.Lent.{Lent, lent, lent-sound, permitted}
-use borrow.Author.Rules.{rules}
 use Rattle.planner.proofs.models.model_of.Statement.{statement}
 use Rattle.planner.proofs.models.model_of.Tie as tie
 
 passed : (c : tie.Start) → Lent c.args.unit c.args.prices.now true c.args.lent
-passed c = lent c.args.unit c.args.prices.now true c.args.lent c.requires.0
+passed c = lent c.args.unit c.args.prices.now true c.args.lent c.requires
 
 layer-cells-requires : tie.Need-layer-cells-requires
 layer-cells-requires c κs =
@@ -24,14 +21,12 @@ hours-of-requires c κs = let s = c.before.before in permitted s.args.unit s.arg
 
 returns : tie.Need-returns
 returns c =
-    let size = c.before in
-    let hours = size.before in
+    let hours = c.before in
     let layer = hours.before in
     let f = layer.before in
     let s = f.before in
     let p = passed s in
     record {
-      alone = s.requires.1;
       order = p.case.order;
       some = p.case.some;
       priced = prices-small s.args.prices.now p.case.prices;
@@ -39,10 +34,7 @@ returns c =
       figures = f.figures-of.ensures;
       wide = layer.layer-cells.ensures;
       opened = hours.hours-of.ensures;
-      long =
-          c.met.ensures
-          ∙ ap (λ (need : ℕ). met need s.args.lent) size.cells-long.ensures
-          ∙ met-given (cells_long s.args.unit (length s.args.prices.now)) s.args.lent;
+      long = ap (λ (n : ℕ). leb n s.args.lent) c.cells-long.ensures;
     }
 
 pub model-of-spec : {M : Type 1} → statement M
@@ -53,5 +45,4 @@ model-of-spec =
     layer-cells-requires
     hours-of-requires
     (λ c κs. (passed c.before.before.before).case.order)
-    (λ c κs. search rules)
     returns)

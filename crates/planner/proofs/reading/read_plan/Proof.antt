@@ -36,7 +36,7 @@ best-is c =
     let s = c.before.before.before in
     let a = s.args in
     ap₂ (λ (f : Figures) (x : Cell). plan_at f anywhere (quarters_of a.unit a.prices.now) x) s.requires.0.0.model.figures c.opening-cell.ensures
-    ∙ opening-plan a.unit a.prices.now a.scratch.now (tells s) s.requires.0.0.model.alone
+    ∙ opening-plan a.unit a.prices.now a.scratch.now (tells s)
 
 -- ---- read off the long table
 
@@ -52,7 +52,7 @@ plans c =
     record {
       priced = quarters-priced (opens_in a.unit.permit) 0 a.prices.now;
       filled = rw (same-quarters s) at (s.requires.0.0.begun.filled c.if1.true);
-      some = rw (figures, cell.opening-cell.ensures) (opening-some a.unit a.prices.now a.scratch.now (tells s) s.requires.0.0.model.alone s.requires.1);
+      some = rw (figures, cell.opening-cell.ensures) (opening-some a.unit a.prices.now a.scratch.now (tells s) s.requires.1);
     }
 
 read-off-requires : tie.Need-read-off-requires
@@ -102,7 +102,7 @@ plan-from-requires c κs =
       ),
       (
         (two-intervals a.unit a.prices.now (length a.scratch.now) a.model m e.if1.false, s.requires.0.1),
-        rw (same-quarters s, m.figures, cell.opening-cell.ensures) (opening-some a.unit a.prices.now a.scratch.now (tells s) m.alone s.requires.1),
+        rw (same-quarters s, m.figures, cell.opening-cell.ensures) (opening-some a.unit a.prices.now a.scratch.now (tells s) s.requires.1),
       ),
     )
 

@@ -37,7 +37,7 @@ whole-profit-requires : tie.Need-whole-profit-requires
 whole-profit-requires c κs = tells c.before.before.before
 
 outcomes-in-requires : tie.Need-outcomes-in-requires
-outcomes-in-requires c κs = let s = c.before.before.before.before.before.before.before.before in (tells s, s.requires.0.model.alone)
+outcomes-in-requires c κs = tells c.before.before.before.before.before.before.before.before
 
 read-plan-requires : tie.Need-read-plan-requires
 read-plan-requires c κs =
