@@ -1,5 +1,7 @@
 // From the text of a case to the bytes that are printed for it: read, planned and valued in the call's own slices, and listed into a lent buffer.
 
+#![tactic(auto)]
+
 ghost use Rattle.std.specs.Prelude.{◌≡◌, length};
 ghost use Rattle.commitment.specs.Causes.{number_of};
 ghost use Rattle.listing.specs.Listing.{refusal, fitted, written_by, buffer_after};
@@ -23,7 +25,7 @@ pub const PRICE_ROOM: usize = 6144;
 pub const CELL_ROOM: usize = 4000;
 
 // 0 or the number of the cause, and how many bytes were written to the front of the buffer.
-#[derive(Drop)]
+#[derive(Clone, Copy)]
 pub struct Answered {
     pub number: u64,
     pub bytes: usize,

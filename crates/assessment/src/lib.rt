@@ -2,6 +2,8 @@
 // for the figures of its months (mod months). proofs/ has their laws (Walking, Intervals, Bounds, Shut, Counting) and what it says of a schedule that it
 // was passed (Passed).
 
+#![tactic(auto)]
+
 mod hours;
 mod months;
 
@@ -19,14 +21,14 @@ ghost use Rattle.assessment.specs.Walking as walking;
 
 use commitment::{Cause, Checked, Generator, Limit, Limits, UnitRecord};
 
-#[derive(Drop)]
+#[derive(Clone, Copy)]
 pub enum Assessed {
     Profit(i64),
     Refused(Cause),
 }
 
 // Where the unit stands after some intervals: its state, the intervals spent in it, and what was spent and earned so far.
-#[derive(Drop)]
+#[derive(Clone, Copy)]
 pub struct Walk {
     pub on: bool,
     pub spent: u64,
@@ -36,7 +38,7 @@ pub struct Walk {
     pub profit: i64,
 }
 
-#[derive(Drop)]
+#[derive(Clone, Copy)]
 pub enum Walked {
     Whole(Walk),
     Broken,

@@ -13,7 +13,7 @@ use calendar::Date;
 use commitment::{Limits, cuts};
 
 // What a part of a schedule spends, and whether the unit is on after it.
-#[derive(Drop)]
+#[derive(Clone, Copy)]
 pub struct Counts {
     pub on: bool,
     pub starts: u64,

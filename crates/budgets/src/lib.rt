@@ -1,5 +1,7 @@
 // From the record of a unit to what the table counts in: figures and budgets, the opening cell, the cells of two layers and of the long table.
 
+#![tactic(auto)]
+
 ghost use Rattle.std.specs.Prelude.{◌≡◌, true, ◌+◌, ◌*◌, ◌^◌, ◌≤◌, ◌<◌};
 ghost use Rattle.commitment.specs.Bounds.{most_mwh, most_intervals};
 ghost use Rattle.commitment.specs.Cells.{in_counts, most_counts, layer_cells, cells_needed, cells_long};

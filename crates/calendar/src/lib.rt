@@ -1,13 +1,15 @@
 // Dates, clock hours and months: which dates exist, the hour that the clock shows so many hours after a date's midnight, and the calendar months of
 // the intervals from there on. Nothing is searched day by day: a day has a number, and so have the Sundays on which time changes.
 
+#![tactic(auto)]
+
 ghost use Rattle.std.specs.Prelude.{◌≡◌, suc, ◌≤◌, ◌<◌};
 ghost use Rattle.calendar.specs.Dates as dates;
 ghost use Rattle.calendar.specs.Clock as clocks;
 ghost use Rattle.calendar.specs.Months as months;
 ghost use Rattle.calendar.specs.Words as words;
 
-#[derive(Drop)]
+#[derive(Clone, Copy)]
 pub struct Date {
     pub year: u64,
     pub month: u64,
@@ -16,7 +18,7 @@ pub struct Date {
 
 // How the clock runs over a horizon: as the hours are counted, but so many hours ahead from the first change of time to the second, and from the
 // third on.
-#[derive(Drop)]
+#[derive(Clone, Copy)]
 pub struct Clock {
     pub first: u64,
     pub second: u64,

@@ -13,7 +13,7 @@ use intervals::rows::Ladder;
 pub const PIECE: usize = 512;
 
 // Sources, one after the other, with what is gained at the nearest and how much more with each that is farther.
-#[derive(Drop)]
+#[derive(Clone, Copy)]
 pub struct Slope {
     pub from: usize,
     pub count: usize,
@@ -22,7 +22,7 @@ pub struct Slope {
 }
 
 // So many places of a line from one on.
-#[derive(Drop)]
+#[derive(Clone, Copy)]
 pub struct Places {
     pub line: usize,
     pub first: usize,

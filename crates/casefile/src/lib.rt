@@ -1,12 +1,14 @@
 // Reading the text of a case: the record and the prices, or the first cause that holds. Nothing is written before all is checked.
 
+#![tactic(auto)]
+
 ghost use Rattle.std.specs.Prelude.{◌≡◌, length};
 ghost use Rattle.casefile.specs.Answers.{read_by, case_found, read_case, read_prices, read_part, read_number, read_count, read_unit, no_unit};
 ghost use Rattle.casefile.specs.Reading.{unit_in, prices_in, case_in};
 
 use commitment::{Cause, Checked, Costs, Generator, Limit, Limits, Opening, Permit, UnitRecord};
 
-#[derive(Drop)]
+#[derive(Clone, Copy)]
 pub enum CaseRead {
     Case { unit: UnitRecord, count: usize },
     Refused(Cause),

@@ -10,7 +10,7 @@ use calendar::{Clock, Date};
 use commitment::{Cause, Checked};
 
 // The clock hour of an interval, or why there is none.
-#[derive(Drop)]
+#[derive(Clone, Copy)]
 pub enum ClockRead {
     Hour(u64),
     Refused(Cause),

@@ -1,5 +1,7 @@
 // The check of a case, the first thing that every call does with one; and the clock hour of an interval, whose figures are judged in the same way.
 
+#![tactic(auto)]
+
 pub mod clock;
 
 ghost use Rattle.std.specs.Prelude.{◌≡◌, true};

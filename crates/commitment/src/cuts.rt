@@ -9,7 +9,7 @@ ghost use Rattle.commitment.specs.Cuts.{CutsOf};
 use calendar::Date;
 
 // Month k, counted from 0, has the intervals from `at[k]` to before `at[k + 1]`. A horizon of a year has thirteen months at most.
-#[derive(Drop)]
+#[derive(Clone, Copy)]
 pub struct Cuts {
     pub at: [usize; 14],
     pub count: usize,

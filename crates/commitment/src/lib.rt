@@ -1,6 +1,8 @@
 // The types that every call shares. specs/ has the definitions that all is proved against, one topic a file; proofs/ what the checks of a case say as orders
 // of numbers (Ranges, Passing), the laws of a list of checks (Causes) and of a margin (Margins).
 
+#![tactic(auto)]
+
 ghost use Rattle.std.specs.Prelude.{◌≡◌, ◌≤◌, nat_abs};
 ghost use Rattle.commitment.specs.Profit as profits;
 ghost use Rattle.commitment.specs.Causes.{number_of};
@@ -18,14 +20,14 @@ pub const MOST_MW: u64 = 500;
 pub const MOST_BLOCKS: u64 = 500;
 
 // A limitation of the permit: not limited, or at most a number.
-#[derive(Drop)]
+#[derive(Clone, Copy)]
 pub enum Limit {
     None,
     At(u64),
 }
 
 // The unit itself: MW in a block, outputs in blocks, minimum times in intervals.
-#[derive(Drop)]
+#[derive(Clone, Copy)]
 pub struct Generator {
     pub block: u64,
     pub pmin: u64,
@@ -34,7 +36,7 @@ pub struct Generator {
     pub mdt: u64,
 }
 
-#[derive(Drop)]
+#[derive(Clone, Copy)]
 pub struct Costs {
     pub vec: u64,
     pub mlc: u64,
@@ -42,13 +44,13 @@ pub struct Costs {
 }
 
 // The state before interval 1, and the intervals spent in it.
-#[derive(Drop)]
+#[derive(Clone, Copy)]
 pub struct Opening {
     pub was: u64,
     pub held: u64,
 }
 
-#[derive(Drop)]
+#[derive(Clone, Copy)]
 pub struct Limits {
     pub starts: Limit,
     pub hours: Limit,
@@ -56,21 +58,21 @@ pub struct Limits {
 }
 
 // The date whose midnight opens interval 1, and the word whose bit h allows clock hour h.
-#[derive(Drop)]
+#[derive(Clone, Copy)]
 pub struct Window {
     pub date: Date,
     pub word: u64,
 }
 
 // When the permit allows the unit to run.
-#[derive(Drop)]
+#[derive(Clone, Copy)]
 pub enum Permit {
     AnyHour,
     Within(Window),
 }
 
 // The unit record (specification 2), in its groups.
-#[derive(Drop)]
+#[derive(Clone, Copy)]
 pub struct UnitRecord {
     pub generator: Generator,
     pub costs: Costs,
@@ -80,7 +82,7 @@ pub struct UnitRecord {
 }
 
 // Which of the three limitations.
-#[derive(Drop)]
+#[derive(Clone, Copy)]
 pub enum Limitation {
     Starts,
     Hours,
@@ -88,7 +90,7 @@ pub enum Limitation {
 }
 
 // Why a call refuses, in the order in which causes are given. specs/Causes.antt gives each its number.
-#[derive(Drop)]
+#[derive(Clone, Copy)]
 pub enum Cause {
     Form,
     Name,
@@ -105,21 +107,21 @@ pub enum Cause {
 }
 
 // What checks find: nothing, or the first cause that holds.
-#[derive(Drop)]
+#[derive(Clone, Copy)]
 pub enum Checked {
     Passed,
     Refused(Cause),
 }
 
 // The most that a case can earn, where it has a schedule.
-#[derive(Drop)]
+#[derive(Clone, Copy)]
 pub enum BestProfit {
     Nothing,
     Profit(i64),
 }
 
 // What valuing a limitation comes to.
-#[derive(Drop)]
+#[derive(Clone, Copy)]
 pub enum Outcome {
     None,
     Empty,
@@ -127,7 +129,7 @@ pub enum Outcome {
     Gap(i64),
 }
 
-#[derive(Drop)]
+#[derive(Clone, Copy)]
 pub struct Outcomes {
     pub starts: Outcome,
     pub hours: Outcome,

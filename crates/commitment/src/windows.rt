@@ -13,13 +13,13 @@ use crate::{Permit, Window};
 use calendar::Clock;
 
 // A word of permitted hours, and the clock from its date's midnight on.
-#[derive(Drop)]
+#[derive(Clone, Copy)]
 pub struct Allowed {
     pub word: u64,
     pub clock: Clock,
 }
 
-#[derive(Drop)]
+#[derive(Clone, Copy)]
 pub enum Hours {
     All,
     Of(Allowed),

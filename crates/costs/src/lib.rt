@@ -1,6 +1,8 @@
 // The cost figures of a gas-fired unit: vec, suc and mlc by formulas (1), (2) and (3), in integers. Each figure is worked out over one
 // common denominator and rounded once, by `rounding::rounded`.
 
+#![tactic(auto)]
+
 ghost use Rattle.std.specs.Prelude.{◌≡◌, true, ◌*◌, ◌^◌, ◌<◌, ◌≤◌, length};
 ghost use Rattle.commitment.specs.declared.Checked.TheVariants.{Passed};
 ghost use Rattle.lists.specs.Every.{every};
@@ -35,7 +37,7 @@ const MOST_ADDER: u64 = 10000000;
 
 // The inputs of the cost figures but for the segments, which are two lists. Laid out as in C, so that a host hands it over as it is.
 #[repr(C)]
-#[derive(Drop)]
+#[derive(Clone, Copy)]
 pub struct CostInputs {
     pub block: u64,
     pub pmin: u64,
@@ -55,7 +57,7 @@ pub struct CostInputs {
 }
 
 // In whole cents: per MWh, for a start, per hour.
-#[derive(Drop)]
+#[derive(Clone, Copy)]
 pub struct CostFigures {
     pub vec: u64,
     pub suc: u64,
@@ -63,7 +65,7 @@ pub struct CostFigures {
 }
 
 // What `figures` answers. specs/Answers.antt gives the number and the figures of each case.
-#[derive(Drop)]
+#[derive(Clone, Copy)]
 pub enum Costed {
     Figures(CostFigures),
     Refused(Cause),

@@ -6,8 +6,8 @@ use Rattle.curves.specs.declared.Segment.{Segment}
 use Rattle.curves.specs.Curve.{segment, own_price, own_from, extended, raised_from, merged_from}
 
 -- the own segment between points i and i + 1
-abbrev pub field_own : CurveInputs → List ℕ → List ℕ → ℕ → Segment
-field_own k levels rates i =
+abbrev pub own_at : CurveInputs → List ℕ → List ℕ → ℕ → Segment
+own_at k levels rates i =
     segment (get_or levels i 0) (get_or levels (i + 1) 0)
     (own_price k (get_or levels i 0) (get_or rates i 0) (get_or levels (i + 1) 0) (get_or rates (i + 1) 0))
 

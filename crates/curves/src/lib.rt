@@ -1,6 +1,8 @@
 // Energy bid curves: from points of level and average heat rate to segments whose prices rise strictly. One pass over the points: the last
 // segment stays open until a dearer one closes it, so that a price is raised, and equal neighbours are merged, without a second look.
 
+#![tactic(auto)]
+
 ghost use Rattle.std.specs.Prelude.{◌≡◌, true, cond, ◌+◌, ◌<◌, length, set, get_or};
 ghost use Rattle.commitment.specs.declared.Checked.TheVariants.{Passed};
 ghost use Rattle.curves.specs.Ranges as ranges;
@@ -25,7 +27,7 @@ const MOST_BID_ADDER: u64 = 1000000;
 
 // Cents per MMBtu for gas, per MWh for the others. Laid out as in C, so that a host hands it over as it is.
 #[repr(C)]
-#[derive(Drop)]
+#[derive(Clone, Copy)]
 pub struct CurveInputs {
     pub gas: u64,
     pub om: u64,
@@ -34,7 +36,7 @@ pub struct CurveInputs {
 }
 
 // From a level to a level, MW, at a price in cents per MWh.
-#[derive(Drop)]
+#[derive(Clone, Copy)]
 pub struct Segment {
     pub from: u64,
     pub to: u64,
@@ -42,7 +44,7 @@ pub struct Segment {
 }
 
 // What `curve_into` answers. specs/Answers.antt gives the number and the count of each case.
-#[derive(Drop)]
+#[derive(Clone, Copy)]
 pub enum Curved {
     Segments(usize),
     Refused(Cause),

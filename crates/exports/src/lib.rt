@@ -1,6 +1,8 @@
 // The C interface for hosts: numbers, slices and structs of numbers. A slice is a pointer and a length, in this order. Each call is the
 // Rattle call of the same name with its record and its answer in numbers (mod numbers); none has a `requires`.
 
+#![tactic(auto)]
+
 mod numbers;
 
 ghost use Rattle.std.specs.Prelude.{◌≡◌, length, true};

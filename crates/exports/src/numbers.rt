@@ -22,7 +22,7 @@ pub const NONE: u64 = 18446744073709551615;
 
 // The unit record, in the order of its fields (specification 16).
 #[repr(C)]
-#[derive(Drop)]
+#[derive(Clone, Copy)]
 pub struct UnitNumbers {
     pub block: u64,
     pub pmin: u64,
@@ -45,14 +45,14 @@ pub struct UnitNumbers {
 
 // An outcome: 0 none, 1 empty, 2 never, 3 a gap; `gap` is 0 but for the last.
 #[repr(C)]
-#[derive(Drop)]
+#[derive(Clone, Copy)]
 pub struct OutcomeNumbers {
     pub kind: u64,
     pub gap: i64,
 }
 
 #[repr(C)]
-#[derive(Drop)]
+#[derive(Clone, Copy)]
 pub struct OutcomesNumbers {
     pub starts: OutcomeNumbers,
     pub hours: OutcomeNumbers,
@@ -61,7 +61,7 @@ pub struct OutcomesNumbers {
 
 // Answers: `number` is 0, or that of the cause.
 #[repr(C)]
-#[derive(Drop)]
+#[derive(Clone, Copy)]
 pub struct CaseNumbers {
     pub number: u64,
     pub count: usize,
@@ -69,7 +69,7 @@ pub struct CaseNumbers {
 }
 
 #[repr(C)]
-#[derive(Drop)]
+#[derive(Clone, Copy)]
 pub struct FiguresNumbers {
     pub number: u64,
     pub vec: u64,
@@ -78,21 +78,21 @@ pub struct FiguresNumbers {
 }
 
 #[repr(C)]
-#[derive(Drop)]
+#[derive(Clone, Copy)]
 pub struct CurveNumbers {
     pub number: u64,
     pub count: usize,
 }
 
 #[repr(C)]
-#[derive(Drop)]
+#[derive(Clone, Copy)]
 pub struct AssessNumbers {
     pub number: u64,
     pub profit: i64,
 }
 
 #[repr(C)]
-#[derive(Drop)]
+#[derive(Clone, Copy)]
 pub struct CellsNumbers {
     pub number: u64,
     pub needed: usize,
@@ -100,21 +100,21 @@ pub struct CellsNumbers {
 }
 
 #[repr(C)]
-#[derive(Drop)]
+#[derive(Clone, Copy)]
 pub struct ClockNumbers {
     pub number: u64,
     pub hour: u64,
 }
 
 #[repr(C)]
-#[derive(Drop)]
+#[derive(Clone, Copy)]
 pub struct HoursNumbers {
     pub number: u64,
     pub count: usize,
 }
 
 #[repr(C)]
-#[derive(Drop)]
+#[derive(Clone, Copy)]
 pub struct PlanNumbers {
     pub number: u64,
     pub count: usize,
@@ -122,14 +122,14 @@ pub struct PlanNumbers {
 }
 
 #[repr(C)]
-#[derive(Drop)]
+#[derive(Clone, Copy)]
 pub struct ValueNumbers {
     pub number: u64,
     pub outcomes: OutcomesNumbers,
 }
 
 #[repr(C)]
-#[derive(Drop)]
+#[derive(Clone, Copy)]
 pub struct ReportNumbers {
     pub number: u64,
     pub count: usize,
@@ -138,7 +138,7 @@ pub struct ReportNumbers {
 }
 
 #[repr(C)]
-#[derive(Drop)]
+#[derive(Clone, Copy)]
 pub struct WrittenNumbers {
     pub number: u64,
     pub bytes: usize,

@@ -1,6 +1,8 @@
 // Where a cell of the table stands in its layer, how many cells a layer and a table have, and what a cell's number says. specs/Geometry has
 // the places, specs/Layers the numbers; proofs/ their laws: Places, Sizes and Widths, Holding and Telling.
 
+#![tactic(auto)]
+
 ghost use Rattle.std.specs.Prelude.{◌≡◌, ◌+◌, ◌*◌, ◌^◌, ◌≤◌, ◌<◌};
 ghost use Rattle.commitment.specs.Bounds.{most_intervals};
 ghost use Rattle.optimality.specs.Cells.{Sound, InTable};

@@ -12,7 +12,7 @@ use marks::{Frame, passes};
 use optimality::Cell;
 
 // The prices from one interval on to another, and a cell to start from.
-#[derive(Drop)]
+#[derive(Clone, Copy)]
 pub struct Leg {
     pub from: usize,
     pub to: usize,
@@ -20,7 +20,7 @@ pub struct Leg {
 }
 
 // Where a plan ends, and how many outputs were tried for it.
-#[derive(Drop)]
+#[derive(Clone, Copy)]
 pub struct Reached {
     pub cell: Cell,
     pub tries: usize,

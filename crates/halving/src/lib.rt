@@ -4,6 +4,8 @@
 // nothing left, and the later half from there to the task's own end. Budgets of the halves add up to those of the whole, so all passes together
 // cost about two fills of the table. mod ahead: a plan up to a layer that stands.
 
+#![tactic(auto)]
+
 pub mod ahead;
 
 ghost use Rattle.std.specs.Prelude.{◌≡◌, [], ◌++◌, ◌+◌, ◌-◌, ◌*◌, ◌≤◌, ◌<◌, pos, nat_abs, length, drop};
@@ -34,14 +36,14 @@ const BUFFER: usize = 1024;
 const NEAR: usize = 2048;
 
 // Where a plan may end: in any cell, or in a state with nothing left.
-#[derive(Drop)]
+#[derive(Clone, Copy)]
 pub enum End {
     Anywhere,
     In(usize),
 }
 
 // The prices from one interval on to another, a cell to start from, and an end.
-#[derive(Drop)]
+#[derive(Clone, Copy)]
 pub struct Task {
     pub from: usize,
     pub to: usize,

@@ -1,6 +1,8 @@
 // The larger and the smaller of two, a natural number as a signed one, how large a signed one is, and a product that cannot overflow. The laws of ℤ
 // stand in proofs/.
 
+#![tactic(auto)]
+
 ghost use Rattle.std.specs.Prelude.{◌≡◌, ◌*◌, ◌≤◌, ◌<◌, ◌^◌, min, pos, nat_abs};
 ghost use Rattle.integers.specs.Capped.{capped};
 ghost use Rattle.integers.specs.Maximum.{maxℤ};

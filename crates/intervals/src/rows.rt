@@ -11,7 +11,7 @@ ghost use Rattle.intervals.specs.Stretches.{RowRaised, SpanRaised};
 use optimality::Figures;
 
 // The outputs of an interval: from `low` to `high` blocks, of which the lowest brings `least` and each block more `rise`.
-#[derive(Drop)]
+#[derive(Clone, Copy)]
 pub struct Ladder {
     pub low: usize,
     pub high: usize,

@@ -5,6 +5,8 @@
 // costs one sum and one maximum; where it is, a few more, since the best output is carried along the row: the number of outputs costs nothing.
 // Here: the fill, layer by layer. mod states: a layer, state by state; the passes over rows are those of `intervals`.
 
+#![tactic(auto)]
+
 pub mod states;
 
 ghost use Rattle.std.specs.Prelude.{◌≡◌, ◌++◌, ◌+◌, ◌*◌, ◌≤◌, pos, length, drop, replicate};

@@ -1,5 +1,7 @@
 // The bytes that the planning program prints, written into a lent buffer.
 
+#![tactic(auto)]
+
 ghost use Rattle.std.specs.Prelude.{◌≡◌, true, ◌+◌, ◌≤◌, ◌<◌, length, [], ◌∷◌, ◌++◌};
 ghost use Rattle.calendar.specs.Words.{past_words};
 ghost use Rattle.listing.specs.Numbers.{number, signed_number};
@@ -11,21 +13,21 @@ ghost use Rattle.listing.specs.Writing.{Put, written};
 use commitment::{Cause, Outcome, Outcomes};
 
 // The hour word of a case, where it has one.
-#[derive(Drop)]
+#[derive(Clone, Copy)]
 pub enum HourWord {
     None,
     Word(u64),
 }
 
 // What writing answers: so many bytes from the front, 3 for a word of more than 24 bits, or 7 for a buffer too short.
-#[derive(Drop)]
+#[derive(Clone, Copy)]
 pub enum Written {
     Bytes(usize),
     Refused(Cause),
 }
 
 // Whether a text fits a buffer, and its length.
-#[derive(Drop)]
+#[derive(Clone, Copy)]
 pub enum Fit {
     Bytes(usize),
     TooLong,

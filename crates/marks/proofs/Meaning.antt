@@ -72,28 +72,28 @@ module _ (f : Figures) (ok : Sound f) (q : Quarter) (stored marked : Cell → �
 
   module _ {v m : ℤ} (t : Turn f q stored marked c v m) (floor : infeasible ≤ℤ base) where
     -- off is kept
-    module _ (keeps : lt_z t.off-value t.on_value_lem ≡ false) where
+    module _ (keeps : lt_z t.off-value t.on-value ≡ false) where
       kept-value : v ≡ base
       kept-value = (rw keeps at t.larger.0) ∙ t.off.value
 
       kept-mark : m ≡ t.off-mark
       kept-mark = rw keeps at t.larger.1
 
-      below : t.on_value_lem ≤ℤ base
-      below = rw t.off.value at (lt_z-false t.off-value t.on_value_lem keeps)
+      below : t.on-value ≤ℤ base
+      below = rw t.off.value at (lt_z-false t.off-value t.on-value keeps)
 
     -- on is taken: the quarter is open, and an output is picked
-    module _ (takes : lt_z t.off-value t.on_value_lem ≡ true) where
-      taken-value : v ≡ t.on_value_lem
+    module _ (takes : lt_z t.off-value t.on-value ≡ true) where
+      taken-value : v ≡ t.on-value
       taken-value = rw takes at t.larger.0
 
       taken-mark : m ≡ t.on-mark
       taken-mark = rw takes at t.larger.1
 
-      above : base <ℤ t.on_value_lem
-      above = rw t.off.value at (lt_z-true t.off-value t.on_value_lem takes)
+      above : base <ℤ t.on-value
+      above = rw t.off.value at (lt_z-true t.off-value t.on-value takes)
 
-      not-above : t.on_value_lem ≡ infeasible → ⊥
+      not-above : t.on-value ≡ infeasible → ⊥
       not-above e = let h : base <ℤ infeasible = rw e at above in omega (zarith, h, floor)
 
       opened : q.opens ≡ true
@@ -103,41 +103,41 @@ module _ (f : Figures) (ok : Sound f) (q : Quarter) (stored marked : Cell → �
           by true e = e
           by false e = absurd (not-above (t.on.shut e))
 
-      picked : Picked (Runs f c) reach (λ k. marked (on_cell f c k)) t.on_value_lem t.on-mark
+      picked : Picked (Runs f c) reach (λ k. marked (on_cell f c k)) t.on-value t.on-mark
       picked =
-          ⊎_elim (λ (n : ((k : ℕ) → Runs f c k → ⊥) × (t.on_value_lem ≡ infeasible)). absurd (not-above n.1))
-          (λ (p : Picked (Runs f c) reach (λ k. marked (on_cell f c k)) t.on_value_lem t.on-mark). p) (t.on.opened opened)
+          ⊎_elim (λ (n : ((k : ℕ) → Runs f c k → ⊥) × (t.on-value ≡ infeasible)). absurd (not-above n.1))
+          (λ (p : Picked (Runs f c) reach (λ k. marked (on_cell f c k)) t.on-value t.on-mark). p) (t.on.opened opened)
 
     pub turn-value : v ≡ quarter_stored f stored c q
-    turn-value = by (lt_z t.off-value t.on_value_lem) refl
+    turn-value = by (lt_z t.off-value t.on-value) refl
       where
-        by : (b : Bool) → lt_z t.off-value t.on_value_lem ≡ b → v ≡ quarter_stored f stored c q
+        by : (b : Bool) → lt_z t.off-value t.on-value ≡ b → v ≡ quarter_stored f stored c q
         by true e =
             let a = above e in
-            let made = picked-raised (picked e) t.on_value_lem (omega (zarith, a)) (≤ℤ_refl t.on_value_lem) (inr (≤ℤ_refl t.on_value_lem)) in
+            let made = picked-raised (picked e) t.on-value (omega (zarith, a)) (≤ℤ_refl t.on-value) (inr (≤ℤ_refl t.on-value)) in
             taken-value e ∙ (rw (opened e, made))
         by false e = kept-value e ∙ in-quarter q.opens refl
           where
             in-quarter : (b : Bool) → q.opens ≡ b → base ≡ cond b (cell_stored f stored c q.price) base
             in-quarter true o =
-                ⊎_elim (λ (n : ((k : ℕ) → Runs f c k → ⊥) × (t.on_value_lem ≡ infeasible)). sym (none-raised n.0))
-                (λ (p : Picked (Runs f c) reach (λ k. marked (on_cell f c k)) t.on_value_lem t.on-mark).
+                ⊎_elim (λ (n : ((k : ℕ) → Runs f c k → ⊥) × (t.on-value ≡ infeasible)). sym (none-raised n.0))
+                (λ (p : Picked (Runs f c) reach (λ k. marked (on_cell f c k)) t.on-value t.on-mark).
                 sym (picked-raised p base (≤ℤ_refl base) (below e) (inl (≤ℤ_refl base))))
                 (t.on.opened o)
             in-quarter false o = refl
 
     pub turn-mark : InTable f (next_cell f c (chosen f stored c q.price v)) → m ≡ marked (next_cell f c (chosen f stored c q.price v))
     unfolding chosen
-    turn-mark inside = by (lt_z t.off-value t.on_value_lem) refl
+    turn-mark inside = by (lt_z t.off-value t.on-value) refl
       where
         on-next : (k : ℕ) → f.pmin ≤ k → next_cell f c k ≡ on_cell f c k
         on-next zero l = absurd (omega (arith, ok.pmin))
         on-next (suc k) l = refl
 
-        by : (b : Bool) → lt_z t.off-value t.on_value_lem ≡ b → m ≡ marked (next_cell f c (chosen f stored c q.price v))
+        by : (b : Bool) → lt_z t.off-value t.on-value ≡ b → m ≡ marked (next_cell f c (chosen f stored c q.price v))
         by true e =
             let p = picked e in
-            let over : lt_z base v ≡ true = rw (taken-value e) (lt-lt_z base t.on_value_lem (above e)) in
+            let over : lt_z base v ≡ true = rw (taken-value e) (lt-lt_z base t.on-value (above e)) in
             let reached : first_on f stored c q.price v f.pmin (rungs f) ≡ p.at =
             ap (λ (best : ℤ). first_on f stored c q.price best f.pmin (rungs f)) (taken-value e) ∙ picked_first p in
             let is : chosen f stored c q.price v ≡ p.at = rw over reached in

@@ -193,7 +193,7 @@ off-turned f q stored marked c {v} {m} old inner floor off =
       off-value = v;
       off-mark = m;
       off = off;
-      on_value_lem = infeasible;
+      on-value = infeasible;
       on-mark = m;
       on = record { opened = λ e. inl (λ k r. barred k r, refl); shut = λ e. refl };
       larger = (rw keeps, rw keeps);
@@ -324,7 +324,7 @@ module _ (t : Step) (was : List ℤ) (p : Piece) (a : PieceAsked t was p) where
         off-value = value_of g t.width was c;
         off-mark = mark_of g t.width was c;
         off = last_off c o.state;
-        on_value_lem = get_or begun i (pos 0);
+        on-value = get_or begun i (pos 0);
         on-mark = get_or begun (piece + i) (pos 0);
         on = on.inside i l c o;
         larger = rw (← kept.0, ← kept.1, at) (made.inside i l);

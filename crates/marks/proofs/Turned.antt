@@ -52,8 +52,8 @@ module _ (f : Figures) (stored marked stored' marked' : Cell → ℤ) (c : Cell)
         off-value = t.off-value;
         off-mark = t.off-mark;
         off = record { value = t.off.value ∙ off-stored-same; mark = λ g. t.off.mark g ∙ (off g).1 };
-        on_value_lem = t.on_value_lem;
+        on-value = t.on-value;
         on-mark = t.on-mark;
-        on = record { opened = λ e. on_same q.price t.on_value_lem t.on-mark (t.on.opened e); shut = t.on.shut };
+        on = record { opened = λ e. on_same q.price t.on-value t.on-mark (t.on.opened e); shut = t.on.shut };
         larger = t.larger;
       }

@@ -27,10 +27,10 @@ pub record Turn (f : Figures) (q : Quarter) (stored marked : Cell → ℤ) (c : 
   pub off-value : ℤ
   pub off-mark : ℤ
   pub off : OffAt f stored marked c off-value off-mark
-  pub on_value : ℤ
+  pub on-value : ℤ
   pub on-mark : ℤ
-  pub on : OnAt f q stored marked c on_value on-mark
-  pub larger : Larger off-value off-mark on_value on-mark v m
+  pub on : OnAt f q stored marked c on-value on-mark
+  pub larger : Larger off-value off-mark on-value on-mark v m
 
 -- a plane of one state for another's, place by place
 abbrev pub MovedAt : ℕ → List ℤ → ℕ → ℕ → ℤ → ℤ → Type 0

@@ -12,7 +12,7 @@ use intervals::rows::Ladder;
 use intervals::{rows, steps};
 
 // Where every output leads to the same cell: so many places back on a line, for the same gain.
-#[derive(Drop)]
+#[derive(Clone, Copy)]
 pub struct Back {
     pub line: usize,
     pub skipped: usize,

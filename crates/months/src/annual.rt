@@ -12,7 +12,7 @@ use intervals::rows;
 use optimality::{Budgets, Figures};
 
 // The most that a month may spend: the same in every month but one.
-#[derive(Drop)]
+#[derive(Clone, Copy)]
 pub struct Caps {
     pub each: Budgets,
     pub apart: usize,
@@ -20,7 +20,7 @@ pub struct Caps {
 }
 
 // What a chain is worked out with, and where: the cells of a layer, whether each month has a place of its own, and the part of the scratch behind the layers.
-#[derive(Drop)]
+#[derive(Clone, Copy)]
 pub struct Year {
     pub figures: Figures,
     pub hours: Hours,

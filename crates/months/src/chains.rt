@@ -11,7 +11,7 @@ use commitment::windows::Hours;
 use optimality::{Budgets, Figures};
 
 // A month: its intervals, and the most that it may spend.
-#[derive(Drop)]
+#[derive(Clone, Copy)]
 pub struct Month {
     pub from: usize,
     pub to: usize,
@@ -19,7 +19,7 @@ pub struct Month {
 }
 
 // Where things stand in the scratch: the year's layer at the month's beginning and the one at its end, and the month's own two layers.
-#[derive(Drop)]
+#[derive(Clone, Copy)]
 pub struct Places {
     pub here: usize,
     pub after: usize,

@@ -2,6 +2,8 @@
 // year's budgets, and cells of the year beside cells of a month; mod chains: from the end of a month to its beginning; mod annual: from
 // the end of the horizon to the beginning of any month; mod plans: the plan, from the first month on.
 
+#![tactic(auto)]
+
 pub mod annual;
 pub mod boxes;
 pub mod chains;

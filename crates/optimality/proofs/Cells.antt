@@ -316,4 +316,4 @@ module _ (u : UnitRecord) (ok : Ranged u) (most : Budgets) where
   same-plan quarters s x r =
       sym (free u anywhere (outputs u.generator) quarters s (is_on s))
       ∙ month-plan (budgets 0 0 0) 0 (unwatched anywhere) anywhere (λ s x r. refl) quarters (s, spare (is_on s) None None None) x
-      (rw (zero-add (length quarters)) r)
+      (subst (λ (n : ℕ). Alike u (budgets 0 0 0) n (s, spare (is_on s) None None None) x) (sym (zero-add (length quarters))) r)

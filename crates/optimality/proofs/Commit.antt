@@ -141,10 +141,10 @@ allowed false k m g p s y f e = refl
 -- a step held to whether its interval is open, and the rest to theirs
 held : (opened rest : Bool) (m : ℕ) (step : Step Status) (f : Status → Plan)
     → cond (opened && rest) (along m step f) nothing ≡ along m (allow opened step) (λ y. cond rest (f y) nothing)
-held true true m step f = refl
+held true true m s f = refl
 held true false m stop f = refl
 held true false m (go g x) f = refl
-held false rest m step f = refl
+held false rest m s f = refl
 
 pub hours-last : (rules hours : Bool) (p : Plan) → cond (rules && hours) p nothing ≡ cond hours (cond rules p nothing) nothing
 hours-last true true p = refl

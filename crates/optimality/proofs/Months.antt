@@ -167,7 +167,7 @@ module _ (u : UnitRecord) (ok : Ranged u) (most : Budgets) where
     long = omega (arith, length-append front back, ap length (take-append-drop m.long qs))
 
     start : Alike u above (length back + length front) (s, filled m.limits (is_on s)) box
-    start = rw long (month-begins m.limits h (length qs) s x r)
+    start = subst (λ (n : ℕ). Alike u above n (s, filled m.limits (is_on s)) box) (sym long) (month-begins m.limits h (length qs) s x r)
 
     at-end : (t : Status × Spare) (y : Cell) → Alike u above (length back) t y → worth (year_quarters ms back) t ≡ value y
     at-end (status on spent a b c, spare on' a' b' c') y k =

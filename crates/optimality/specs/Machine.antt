@@ -13,8 +13,8 @@ pub data Step (State : Type 0) : Type 0 where
   go : ℤ → State → Step State
 
 abbrev pub allow : {State : Type 0} → Bool → Step State → Step State
-allow true step = step
-allow false step = stop
+allow true s = s
+allow false s = stop
 
 -- a plan may end in any state, which earns nothing more
 abbrev pub anywhere : {State : Type 0} → State → BestProfit

@@ -2,7 +2,9 @@
 // proofs/, Optimal first; here are the types that the cells' machine and the table that is filled by it share.
 
 // What is counted of the three limitations: starts, on-intervals and output blocks.
-#[derive(Drop)]
+#![tactic(auto)]
+
+#[derive(Clone, Copy)]
 pub struct Budgets {
     pub starts: usize,
     pub ons: usize,
@@ -11,7 +13,7 @@ pub struct Budgets {
 
 // A unit's figures, as the table goes by them. `takes` is what one start, on-interval or block takes of its budget, 1 where limited and 0 at `none`;
 // `most` is the most that a cell can have left.
-#[derive(Drop)]
+#[derive(Clone, Copy)]
 pub struct Figures {
     pub block: usize,
     pub pmin: usize,
@@ -26,7 +28,7 @@ pub struct Figures {
 }
 
 // A cell of the table: the state number, and what is left.
-#[derive(Drop)]
+#[derive(Clone, Copy)]
 pub struct Cell {
     pub state: usize,
     pub left: Budgets,

@@ -1,6 +1,8 @@
 // Best profits in two layers of scratch (specification 14): the front and the one behind it hold one interval at a time, and are rolled through from
 // the last interval back. Valuing needs no more; for plans crate `halving` rolls through the later half of a task.
 
+#![tactic(auto)]
+
 ghost use Rattle.std.specs.Prelude.{◌≡◌, ◌+◌, ◌≤◌, length};
 ghost use Rattle.optimality.specs.Machine.{anywhere, quarter};
 ghost use Rattle.geometry.specs.Geometry.{width};

@@ -1,6 +1,8 @@
 // Planning and valuing: the calls of the outside, none of which has a `requires`. Below them: what an answer holds (contents), what is
 // found before any work (checks), a case that passed (cases), its first layer in the scratch that is used (models), and what is read from it (reading).
 
+#![tactic(auto)]
+
 mod cases;
 mod checks;
 pub mod contents;
@@ -15,20 +17,20 @@ ghost use Rattle.planner.specs.Valuing.{valued, scratch_valued};
 use commitment::{Cause, Checked, Outcomes, UnitRecord};
 
 // What planning answers.
-#[derive(Drop)]
+#[derive(Clone, Copy)]
 pub enum Planned {
     Plan { count: usize, profit: i64 },
     Refused(Cause),
 }
 
 // What valuing answers.
-#[derive(Drop)]
+#[derive(Clone, Copy)]
 pub enum Valued {
     Outcomes(Outcomes),
     Refused(Cause),
 }
 
-#[derive(Drop)]
+#[derive(Clone, Copy)]
 pub struct Report {
     pub count: usize,
     pub profit: i64,
@@ -36,7 +38,7 @@ pub struct Report {
 }
 
 // What a report answers: the plan and the outcomes together.
-#[derive(Drop)]
+#[derive(Clone, Copy)]
 pub enum Reported {
     Report(Report),
     Refused(Cause),

@@ -13,7 +13,7 @@ use commitment::{UnitRecord, windows};
 use optimality::Figures;
 
 // The figures of a case, the cells of a layer, its hours, and whether the long table is used.
-#[derive(Drop)]
+#[derive(Clone, Copy)]
 pub struct Model {
     pub figures: Figures,
     pub width: usize,

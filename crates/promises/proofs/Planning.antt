@@ -38,7 +38,7 @@ use Rattle.planner.specs.declared.Valued.TheVariants as values
 use Rattle.planner.specs.Planning.{slices_checks, lent_checked, schedule_checked, plan_checked, planned_by, planned, schedule_after, schedule_left}
 use Rattle.planner.specs.Reporting.{reported_by, reported}
 use Rattle.planner.specs.Valuing.{value_lent, value_checked, valued_by, valued}
-use Rattle.planner.proofs.Lent.{lent-turn, value_lent, plan-turn, value-turn}
+use Rattle.planner.proofs.Lent.{lent-turn, value_lent_lem, plan-turn, value-turn}
 use Rattle.promises.specs.Causes.{NoRival, case_causes, table_causes, slices_causes}
 use Rattle.promises.specs.Outcomes.{outcome_for, LowerRun}
 use Rattle.promises.proofs.Causes.{valuing-answered, reporting-answered}
@@ -120,7 +120,7 @@ module _ (u : UnitRecord) (prices : List ℤ) where
       by Passed i e =
           let same : outcomes_of u prices ≡ o = cc in
           let turn = then-passed (value_lent u prices cells) (schedule_checked u prices) (sym (value-turn u prices cells) ∙ i) in
-          (lent-case true cells (value_lent u prices cells ∙ turn.0), sym same)
+          (lent-case true cells (value_lent_lem u prices cells ∙ turn.0), sym same)
       by (Refused cause) i e = let z : ◌≡◌ {A = ℕ} 0 1 = cc in absurd (omega arith)
 
   outcomes-of : (o : Outcomes) → InCase → o ≡ outcomes_of u prices → (which : Limitation) → Says u prices which (outcome_for o which)

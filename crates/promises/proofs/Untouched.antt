@@ -31,7 +31,7 @@ use Rattle.planner.specs.Planning.{schedule_after, schedule_left, scratch_after,
 use Rattle.planner.specs.Reporting.{reported_by, reported, plan_in}
 use Rattle.planner.specs.Valuing.{value_lent, value_checked, valued_by, valued, scratch_valued}
 use Rattle.planner.proofs.Answering.{plan-in}
-use Rattle.planner.proofs.Lent.{plan-turn, value_lent, value-turn}
+use Rattle.planner.proofs.Lent.{plan-turn, value_lent_lem, value-turn}
 use Rattle.promises.specs.Scratch.{cleared}
 use Rattle.promises.proofs.Causes.{plan-found}
 
@@ -132,7 +132,7 @@ module _ (u : UnitRecord) (prices was : List ℤ) where
   pub value-scratch : {cause : Cause} → valued u prices (length was) ≡ valuing.Refused cause → ScratchAfter cause (scratch_valued u prices was)
   value-scratch {cause} e =
       after (value_lent u prices (length was)) (schedule_checked u prices)
-      (λ given i. lent_other true (length was) given (value_lent u prices (length was) ∙ i)) nine
+      (λ given i. lent_other true (length was) given (value_lent_lem u prices (length was) ∙ i)) nine
       (sym (value-turn u prices (length was)) ∙ by (value_checked u prices (length was)) e)
     where
       by : (k : Checked) → valued_by k (outcomes_of u prices) ≡ valuing.Refused cause → k ≡ Refused cause

@@ -1,1 +1,3 @@
 // What the contracts of the calls say together. The theorems stand in proofs/.
+
+#![tactic(auto)]

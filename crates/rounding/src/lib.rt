@@ -1,5 +1,7 @@
 // A fraction to the nearest whole number, natural and signed. What a half does is decided in `goes_up` alone.
 
+#![tactic(auto)]
+
 ghost use Rattle.std.specs.Prelude.{◌≡◌, ◌<◌, pos};
 ghost use Rattle.std.specs.Int.Signed.{quot_z, rem_z};
 ghost use Rattle.rounding.specs.Fractions.{◌over◌, ◌overℤ◌};

@@ -1,6 +1,8 @@
 // Reading a table that is filled: the best profit of any cell of the first layer, and the best plan from it, interval by interval the first
 // output that reaches the number of the cell where the plan stands (mod reading; proofs/ Choosing and Plans).
 
+#![tactic(auto)]
+
 pub mod reading;
 
 ghost use Rattle.std.specs.Prelude.{◌≡◌, ◌+◌, ◌*◌, ◌≤◌, length, List};

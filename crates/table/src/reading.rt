@@ -15,14 +15,14 @@ use intervals::steps;
 use optimality::{Budgets, Cell, Figures};
 
 // An output in blocks, 0 for off, and how many were tried to find it.
-#[derive(Drop)]
+#[derive(Clone, Copy)]
 pub struct Tried {
     pub blocks: usize,
     pub tries: usize,
 }
 
 // The row of the cells that an interval on leads to, and the blocks left before it.
-#[derive(Drop)]
+#[derive(Clone, Copy)]
 pub struct Row {
     pub at: usize,
     pub blocks: usize,

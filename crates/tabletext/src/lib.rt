@@ -3,7 +3,9 @@
 // `names` judges the names of a line.
 
 // What a byte is to the format.
-#[derive(Drop)]
+#![tactic(auto)]
+
+#[derive(Clone, Copy)]
 pub enum Class {
     Digit,
     Letter,
@@ -14,7 +16,7 @@ pub enum Class {
 }
 
 // What a field holds: no value, the word `none`, or a number.
-#[derive(Drop)]
+#[derive(Clone, Copy)]
 pub enum Value {
     Malformed,
     WordNone,
@@ -22,14 +24,14 @@ pub enum Value {
 }
 
 // The pieces that a walk goes over: the fields of a line, which commas part, or the lines of a text, which line ends close.
-#[derive(Drop)]
+#[derive(Clone, Copy)]
 pub enum Pieces {
     Fields,
     Lines,
 }
 
 // The pieces that a walk counts: all, those that are values, those that are a name.
-#[derive(Drop)]
+#[derive(Clone, Copy)]
 pub enum Counted {
     All,
     Values,
@@ -38,7 +40,7 @@ pub enum Counted {
 
 // What a walk asks of every piece: to be a name; to be a line with so many values; to be a name that stands so often in a line; to be
 // a line that lacks a name.
-#[derive(Drop)]
+#[derive(Clone, Copy)]
 pub enum Asked {
     Name,
     Row(usize),
@@ -48,7 +50,7 @@ pub enum Asked {
 
 // What the walk above those asks of every piece: to be a name of a table of names; to be a group of which all names stand in a line,
 // or none.
-#[derive(Drop)]
+#[derive(Clone, Copy)]
 pub enum Judged {
     Known,
     Together,

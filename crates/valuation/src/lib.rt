@@ -1,5 +1,7 @@
 // The runs of valuing, each a look at one cell of the first layer.
 
+#![tactic(auto)]
+
 ghost use Rattle.std.specs.Prelude.{◌≡◌, ◌<◌, nat_abs};
 ghost use Rattle.commitment.specs.declared.Limit.TheVariants.{At};
 ghost use Rattle.commitment.specs.Best.{best, profit_of};

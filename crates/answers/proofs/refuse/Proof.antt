@@ -10,10 +10,10 @@ returns : tie.Need-returns
 returns c =
     let w = c.before.before.before in
     let n = w.before.before in
-    let wrote = rw n.number_of_lem.ensures at w.write-refusal.ensures in
-    (answered-as n.number_of_lem.ensures (c.bytes-in.ensures ∙ ap bytes_in wrote.0), wrote.1)
+    let wrote = rw n.number_of-number.ensures at w.write_refusal-written.ensures in
+    (answered-as n.number_of-number.ensures (c.bytes_in.ensures ∙ ap bytes_in wrote.0), wrote.1)
 
-pub refuse-spec : {M : Type 1} → statement M
-refuse-spec =
+pub refuse_spec : {M : Type 1} → statement M
+refuse_spec =
     tie.close
     (tie.spec (λ c κs. search rules) (λ c κs. search rules) (λ c κs. search rules) (λ c. search rules) returns)

@@ -26,60 +26,56 @@ abbrev found : tie.Start → Checked
 found c = plan_checked c.args.unit c.args.prices.now (length c.args.scratch.now) (length c.args.schedule.now)
 
 -- a report counts entries that the schedule slice has
-fits : (c : tie.After-outcomes) →
-    let r = c.before.before.before.before.before.before.before.before in
-    c.before.before.before.report.given.0.0.count ≤ length r.report-into.new.1.1.1.0
+fits : (c : tie.After-outcomes-1) →
+    let r = c.before.before.before.before.before.before in
+    c.before.before.in-Report.report.count ≤ length r.report_into.new.schedule
 fits c =
-    let r = c.before.before.before.before.before.before.before.before in
+    let r = c.before.before.before.before.before.before in
     let s = r.before.before.before.before.before in
     let a = s.args in
-    let told = c.before.before.before.report.given in
     let b = best a.unit a.prices.now in
-    let given = sym r.report-into.ensures.0 ∙ told.1 in
-    let counted = report-fits (found s) b (outcomes_of a.unit a.prices.now) a.schedule.now told.0.0 given in
-    omega (arith, counted, ap length r.report-into.ensures.1.0)
+    let given = sym r.report_into.ensures.0 ∙ c.before.before.in-Report.is in
+    let counted = report-fits (found s) b (outcomes_of a.unit a.prices.now) a.schedule.now c.before.before.in-Report.report given in
+    omega (arith, counted, ap length r.report_into.ensures.1.0)
 
-slice-reshare-prefix-write-listing : tie.Need-slice-reshare-prefix-write-listing
+slice-reshare-prefix-write-listing : tie.Need-slice_bounds-write_listing-end
 slice-reshare-prefix-write-listing c = omega (arith, fits c.before)
 
-slice-aggregate-write-listing : tie.Need-slice-aggregate-write-listing
-slice-aggregate-write-listing c = sym (length-take-le _ _ (omega (arith, fits c.before.before)))
+slice-aggregate-write-listing : tie.Need-slice_bounds-write_listing-end-in-Report
+slice-aggregate-write-listing c = sym (length-take-le _ _ (omega (arith, fits c.before)))
 
-returns : tie.Need-returns
+returns : tie.Need-returns-in-Refused
 returns c =
     let w = c.before.before in
-    let r = w.before.before.before.before.before.before.before.before in
+    let r = w.before.before.before.before.before.before in
     let s = r.before.before.before.before.before in
     let a = s.args in
-    let told = w.before.before.before.cause.given in
-    let is = sym r.report-into.ensures.0 ∙ told.1 in
-    wrote (found s) a.unit a.prices.now a.out.now (reported.Refused told.0.0) is refl w.refuse.ensures
+    let is = sym r.report_into.ensures.0 ∙ w.before.before.in-Refused.is in
+    wrote (found s) a.unit a.prices.now a.out.now (reported.Refused w.before.before.in-Refused.cause) is refl w.refuse.ensures
 
-returns-2 : tie.Need-returns-2
+returns-2 : tie.Need-returns-in-Report
 returns-2 c =
     let w = c.before.before.before.before in
-    let word = w.before.before.before in
+    let word = w.before.before in
     let outcomes = word.before in
-    let told_at = outcomes.before.before.before in
-    let r = told_at.before.before.before.before.before in
+    let r = outcomes.before.before.before.before.before.before in
     let s = r.before.before.before.before.before in
     let a = s.args in
-    let told = told_at.report.given in
-    let report = told.0.0 in
-    let is = sym r.report-into.ensures.0 ∙ told.1 in
-    let profit = plain_fits {x = report.profit} (record { sfits = outcomes.before.struct_told.given.1.0.1 }) in
-    let part = ap (take report.count) r.report-into.ensures.1.0 ∙ part-counted (found s) a.unit a.prices.now a.schedule.now report is in
+    let report = outcomes.before.before.in-Report.report in
+    let is = sym r.report_into.ensures.0 ∙ outcomes.before.before.in-Report.is in
+    let profit = plain_fits {x = report.profit} (record { sfits = outcomes.before.struct_told-1.given.1.0.1 }) in
+    let part = ap (take report.count) r.report_into.ensures.1.0 ∙ part-counted (found s) a.unit a.prices.now a.schedule.now report is in
     let hours = word_of a.unit.permit in
     let kept = word_kept_lem a.unit a.prices.now (length a.scratch.now) (length a.schedule.now) report is in
-    let listed = rw word.word_of.ensures at w.write-listing.ensures in
+    let listed = rw word.word_of-word.ensures at w.write_listing-written.ensures in
     let same = ap₂ (λ (outputs : List ℕ) (p : ℤ). listing outputs p report.outcomes hours) part profit in
     let fit = listed.0 ∙ listing-written _ _ _ hours kept (length a.out.now) in
-    let answered = answered-as (c.before.number_in.ensures ∙ ap written_number fit) (c.bytes-in.ensures ∙ ap bytes_in fit) in
+    let answered = answered-as (c.before.number_in.ensures ∙ ap written_number fit) (c.bytes_in.ensures ∙ ap bytes_in fit) in
     wrote (found s) a.unit a.prices.now a.out.now (reported.Report report) is same
     (answered, listed.1 ∙ listing-after _ _ _ hours kept a.out.now)
 
-pub report-in-spec : {M : Type 1} → statement M
-report-in-spec =
+pub report_in_spec : {M : Type 1} → statement M
+report_in_spec =
     tie.close
     (tie.spec
     (λ c κs. search rules) (λ c. search rules) (λ c κs. search rules) (λ c. search rules) (λ c κs. search rules)

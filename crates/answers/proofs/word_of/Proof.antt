@@ -5,8 +5,8 @@ use borrow.Author.Rules.{rules}
 use Rattle.answers.proofs.word_of.Statement.{statement}
 use Rattle.answers.proofs.word_of.Tie as tie
 
-returns-2 : tie.Need-returns-2
-returns-2 c = ap word_of (sym c.before.permit.given.1)
+returns-2 : tie.Need-returns-in-Within
+returns-2 c = ap word_of (sym c.in-Within.is)
 
-pub word-of-spec : {M : Type 1} → statement M
-word-of-spec = tie.close (tie.spec (λ c. search rules) (λ c. search rules) (λ c. search rules) returns-2)
+pub word_of_spec : {M : Type 1} → statement M
+word_of_spec = tie.close (tie.spec (λ c. search rules) (λ c. search rules) (λ c. search rules) returns-2)

@@ -12,10 +12,10 @@ use Rattle.assessment.proofs.assess.Statement.{statement}
 use Rattle.assessment.proofs.assess.Tie as tie
 
 -- the check of the case, by the prices themselves
-case-is : (c : tie.After-check-case) →
+case-is : (c : tie.After-check_case) →
     let a = c.before.before.before.args in
-    c.check-case.result ≡ case_checked a.unit (prices_kept a.prices.now) (length a.prices.now)
-case-is c = rw c.before.prices-kept.ensures at c.check-case.ensures
+    c.check_case.result ≡ case_checked a.unit (prices_kept a.prices.now) (length a.prices.now)
+case-is c = rw c.before.prices_kept-priced.ensures at c.check_case.ensures
 
 -- by what it comes to, the answer
 found : (c : tie.Start) {r k : Checked} →
@@ -30,19 +30,19 @@ found c e i =
     (ap (λ (k : Checked). checked_then k (handed_in a.unit a.prices.now a.schedule.now)) (sym i ∙ e)
     ∙ sym (hand-in-turn a.unit a.prices.now a.schedule.now))
 
-of-case-requires : tie.Need-of-case-requires
-of-case-requires c κs = let case = c.before.before in sym (case-is case) ∙ c.enum_told.given.1
+of-case-requires : tie.Need-of_case-requires
+of-case-requires c κs = let case = c.before in sym (case-is case) ∙ c.in-Passed.is
 
-returns : tie.Need-returns
-returns c = let case = c.before.before.before in found case.before.before.before (case-is case) c.before.cause.given.1
+returns : tie.Need-returns-in-Refused
+returns c = let case = c.before in found case.before.before.before (case-is case) c.in-Refused.is
 
-returns-2 : tie.Need-returns-2
+returns-2 : tie.Need-returns-in-Passed
 returns-2 c =
-    let case = c.before.before.before in
-    c.of-case.ensures ∙ found case.before.before.before (case-is case) c.before.enum_told.given.1
+    let case = c.before.before in
+    c.of_case.ensures ∙ found case.before.before.before (case-is case) c.before.in-Passed.is
 
-pub assess-spec : {M : Type 1} → statement M
-assess-spec =
+pub assess_spec : {M : Type 1} → statement M
+assess_spec =
     tie.close
     (tie.spec
     (λ c κs. search rules)

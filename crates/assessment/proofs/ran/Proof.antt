@@ -28,7 +28,7 @@ fits-gain c = within-fits (gain-within c) (lit< tt)
 fits_whole : (c : tie.Start) → SFits w64 (c.args.at.profit +ℤ c.args.gain)
 fits_whole c = within-fits (whole c) (lit< tt)
 
-add-t8 : tie.Need-overflow-add-t8
+add-t8 : tie.Need-overflow_add-result-3
 add-t8 c = let s = c.before.before.before.before in simp (plain_fits (fits-profit s), plain_fits (fits-gain s)) (fits_whole s)
 
 returns : tie.Need-returns
@@ -36,5 +36,5 @@ returns c =
     let s = c.before.before.before.before in
     simp (plain_fits (fits-profit s), plain_fits (fits-gain s), plain_fits (fits_whole s))
 
-pub ran-spec : {M : Type 1} → statement M
-ran-spec = tie.close (tie.spec (λ c. search rules) (λ c. search rules) add-t8 returns)
+pub ran_spec : {M : Type 1} → statement M
+ran_spec = tie.close (tie.spec (λ c. search rules) (λ c. search rules) add-t8 returns)

@@ -15,17 +15,17 @@ on-is : (c : tie.Start) {t : Bool} → c.args.on ≡ t → (c.args.output ≡ 0 
     → cond t true (leb c.args.g.mdt c.args.spent) ≡ spell_kept c.args.g c.args.on c.args.spent c.args.output
 on-is c {t} h e = let a = c.args in sym (spell-on a.g a.on t a.spent a.output h e)
 
-returns : tie.Need-returns
-returns c = off-is c.before.before.before c.before.if2.true c.before.before.if1.true
+returns : tie.Need-returns-then-on
+returns c = off-is c.before.before.before c.before.if-on.true c.before.before.if-output-eq0.true
 
-returns-2 : tie.Need-returns-2
-returns-2 c = off-is c.before.before c.if2.false c.before.if1.true
+returns-2 : tie.Need-returns-then-output-eq0
+returns-2 c = off-is c.before.before c.if-on.false c.before.if-output-eq0.true
 
-returns-3 : tie.Need-returns-3
-returns-3 c = on-is c.before.before c.if3.true c.before.if1.false
+returns-3 : tie.Need-returns-then-on-2
+returns-3 c = on-is c.before.before c.if-on-2.true c.before.if-output-eq0.false
 
-returns-4 : tie.Need-returns-4
-returns-4 c = on-is c.before.before.before c.before.if3.false c.before.before.if1.false
+returns-4 : tie.Need-returns
+returns-4 c = on-is c.before.before.before c.before.if-on-2.false c.before.before.if-output-eq0.false
 
-pub spell-kept-spec : {M : Type 1} → statement M
-spell-kept-spec = tie.close (tie.spec returns returns-2 returns-3 returns-4)
+pub spell_kept_spec : {M : Type 1} → statement M
+spell_kept_spec = tie.close (tie.spec returns returns-2 returns-3 returns-4)

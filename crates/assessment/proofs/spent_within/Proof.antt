@@ -7,10 +7,10 @@ use Rattle.assessment.proofs.spent_within.Statement.{statement}
 use Rattle.assessment.proofs.spent_within.Tie as tie
 
 returns : tie.Need-returns
-returns c = ap₂ ◌&&◌ (ap₂ ◌&&◌ c.before.before.within-limit.ensures c.before.within-limit2.ensures) c.within-limit3.ensures
+returns c = ap₂ ◌&&◌ (ap₂ ◌&&◌ c.before.before.within_limit.ensures c.before.within_limit-2.ensures) c.within_limit-3.ensures
 
-pub spent-within-spec : {M : Type 1} → statement M
-spent-within-spec =
+pub spent_within_spec : {M : Type 1} → statement M
+spent_within_spec =
     tie.close
     (tie.spec
     (λ c κs. (omega arith, c.requires Starts))

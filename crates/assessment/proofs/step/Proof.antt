@@ -40,13 +40,13 @@ margin-args : (c : tie.Start) →
 margin-args c = (c.requires.1.0.0, c.requires.1.0.1, (known c).costs.vec-most, least c, (known c).costs.mlc-most)
 
 -- what the interval brings, before a start is charged
-gain-is : (c : tie.After-margin) →
+gain-is : (c : tie.After-margin-gain) →
     let s = c.before.before.before.before.before in
     let a = s.args in
-    c.margin.result ≡ margin a.price a.output a.unit.costs.vec (least-output s) a.unit.costs.mlc
-gain-is c = rw (price-plain c.before.before.before.before.before) at c.margin.ensures
+    c.margin-gain.result ≡ margin a.price a.output a.unit.costs.vec (least-output s) a.unit.costs.mlc
+gain-is c = rw (price-plain c.before.before.before.before.before) at c.margin-gain.ensures
 
-gain-within : (c : tie.After-margin) → Within most_margin c.margin.result
+gain-within : (c : tie.After-margin-gain) → Within most_margin c.margin-gain.result
 gain-within c =
     let s = c.before.before.before.before.before in
     let k = s.args.unit.costs in
@@ -54,7 +54,7 @@ gain-within c =
     rw (gain-is c)
     (margin-within s.args.price s.args.output k.vec (least-output s) k.mlc h.0 h.1 h.2 h.3 h.4)
 
-gain-plain : (c : tie.After-margin) → to_z w64 (of_z w64 c.margin.result) ≡ c.margin.result
+gain-plain : (c : tie.After-margin-gain) → to_z w64 (of_z w64 c.margin-gain.result) ≡ c.margin-gain.result
 gain-plain c = plain (gain-within c) (lit< tt)
 
 -- and after it
@@ -66,12 +66,12 @@ cost-within c =
 cost-plain : (c : tie.After-signed) → to_z w64 (of_z w64 c.signed.result) ≡ c.signed.result
 cost-plain c = plain (cost-within c) (lit< tt)
 
-net-within : (c : tie.After-signed) → Within (most_margin + 4 * most_suc) (c.before.before.before.before.margin.result -ℤ c.signed.result)
+net-within : (c : tie.After-signed) → Within (most_margin + 4 * most_suc) (c.before.before.before.before.margin-gain.result -ℤ c.signed.result)
 net-within c = within-diff (gain-within c.before.before.before.before) (cost-within c)
 
 -- the difference, as the code has it
 net-plain : (c : tie.After-signed) →
-    let gain = c.before.before.before.before.margin.result in
+    let gain = c.before.before.before.before.margin-gain.result in
     let cost = c.signed.result in
     to_z w64 (of_z w64 (to_z w64 (of_z w64 gain) -ℤ to_z w64 (of_z w64 cost))) ≡ gain -ℤ cost
 net-plain c = rw (gain-plain c.before.before.before.before, cost-plain c) (plain (net-within c) (lit< tt))
@@ -81,16 +81,16 @@ off-is : (c : tie.Start) {t : Bool} → c.args.at.on ≡ t → c.args.output ≡
     cond t (rested at 1) (rested at (at.spent + 1)) ≡ stepped c.args.unit at c.args.price c.args.output
 off-is c {t} h e = sym (step-off c.args.unit c.args.at c.args.price t c.args.output h e)
 
-returns : tie.Need-returns
-returns c = c.rested.ensures ∙ off-is c.before.before.before c.before.if2.true c.before.before.if1.true
+returns : tie.Need-returns-then-at
+returns c = c.rested.ensures ∙ off-is c.before.before.before c.before.if-at.true c.before.before.if-output-eq0.true
 
-returns-2 : tie.Need-returns-2
-returns-2 c = let off = c.before.before in c.rested2.ensures ∙ off-is off.before.before off.if2.false off.before.if1.true
+returns-2 : tie.Need-returns-then-output-eq0
+returns-2 c = let off = c.before.before in c.rested-then-output-eq0.ensures ∙ off-is off.before.before off.if-at.false off.before.if-output-eq0.true
 
-mul-margin : tie.Need-overflow-mul-margin
+mul-margin : tie.Need-overflow_mul-g
 mul-margin c = omega (arith, least c.before.before.before.before)
 
-margin-requires : tie.Need-margin-requires
+margin-requires : tie.Need-margin-gain-requires
 margin-requires c κs = let s = c.before.before.before.before in rw (price-plain s) (margin-args s)
 
 ran-requires : tie.Need-ran-requires
@@ -99,21 +99,21 @@ ran-requires c κs =
     let g = c.before.before in
     (s.requires.1.1, (s.requires.1.0.1, rw (gain-plain g) (omega (arith, abs-within (gain-within g)))))
 
-returns-3 : tie.Need-returns-3
+returns-3 : tie.Need-returns-then-at-2
 returns-3 c =
     let a = c.before.before.before.before.before.before.before.before.args in
     let g = c.before.before.before in
     c.ran.ensures
     ∙ ap (ran a.at (a.at.spent + 1) a.at.starts a.output) (gain-plain g ∙ gain-is g)
-    ∙ sym (step-on a.unit a.at a.price true a.output c.before.before.if3.true g.before.before.before.before.if1.false)
+    ∙ sym (step-on a.unit a.at a.price true a.output c.before.before.if-at-2.true g.before.before.before.before.if-output-eq0.false)
 
-mul-signed : tie.Need-overflow-mul-signed
+mul-signed : tie.Need-overflow_mul-k
 mul-signed c = omega (arith, (known c.before.before.before.before.before.before.before.before).costs.suc-most)
 
 signed-requires : tie.Need-signed-requires
 signed-requires c κs = omega (arith, (known c.before.before.before.before.before.before.before.before).costs.suc-most)
 
-sub-ran : tie.Need-overflow-sub-ran
+sub-ran : tie.Need-overflow_sub-gain
 sub-ran c = rw (gain-plain c.before.before.before.before, cost-plain c) (within-fits (net-within c) (lit< tt))
 
 ran-requires-2 : tie.Need-ran-requires-2
@@ -121,14 +121,14 @@ ran-requires-2 c κs =
     let s = c.before.before.before.before.before.before.before.before.before in
     (s.requires.1.1, (s.requires.1.0.1, rw (net-plain c) (omega (arith, abs-within (net-within c)))))
 
-returns-4 : tie.Need-returns-4
+returns-4 : tie.Need-returns
 returns-4 c =
     let g = c.before.before.before.before.before in
     let f = c.before in
     let a = g.before.before.before.before.before.args in
-    c.ran2.ensures
+    c.ran-2.ensures
     ∙ ap (ran a.at 1 (a.at.starts + 1) a.output) (net-plain f ∙ ap₂ ◌-ℤ◌ (gain-is g) f.signed.ensures)
-    ∙ sym (step-on a.unit a.at a.price false a.output f.before.before.before.if3.false g.before.before.before.before.if1.false)
+    ∙ sym (step-on a.unit a.at a.price false a.output f.before.before.before.if-at-2.false g.before.before.before.before.if-output-eq0.false)
 
 pub step_spec : {M : Type 1} → statement M
 step_spec =

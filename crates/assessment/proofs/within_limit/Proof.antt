@@ -10,18 +10,18 @@ use Rattle.commitment.specs.Limits.{within, limit_kept}
 use Rattle.assessment.proofs.within_limit.Statement.{statement}
 use Rattle.assessment.proofs.within_limit.Tie as tie
 
-mul-result : tie.Need-overflow-mul-result
+mul-result : tie.Need-overflow_mul-result
 mul-result c =
-    let s = c.before.before.before in
-    let n = c.before.limit.given.0.0 in
-    let small : n ≤ most_mwh = leb-true n most_mwh (sym (ap (limit_kept most_mwh) c.before.limit.given.1) ∙ s.requires.1) in
+    let s = c.before in
+    let n = c.in-At.n in
+    let small : n ≤ most_mwh = leb-true n most_mwh (sym (ap (limit_kept most_mwh) c.in-At.is) ∙ s.requires.1) in
     omega (arith, mul-le-mul s.requires.0 small)
 
-returns-2 : tie.Need-returns-2
-returns-2 c = let a = c.before.before.before.args in ap (within a.worth a.count) (sym c.before.limit.given.1)
+returns-2 : tie.Need-returns-in-At
+returns-2 c = let a = c.before.args in ap (within a.worth a.count) (sym c.in-At.is)
 
-pub within-limit-spec : {M : Type 1} → statement M
-within-limit-spec =
+pub within_limit_spec : {M : Type 1} → statement M
+within_limit_spec =
     tie.close
     (tie.spec
     (λ c. search rules)

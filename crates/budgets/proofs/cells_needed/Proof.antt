@@ -15,7 +15,7 @@ use borrow.Author.Rules.{rules}
 use Rattle.budgets.proofs.cells_needed.Statement.{statement}
 use Rattle.budgets.proofs.cells_needed.Tie as tie
 
-cells-over-requires : tie.Need-cells-over-requires
+cells-over-requires : tie.Need-cells_over-requires
 cells-over-requires c κs =
     let u = c.args.unit in
     let n = c.args.n in
@@ -23,5 +23,5 @@ cells-over-requires c κs =
     let few : width (figures_of u n) < 2 ^ 62 = lt_of_le_of_lt (width-most (figures_of u n) sound) (lit< tt) in
     (c.requires, omega arith, omega (arith, width_is u n))
 
-pub cells-needed-spec : {M : Type 1} → statement M
-cells-needed-spec = tie.close (tie.spec cells-over-requires (λ c. search rules))
+pub cells_needed_spec : {M : Type 1} → statement M
+cells_needed_spec = tie.close (tie.spec cells-over-requires (λ c. search rules))

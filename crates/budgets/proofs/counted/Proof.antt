@@ -9,18 +9,18 @@ use borrow.Author.Rules.{rules}
 use Rattle.budgets.proofs.counted.Statement.{statement}
 use Rattle.budgets.proofs.counted.Tie as tie
 
-in-counts-requires : tie.Need-in-counts-requires
+in-counts-requires : tie.Need-in_counts-requires
 in-counts-requires c κs =
-    let s = c.before.before.before in
-    (s.requires.0, leb-true c.before.limit.given.0.0 most_mwh (sym (ap (limit_kept most_mwh) c.before.limit.given.1) ∙ s.requires.2))
+    let s = c.before in
+    (s.requires.0, leb-true c.in-At.figure most_mwh (sym (ap (limit_kept most_mwh) c.in-At.is) ∙ s.requires.2))
 
-returns-2 : tie.Need-returns-2
+returns-2 : tie.Need-returns-in-At
 returns-2 c =
     let known = c.before.before.before in
-    let s = known.before.before.before in
+    let s = known.before in
     c.smaller.ensures
-    ∙ ap₂ min c.before.before.in-counts.ensures c.before.most-counts.ensures
-    ∙ ap (counted s.args.g s.args.n s.args.which) (sym known.before.limit.given.1)
+    ∙ ap₂ min c.before.before.in_counts.ensures c.before.most_counts.ensures
+    ∙ ap (counted s.args.g s.args.n s.args.which) (sym known.in-At.is)
 
 pub counted_spec : {M : Type 1} → statement M
 counted_spec =

@@ -25,7 +25,7 @@ counted-requires-2 c κs = asked c.before.before.before Hours
 counted-requires-3 : tie.Need-counted-requires-3
 counted-requires-3 c κs = asked c.before.before.before.before Mwh
 
-pub counts-of-spec : {M : Type 1} → statement M
-counts-of-spec =
+pub counts_of_spec : {M : Type 1} → statement M
+counts_of_spec =
     tie.close
     (tie.spec counted-requires counted-requires-2 counted-requires-3 (λ c. cc))

@@ -8,6 +8,6 @@ returns : tie.Need-returns
 unfolding figures_of
 returns c = cc
 
-pub figures-of-spec : {M : Type 1} → statement M
-figures-of-spec =
+pub figures_of_spec : {M : Type 1} → statement M
+figures_of_spec =
     tie.close (tie.spec (λ c κs. search rules) (λ c κs. search rules) (λ c κs. search rules) (λ c κs. search rules) returns)

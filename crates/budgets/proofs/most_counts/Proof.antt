@@ -9,14 +9,14 @@ use borrow.Author.Rules.{rules}
 use Rattle.budgets.proofs.most_counts.Statement.{statement}
 use Rattle.budgets.proofs.most_counts.Tie as tie
 
-mul-result : tie.Need-overflow-mul-result
-mul-result c = let s = c.before.before in omega (arith, mul-le-mul s.requires.1 (generator-ranges s.args.g s.requires.0).pmax-most)
+mul-result : tie.Need-overflow_mul-result
+mul-result c = let s = c.before in omega (arith, mul-le-mul s.requires.1 (generator-ranges s.args.g s.requires.0).pmax-most)
 
-returns-3 : tie.Need-returns-3
-returns-3 c = let s = c.before.before in ap (λ (w : Limitation). most_counts s.args.g w s.args.n) (sym c.enum-told3.given.1)
+returns-3 : tie.Need-returns-in-Mwh
+returns-3 c = let s = c.before in ap (λ (w : Limitation). most_counts s.args.g w s.args.n) (sym c.in-Mwh.is)
 
-pub most-counts-spec : {M : Type 1} → statement M
-most-counts-spec =
+pub most_counts_spec : {M : Type 1} → statement M
+most_counts_spec =
     tie.close
     (tie.spec
     (λ c. search rules)

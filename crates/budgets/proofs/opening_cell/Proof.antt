@@ -8,5 +8,5 @@ returns : tie.Need-returns
 unfolding opening_cell
 returns c = cc
 
-pub opening-cell-spec : {M : Type 1} → statement M
-opening-cell-spec = tie.close (tie.spec (λ c κs. search rules) (λ c κs. search rules) returns)
+pub opening_cell_spec : {M : Type 1} → statement M
+opening_cell_spec = tie.close (tie.spec (λ c κs. search rules) (λ c κs. search rules) returns)

@@ -7,13 +7,13 @@ use Rattle.calendar.specs.Clock.{change_day}
 use Rattle.calendar.proofs.change_day.Statement.{statement}
 use Rattle.calendar.proofs.change_day.Tie as tie
 
-returns : tie.Need-returns
+returns : tie.Need-returns-then-before-eq0
 unfolding change_day
-returns c = c.spring-day.ensures ∙ simp (eq-eqb (c.before.before.args.before % 2) 0 c.before.if1.true)
+returns c = c.spring_day.ensures ∙ simp (eq-eqb (c.before.before.args.before % 2) 0 c.before.if-before-eq0.true)
 
-returns-2 : tie.Need-returns-2
+returns-2 : tie.Need-returns
 unfolding change_day
-returns-2 c = c.fall-day.ensures ∙ simp (ne_eqb (c.before.before.args.before % 2) 0 c.before.if1.false)
+returns-2 c = c.fall_day.ensures ∙ simp (ne_eqb (c.before.before.args.before % 2) 0 c.before.if-before-eq0.false)
 
-pub change-day-spec : {M : Type 1} → statement M
-change-day-spec = tie.close (tie.spec (λ c. search rules) (λ c κs. search rules) returns (λ c κs. search rules) returns-2)
+pub change_day_spec : {M : Type 1} → statement M
+change_day_spec = tie.close (tie.spec (λ c. search rules) (λ c κs. search rules) returns (λ c κs. search rules) returns-2)

@@ -11,55 +11,55 @@ use Rattle.calendar.proofs.Running.{follows}
 use Rattle.calendar.proofs.clock_from.Statement.{statement}
 use Rattle.calendar.proofs.clock_from.Tie as tie
 
-numbered : (c : tie.After-changes-before) → c.changes-before.result + 3 ≤ most_changes
-numbered c = omega (arith, c.changes-before.ensures, changes-few c.before.before.args.date, c.before.before.requires.till)
+numbered : (c : tie.After-changes_before-before) → c.changes_before-before.result + 3 ≤ most_changes
+numbered c = omega (arith, c.changes_before-before.ensures, changes-few c.before.before.args.date, c.before.before.requires.till)
 
 -- the next change, and any after it
-to-come : (c : tie.After-changes-before) (j : ℕ) → c.changes-before.result ≤ j → c.before.day-number.result ≤ change_day j
+to-come : (c : tie.After-changes_before-before) (j : ℕ) → c.changes_before-before.result ≤ j → c.before.day_number-number.result ≤ change_day j
 to-come c j h =
     let o = c.before.before in
     let d = o.args.date in
     omega (
       arith,
-      c.before.day-number.ensures.is,
+      c.before.day_number-number.ensures.is,
       (between d o.requires.there o.requires.since).ahead,
-      changes-grow (changes_before d) j (omega (arith, c.changes-before.ensures)),
+      changes-grow (changes_before d) j (omega (arith, c.changes_before-before.ensures)),
     )
 
-hours-to-requires : tie.Need-hours-to-requires
+hours-to-requires : tie.Need-hours_to-first-requires
 hours-to-requires c κs = (omega (arith, numbered c), to-come c _ (omega arith))
 
-hours-to-requires-2 : tie.Need-hours-to-requires-2
+hours-to-requires-2 : tie.Need-hours_to-second-requires
 hours-to-requires-2 c κs = let told = c.before in (omega (arith, numbered told), to-come told _ (omega arith))
 
-hours-to-requires-3 : tie.Need-hours-to-requires-3
+hours-to-requires-3 : tie.Need-hours_to-third-requires
 hours-to-requires-3 c κs = let told = c.before.before in (omega (arith, numbered told), to-come told _ (omega arith))
 
 -- the definition's clock
-found : (c : tie.After-hours-to3) (clock : Clock)
+found : (c : tie.After-hours_to-third) (clock : Clock)
     → let told = c.before.before.before in
-    clock ≡ clock_by_changes told.before.day-number.result told.changes-before.result → Follows told.before.before.args.date clock
+    clock ≡ clock_by_changes told.before.day_number-number.result told.changes_before-before.result → Follows told.before.before.args.date clock
 unfolding clock_from
 found c clock is =
     let told = c.before.before.before in
     let o = told.before.before in
-    subst (Follows o.args.date) (sym (is ∙ ap₂ clock_by_changes told.before.day-number.ensures.is told.changes-before.ensures))
+    subst (Follows o.args.date) (sym (is ∙ ap₂ clock_by_changes told.before.day_number-number.ensures.is told.changes_before-before.ensures))
     (follows o.args.date o.requires)
 
-returns : tie.Need-returns
+returns : tie.Need-returns-then-before-eq0
 returns c =
     let last = c.before in
-    let even = eq-eqb (last.before.before.before.changes-before.result % 2) 0 c.if1.true in
-    found last _ (simp (last.before.before.hours-to.ensures, last.before.hours-to2.ensures, last.hours-to3.ensures, even))
+    let even = eq-eqb (last.before.before.before.changes_before-before.result % 2) 0 c.if-before-eq0.true in
+    found last _ (simp (last.before.before.hours_to-first.ensures, last.before.hours_to-second.ensures, last.hours_to-third.ensures, even))
 
-returns-2 : tie.Need-returns-2
+returns-2 : tie.Need-returns
 returns-2 c =
     let last = c.before in
-    let odd = ne_eqb (last.before.before.before.changes-before.result % 2) 0 c.if1.false in
-    found last _ (simp (last.before.before.hours-to.ensures, last.before.hours-to2.ensures, last.hours-to3.ensures, odd))
+    let odd = ne_eqb (last.before.before.before.changes_before-before.result % 2) 0 c.if-before-eq0.false in
+    found last _ (simp (last.before.before.hours_to-first.ensures, last.before.hours_to-second.ensures, last.hours_to-third.ensures, odd))
 
-pub clock-from-spec : {M : Type 1} → statement M
-clock-from-spec =
+pub clock_from_spec : {M : Type 1} → statement M
+clock_from_spec =
     tie.close
     (tie.spec
     (λ c κs. search rules)

@@ -10,34 +10,34 @@ use Rattle.calendar.proofs.Dates.{parts, day-of-year, years-sum, number_small}
 use Rattle.calendar.proofs.day_number.Statement.{statement}
 use Rattle.calendar.proofs.day_number.Tie as tie
 
-sub-months : tie.Need-overflow-sub-months
+sub-months : tie.Need-overflow_sub-months
 sub-months c = omega (arith, parts c.before.args.date c.before.requires.there)
 
-days-before-requires : tie.Need-days-before-requires
+days-before-requires : tie.Need-days_before-before-requires
 days-before-requires c κs = let start = c.before.before in omega (arith, parts start.args.date start.requires.there)
 
 -- the days before the month, and a year's at most
-before-is : (c : tie.After-days-before)
+before-is : (c : tie.After-days_before-before)
     → let d = c.before.before.before.args.date in
-    (c.days-before.result ≡ days_before (leap d.year) d.month) × (c.days-before.result + d.day ≤ 366) × (1 ≤ d.day)
+    (c.days_before-before.result ≡ days_before (leap d.year) d.month) × (c.days_before-before.result + d.day ≤ 366) × (1 ≤ d.day)
 before-is c =
     let start = c.before.before.before in
     let d = start.args.date in
     let has = parts d start.requires.there in
     let at : suc (d.month - 1) ≡ d.month = omega arith in
-    let is : c.days-before.result ≡ days_before (leap d.year) d.month =
-    c.days-before.ensures
-    ∙ ap (λ (l : Bool). days_before l (suc (d.month - 1))) c.before.is-leap.ensures
+    let is : c.days_before-before.result ≡ days_before (leap d.year) d.month =
+    c.days_before-before.ensures
+    ∙ ap (λ (l : Bool). days_before l (suc (d.month - 1))) c.before.is_leap.ensures
     ∙ ap (days_before (leap d.year)) at in
     (is, omega (arith, is, day-of-year d start.requires.there, year-days (leap d.year)), has.first-day)
 
-add-result-2 : tie.Need-overflow-add-result-2
+add-result-2 : tie.Need-overflow_add-result-2
 add-result-2 c = omega (arith, before-is c)
 
-sub-result-2 : tie.Need-overflow-sub-result-2
+sub-result-2 : tie.Need-overflow_sub-result-2
 sub-result-2 c = omega (arith, before-is c.before)
 
-add-result-3 : tie.Need-overflow-add-result-3
+add-result-3 : tie.Need-overflow_add-result-3
 add-result-3 c = omega (arith, before-is c.before)
 
 returns : tie.Need-returns
@@ -52,8 +52,8 @@ returns c =
     let sum = years-sum (year - first_year) (omega (arith, start.requires.till)) in
     record { is = omega arith; small = omega (arith, number_small start.args.date start.requires) }
 
-pub day-number-spec : {M : Type 1} → statement M
-day-number-spec =
+pub day_number_spec : {M : Type 1} → statement M
+day_number_spec =
     tie.close
     (tie.spec
     (λ c. search rules)

@@ -8,11 +8,11 @@ use Rattle.calendar.proofs.Tables.{table-sums}
 use Rattle.calendar.proofs.days_before.Statement.{statement}
 use Rattle.calendar.proofs.days_before.Tie as tie
 
-returns : tie.Need-returns
-returns c = table-sums true c.before.args.months (search rules) ∙ ap (λ (l : Bool). days_before l (suc c.before.args.months)) (sym c.if1.true)
+returns : tie.Need-returns-then-leap
+returns c = table-sums true c.before.args.months (search rules) ∙ ap (λ (l : Bool). days_before l (suc c.before.args.months)) (sym c.if-leap.true)
 
-returns-2 : tie.Need-returns-2
-returns-2 c = table-sums false c.before.args.months (search rules) ∙ ap (λ (l : Bool). days_before l (suc c.before.args.months)) (sym c.if1.false)
+returns-2 : tie.Need-returns
+returns-2 c = table-sums false c.before.args.months (search rules) ∙ ap (λ (l : Bool). days_before l (suc c.before.args.months)) (sym c.if-leap.false)
 
-pub days-before-spec : {M : Type 1} → statement M
-days-before-spec = tie.close (tie.spec (λ c. search rules) (λ c. search rules) returns (λ c. search rules) (λ c. search rules) returns-2)
+pub days_before_spec : {M : Type 1} → statement M
+days_before_spec = tie.close (tie.spec (λ c. search rules) (λ c. search rules) returns (λ c. search rules) (λ c. search rules) returns-2)

@@ -10,7 +10,7 @@ use Rattle.calendar.proofs.exists.Tie as tie
 returns : tie.Need-returns
 returns c =
     let day = c.before.before.before.args.date.day in
-    ap (λ (n : ℕ). leb 1 day && leb day n) c.before.before.days-in.ensures
+    ap (λ (n : ℕ). leb 1 day && leb day n) c.before.before.days_in-days.ensures
 
-pub exists-spec : {M : Type 1} → statement M
-exists-spec = tie.close (tie.spec (λ c κs. search rules) returns)
+pub exists_spec : {M : Type 1} → statement M
+exists_spec = tie.close (tie.spec (λ c κs. search rules) returns)

@@ -10,33 +10,33 @@ use Rattle.calendar.proofs.Months.{months-within, begins-by}
 use Rattle.calendar.proofs.month_begins.Statement.{statement}
 use Rattle.calendar.proofs.month_begins.Tie as tie
 
-within : (c : tie.After-month-on) → Within last_numbered c.month-on.result
+within : (c : tie.After-month_on-first) → Within last_numbered c.month_on-first.result
 within c =
     let o = c.before in
-    subst (Within last_numbered) (sym c.month-on.ensures) (months-within (o.args.month - 1) o.args.date o.requires.0 (omega (arith, o.requires.2)))
+    subst (Within last_numbered) (sym c.month_on-first.ensures) (months-within (o.args.month - 1) o.args.date o.requires.0 (omega (arith, o.requires.2)))
 
 -- the end and the start, by their numbers
-apart : (c : tie.After-changes-before2)
+apart : (c : tie.After-changes_before-2)
     → let a = c.before.before.before.before.before.args in
-    month_begins a.date a.month + 4 * (24 * c.before.day-number2.result + c.changes-before2.result % 2)
-    ≡ 4 * (24 * c.before.before.before.day-number.result + c.before.before.changes-before.result % 2)
+    month_begins a.date a.month + 4 * (24 * c.before.day_number-2.result + c.changes_before-2.result % 2)
+    ≡ 4 * (24 * c.before.before.before.day_number.result + c.before.before.changes_before.result % 2)
 apart c =
     let first = c.before.before.before.before in
     let o = first.before in
-    let same = first.month-on.ensures in
+    let same = first.month_on-first.ensures in
     omega (
       arith,
       begins-by o.args.date o.requires.0.there o.requires.0.since o.args.month (o.args.month - 1) refl,
-      c.before.before.before.day-number.ensures.is,
-      c.before.before.changes-before.ensures,
-      c.before.day-number2.ensures.is,
-      c.changes-before2.ensures,
+      c.before.before.before.day_number.ensures.is,
+      c.before.before.changes_before.ensures,
+      c.before.day_number-2.ensures.is,
+      c.changes_before-2.ensures,
       ap day_number same,
       ap changes_before same,
     )
 
-pub month-begins-spec : {M : Type 1} → statement M
-month-begins-spec =
+pub month_begins_spec : {M : Type 1} → statement M
+month_begins_spec =
     tie.close
     (tie.spec
     (λ c. search rules)

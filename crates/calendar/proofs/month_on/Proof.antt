@@ -10,25 +10,25 @@ use Rattle.calendar.proofs.Months.{months-by}
 use Rattle.calendar.proofs.month_on.Statement.{statement}
 use Rattle.calendar.proofs.month_on.Tie as tie
 
-has : (c : tie.After-struct-known) → Parts c.before.before.args.date
+has : (c : tie.After-struct_known-1) → Parts c.before.before.args.date
 has c = parts c.before.before.args.date c.before.before.requires.0.there
 
-returns : tie.Need-returns
-returns c = sym (ap (λ (k : ℕ). months_on k c.before.args.date) c.if1.true)
+returns : tie.Need-returns-then-on-eq0
+returns c = sym (ap (λ (k : ℕ). months_on k c.before.args.date) c.if-on-eq0.true)
 
-returns-2 : tie.Need-returns-2
+returns-2 : tie.Need-returns
 returns-2 c =
     let told = c.before in
     let a = told.before.before.args in
     let d = a.date in
-    let at : suc (a.on - 1) ≡ a.on = omega (arith, told.before.if1.false) in
+    let at : suc (a.on - 1) ≡ a.on = omega (arith, told.before.if-on-eq0.false) in
     sym
     (ap (λ (k : ℕ). months_on k d) (sym at)
     ∙ months-by (a.on - 1) d (has told).first-month (has told).last-month
     ∙ ap (λ (k : ℕ). date (d.year + (d.month - 1 + k) / 12) ((d.month - 1 + k) % 12 + 1) 1) at)
 
-pub month-on-spec : {M : Type 1} → statement M
-month-on-spec =
+pub month_on_spec : {M : Type 1} → statement M
+month_on_spec =
     tie.close
     (tie.spec
     returns

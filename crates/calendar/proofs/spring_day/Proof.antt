@@ -6,7 +6,7 @@ use Rattle.calendar.proofs.spring_day.Statement.{statement}
 use Rattle.calendar.proofs.spring_day.Tie as tie
 
 returns : tie.Need-returns
-returns c = c.sunday-from.ensures ∙ ap sunday_from c.before.day-number.ensures.is
+returns c = c.sunday_from.ensures ∙ ap sunday_from c.before.day_number.ensures.is
 
-pub spring-day-spec : {M : Type 1} → statement M
-spring-day-spec = tie.close (tie.spec (λ c κs. search rules) (λ c κs. search rules) returns)
+pub spring_day_spec : {M : Type 1} → statement M
+spring_day_spec = tie.close (tie.spec (λ c κs. search rules) (λ c κs. search rules) returns)

@@ -5,8 +5,8 @@ use borrow.Author.Rules.{rules}
 use Rattle.casefile.proofs.count_of.Statement.{statement}
 use Rattle.casefile.proofs.count_of.Tie as tie
 
-returns : tie.Need-returns
-returns c = ap read_count (sym c.before.answer.given.1)
+returns : tie.Need-returns-in-Case
+returns c = ap read_count (sym c.in-Case.is)
 
-pub count-of-spec : {M : Type 1} → statement M
-count-of-spec = tie.close (tie.spec (λ c. search rules) (λ c. search rules) returns (λ c. search rules))
+pub count_of_spec : {M : Type 1} → statement M
+count_of_spec = tie.close (tie.spec (λ c. search rules) (λ c. search rules) returns (λ c. search rules))

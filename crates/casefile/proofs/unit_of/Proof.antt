@@ -5,8 +5,8 @@ use borrow.Author.Rules.{rules}
 use Rattle.casefile.proofs.unit_of.Statement.{statement}
 use Rattle.casefile.proofs.unit_of.Tie as tie
 
-returns : tie.Need-returns
-returns c = ap read_unit (sym c.before.answer.given.1)
+returns : tie.Need-returns-in-Case
+returns c = ap read_unit (sym c.in-Case.is)
 
-pub unit-of-spec : {M : Type 1} → statement M
-unit-of-spec = tie.close (tie.spec (λ c. search rules) (λ c. search rules) (λ c κs. search rules) returns (λ c. search rules))
+pub unit_of_spec : {M : Type 1} → statement M
+unit_of_spec = tie.close (tie.spec (λ c. search rules) (λ c. search rules) (λ c κs. search rules) returns (λ c. search rules))

@@ -6,13 +6,13 @@ use borrow.Author.Rules.{rules}
 use Rattle.checking.proofs.check_date.Statement.{statement}
 use Rattle.checking.proofs.check_date.Tie as tie
 
-returns : tie.Need-returns
-returns c = unless-refused c.before.date-kept.ensures Date _ c.if1.true
+returns : tie.Need-returns-then-not-date_kept
+returns c = unless-refused c.before.date_kept.ensures Date _ c.if-not-date_kept.true-raw
 
-returns-2 : tie.Need-returns-2
+returns-2 : tie.Need-returns
 returns-2 c =
     let e = c.before in
-    c.check-horizon.ensures ∙ unless-kept e.before.date-kept.ensures Date _ e.if1.false
+    c.check_horizon.ensures ∙ unless-kept e.before.date_kept.ensures Date _ e.if-not-date_kept.false-raw
 
-pub check-date-spec : {M : Type 1} → statement M
-check-date-spec = tie.close (tie.spec (λ c κs. search rules) returns (λ c κs. search rules) returns-2)
+pub check_date_spec : {M : Type 1} → statement M
+check_date_spec = tie.close (tie.spec (λ c κs. search rules) returns (λ c κs. search rules) returns-2)

@@ -6,11 +6,11 @@ use borrow.Author.Rules.{rules}
 use Rattle.checking.proofs.check_horizon.Statement.{statement}
 use Rattle.checking.proofs.check_horizon.Tie as tie
 
-returns : tie.Need-returns
-returns c = unless-refused c.before.horizon-kept.ensures Horizon Passed c.if1.true
+returns : tie.Need-returns-then-not-horizon_kept
+returns c = unless-refused c.before.horizon_kept.ensures Horizon Passed c.if-not-horizon_kept.true-raw
 
-returns-2 : tie.Need-returns-2
-returns-2 c = unless-kept c.before.horizon-kept.ensures Horizon Passed c.if1.false
+returns-2 : tie.Need-returns
+returns-2 c = unless-kept c.before.horizon_kept.ensures Horizon Passed c.if-not-horizon_kept.false-raw
 
-pub check-horizon-spec : {M : Type 1} → statement M
-check-horizon-spec = tie.close (tie.spec (λ c κs. search rules) returns returns-2)
+pub check_horizon_spec : {M : Type 1} → statement M
+check_horizon_spec = tie.close (tie.spec (λ c κs. search rules) returns returns-2)

@@ -3,6 +3,6 @@ use borrow.Author.Rules.{rules}
 use Rattle.checking.proofs.limits_kept.Statement.{statement}
 use Rattle.checking.proofs.limits_kept.Tie as tie
 
-pub limits-kept-spec : {M : Type 1} → statement M
-limits-kept-spec =
+pub limits_kept_spec : {M : Type 1} → statement M
+limits_kept_spec =
     tie.close (tie.spec (λ c κs. search rules) (λ c κs. search rules) (λ c κs. search rules) (λ c. cc))

@@ -8,8 +8,8 @@ returns : tie.Need-returns
 unfolding ranges_kept
 returns c = cc
 
-pub ranges-kept-spec : {M : Type 1} → statement M
-ranges-kept-spec =
+pub ranges_kept_spec : {M : Type 1} → statement M
+ranges_kept_spec =
     tie.close
     (tie.spec
     (λ c κs. search rules)

@@ -6,11 +6,11 @@ use Rattle.commitment.proofs.Ranges.{in-range}
 use Rattle.checking.proofs.shape_kept.Statement.{statement}
 use Rattle.checking.proofs.shape_kept.Tie as tie
 
-mul-result : tie.Need-overflow-mul-result
+mul-result : tie.Need-overflow_mul-result
 mul-result c =
     let s = c.before.before.before in
     let h = in-range s.args.unit s.requires in
     omega (arith, mul-le-mul h.generator.pmax-most h.generator.block-most)
 
-pub shape-kept-spec : {M : Type 1} → statement M
-shape-kept-spec = tie.close (tie.spec mul-result (λ c. search rules))
+pub shape_kept_spec : {M : Type 1} → statement M
+shape_kept_spec = tie.close (tie.spec mul-result (λ c. search rules))

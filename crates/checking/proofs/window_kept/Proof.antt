@@ -3,5 +3,5 @@ use borrow.Author.Rules.{rules}
 use Rattle.checking.proofs.window_kept.Statement.{statement}
 use Rattle.checking.proofs.window_kept.Tie as tie
 
-pub window-kept-spec : {M : Type 1} → statement M
-window-kept-spec = tie.close (tie.spec (λ c κs. search rules) (λ c. cc))
+pub window_kept_spec : {M : Type 1} → statement M
+window_kept_spec = tie.close (tie.spec (λ c κs. search rules) (λ c. cc))

@@ -52,44 +52,44 @@ fitting price output vec least mlc h =
 steps : (c : tie.Start) → Steps c.args.price c.args.output c.args.vec c.args.least c.args.mlc
 steps c = fitting c.args.price c.args.output c.args.vec c.args.least c.args.mlc c.requires
 
-sub-above : tie.Need-overflow-sub-above
+sub-above : tie.Need-overflow_sub-above
 sub-above c =
     let s = steps c.before.before in
-    simp (c.before.signed.ensures, c.signed2.ensures, to_z-of_z, s.output, s.least) s.above
+    simp (c.before.signed-m.ensures, c.signed.ensures, to_z-of_z, s.output, s.least) s.above
 
-mul-cost : tie.Need-overflow-mul-cost
+mul-cost : tie.Need-overflow_mul-cost
 mul-cost c =
     let second = c.before in
     let first = second.before in
     let s = steps first.before in
-    simp (first.signed.ensures, second.signed2.ensures, c.signed3.ensures, to_z-of_z, s.output, s.least, s.vec, s.above) s.cost
+    simp (first.signed-m.ensures, second.signed.ensures, c.signed-2.ensures, to_z-of_z, s.output, s.least, s.vec, s.above) s.cost
 
-mul-result : tie.Need-overflow-mul-result
+mul-result : tie.Need-overflow_mul-result
 mul-result c =
     let first = c.before.before in
     let s = steps first.before in
-    simp (first.signed.ensures, to_z-of_z, s.output, s.price) s.revenue
+    simp (first.signed-m.ensures, to_z-of_z, s.output, s.price) s.revenue
 
-sub-result : tie.Need-overflow-sub-result
+sub-result : tie.Need-overflow_sub-result
 sub-result c =
     let second = c.before in
     let first = second.before in
     let s = steps first.before in
     simp
-    (first.signed.ensures, second.signed2.ensures, c.signed3.ensures, to_z-of_z, s.price, s.output, s.least, s.vec, s.above, s.cost, s.revenue)
+    (first.signed-m.ensures, second.signed.ensures, c.signed-2.ensures, to_z-of_z, s.price, s.output, s.least, s.vec, s.above, s.cost, s.revenue)
     s.net
 
-sub-result-2 : tie.Need-overflow-sub-result-2
+sub-result-2 : tie.Need-overflow_sub-result-2
 sub-result-2 c =
     let third = c.before in
     let second = third.before in
     let first = second.before in
     let s = steps first.before in
     simp (
-      first.signed.ensures,
-      second.signed2.ensures,
-      third.signed3.ensures,
-      c.signed4.ensures,
+      first.signed-m.ensures,
+      second.signed.ensures,
+      third.signed-2.ensures,
+      c.signed-3.ensures,
       to_z-of_z,
       s.price,
       s.output,
@@ -110,10 +110,10 @@ returns c =
     let first = second.before in
     let s = steps first.before in
     simp (
-      first.signed.ensures,
-      second.signed2.ensures,
-      third.signed3.ensures,
-      c.signed4.ensures,
+      first.signed-m.ensures,
+      second.signed.ensures,
+      third.signed-2.ensures,
+      c.signed-3.ensures,
       to_z-of_z,
       s.price,
       s.output,
@@ -127,8 +127,8 @@ returns c =
       s.whole,
     )
 
-pub margin-spec : {M : Type 1} → statement M
-margin-spec =
+pub margin_spec : {M : Type 1} → statement M
+margin_spec =
     tie.close
     (tie.spec
     (λ c κs. search rules) (λ c κs. search rules)

@@ -12,51 +12,51 @@ use Rattle.lists.proofs.Every.{every-pass, every-fail, every-end}
 use Rattle.costs.proofs.every_one_to.Statement.{statement}
 use Rattle.costs.proofs.every_one_to.Tie as tie
 
-abbrev invariant-loop : tie.invariant-loop
+abbrev invariant-loop : tie.invariant-loop-i
 invariant-loop most list i₀ i = (i ≤ length list) × (every (one_to most) (drop i list) ≡ every (one_to most) list)
 
-abbrev decreases-loop : tie.decreases-loop
+abbrev decreases-loop : tie.decreases-loop-i
 decreases-loop most list i₀ i = length list - i
 
-loop-holds : tie.Need-loop-init invariant-loop decreases-loop
+loop-holds : tie.Need-loop-i-init invariant-loop decreases-loop
 loop-holds c = (omega arith, refl)
 
-mul-one-to : tie.Need-overflow-mul-one-to invariant-loop decreases-loop
+mul-one-to : tie.Need-offset_bounds-list-i invariant-loop decreases-loop
 mul-one-to c = search rules
 
-shared-slice-read-one-to : tie.Need-shared-slice-read-one-to invariant-loop decreases-loop
+shared-slice-read-one-to : tie.Need-bounds-list-i invariant-loop decreases-loop
 shared-slice-read-one-to c = search rules
 
-one-to-requires : tie.Need-one-to-requires invariant-loop decreases-loop
+one-to-requires : tie.Need-one_to-requires invariant-loop decreases-loop
 one-to-requires c κs = search rules
 
-returns : tie.Need-returns invariant-loop decreases-loop
+returns : tie.Need-returns-then-not-one_to invariant-loop decreases-loop
 returns c =
     let a = c.before.before.before.before.before.before.args in
-    let l = c.before.before.before.before.loop in
-    let t : one_to a.most (get_or a.list.now l.i 0) ≡ false = sym c.before.one-to.ensures ∙ not-true c.before.one-to.result c.if1.true in
+    let l = c.before.before.before.before.loop-i in
+    let t : one_to a.most (get_or a.list.now l.i 0) ≡ false = sym c.before.one_to.ensures ∙ not-true c.before.one_to.result c.if-not-one_to.true-raw in
     sym (every-fail (one_to a.most) 0 a.list.now l.i (omega arith) t) ∙ l.invariant.1
 
-add-i : tie.Need-overflow-add-i invariant-loop decreases-loop
+add-i : tie.Need-overflow_add-i invariant-loop decreases-loop
 add-i c = omega arith
 
-loop-less : tie.Need-loop-smaller invariant-loop decreases-loop
+loop-less : tie.Need-loop-i-smaller invariant-loop decreases-loop
 loop-less c = omega arith
 
-loop-again : tie.Need-loop-preserved invariant-loop decreases-loop
+loop-again : tie.Need-loop-i-preserved invariant-loop decreases-loop
 loop-again c =
     let a = c.before.before.before.before.before.before.args in
-    let l = c.before.before.before.before.loop in
-    let t : one_to a.most (get_or a.list.now l.i 0) ≡ true = sym c.before.one-to.ensures ∙ not-false c.before.one-to.result c.if1.false in
+    let l = c.before.before.before.before.loop-i in
+    let t : one_to a.most (get_or a.list.now l.i 0) ≡ true = sym c.before.one_to.ensures ∙ not-false c.before.one_to.result c.if-not-one_to.false-raw in
     (omega arith, every-pass (one_to a.most) 0 a.list.now l.i (omega arith) t ∙ l.invariant.1)
 
-returns-2 : tie.Need-returns-2 invariant-loop decreases-loop
+returns-2 : tie.Need-returns invariant-loop decreases-loop
 returns-2 c =
     let a = c.before.before.before.args in
-    sym (every-end (one_to a.most) 0 a.list.now c.before.loop.i (omega arith)) ∙ c.before.loop.invariant.1
+    sym (every-end (one_to a.most) 0 a.list.now c.before.loop-i.i (omega arith)) ∙ c.before.loop-i.invariant.1
 
-pub every-one-to-spec : {M : Type 1} → statement M
-every-one-to-spec =
+pub every_one_to_spec : {M : Type 1} → statement M
+every_one_to_spec =
     tie.close
     (tie.spec
     invariant-loop

@@ -6,16 +6,16 @@ use Rattle.costs.specs.Answers.{costed}
 use Rattle.costs.proofs.figures.Statement.{statement}
 use Rattle.costs.proofs.figures.Tie as tie
 
-returns : tie.Need-returns
+returns : tie.Need-returns-in-Refused
 unfolding costed
-returns c = rw (sym c.before.before.before.check-inputs.ensures ∙ c.before.found.given.1)
+returns c = rw (sym c.before.check_inputs-found.ensures ∙ c.in-Refused.is)
 
-returns-2 : tie.Need-returns-2
+returns-2 : tie.Need-returns-in-Passed
 unfolding costed
-returns-2 c = rw (sym c.before.before.before.check-inputs.ensures ∙ c.before.enum_told.given.1) (ap Figures c.three-figures.ensures)
+returns-2 c = rw (sym c.before.before.check_inputs-found.ensures ∙ c.before.in-Passed.is) (ap Figures c.three_figures.ensures)
 
-pub figures-spec : {M : Type 1} → statement M
-figures-spec =
+pub figures_spec : {M : Type 1} → statement M
+figures_spec =
     tie.close
     (tie.spec
     (λ c κs. search rules)

@@ -8,8 +8,8 @@ returns : tie.Need-returns
 unfolding inputs_kept
 returns c = cc
 
-pub inputs-kept-spec : {M : Type 1} → statement M
-inputs-kept-spec =
+pub inputs_kept_spec : {M : Type 1} → statement M
+inputs_kept_spec =
     tie.close
     (tie.spec
     (λ c κs. search rules)

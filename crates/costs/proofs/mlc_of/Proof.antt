@@ -6,7 +6,7 @@ use Rattle.costs.proofs.mlc_of.Statement.{statement}
 use Rattle.costs.proofs.mlc_of.Tie as tie
 
 returns : tie.Need-returns
-returns c = rw (c.rounded.ensures, c.before.mlc-units.ensures) (sym (mlc-rounds c.before.before.args.inputs))
+returns c = rw (c.rounded.ensures, c.before.mlc_units-sum.ensures) (sym (mlc-rounds c.before.before.args.inputs))
 
-pub mlc-of-spec : {M : Type 1} → statement M
-mlc-of-spec = tie.close (tie.spec (λ c κs. search rules) (λ c κs. search rules) returns)
+pub mlc_of_spec : {M : Type 1} → statement M
+mlc_of_spec = tie.close (tie.spec (λ c κs. search rules) (λ c κs. search rules) returns)

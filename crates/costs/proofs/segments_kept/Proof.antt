@@ -8,19 +8,19 @@ use Rattle.costs.specs.Ranges.{count_kept, segments_kept}
 use Rattle.costs.proofs.segments_kept.Statement.{statement}
 use Rattle.costs.proofs.segments_kept.Tie as tie
 
-returns : tie.Need-returns
+returns : tie.Need-returns-then-not-mws-heats
 unfolding segments_kept
 returns c =
     let a = c.before.before.before.args in
-    let e : count_kept (length a.mws.now) && count_kept (length a.heats.now) ≡ false = not-true _ c.if1.true in
+    let e : count_kept (length a.mws.now) && count_kept (length a.heats.now) ≡ false = not-true _ c.if-not-mws-heats.true-raw in
     simp e
 
-returns-2 : tie.Need-returns-2
+returns-2 : tie.Need-returns
 unfolding segments_kept
 returns-2 c =
     let a = c.before.before.before.before.before.args in
-    let e : count_kept (length a.mws.now) && count_kept (length a.heats.now) ≡ true = not-false _ c.before.before.if1.false in
-    simp e (ap₂ ◌&&◌ c.before.every-one-to.ensures c.every-one-to2.ensures)
+    let e : count_kept (length a.mws.now) && count_kept (length a.heats.now) ≡ true = not-false _ c.before.before.if-not-mws-heats.false-raw in
+    simp e (ap₂ ◌&&◌ c.before.every_one_to.ensures c.every_one_to-2.ensures)
 
-pub segments-kept-spec : {M : Type 1} → statement M
-segments-kept-spec = tie.close (tie.spec returns (λ c κs. search rules) (λ c κs. search rules) returns-2)
+pub segments_kept_spec : {M : Type 1} → statement M
+segments_kept_spec = tie.close (tie.spec returns (λ c κs. search rules) (λ c κs. search rules) returns-2)

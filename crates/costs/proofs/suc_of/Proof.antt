@@ -6,7 +6,7 @@ use Rattle.costs.proofs.suc_of.Statement.{statement}
 use Rattle.costs.proofs.suc_of.Tie as tie
 
 returns : tie.Need-returns
-returns c = rw (c.rounded.ensures, c.before.suc-units.ensures) (sym (suc-rounds c.before.before.args.inputs))
+returns c = rw (c.rounded.ensures, c.before.suc_units-sum.ensures) (sym (suc-rounds c.before.before.args.inputs))
 
-pub suc-of-spec : {M : Type 1} → statement M
-suc-of-spec = tie.close (tie.spec (λ c κs. search rules) (λ c κs. search rules) returns)
+pub suc_of_spec : {M : Type 1} → statement M
+suc_of_spec = tie.close (tie.spec (λ c κs. search rules) (λ c κs. search rules) returns)

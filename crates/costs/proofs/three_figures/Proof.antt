@@ -4,17 +4,17 @@ use Rattle.costs.proofs.Ranges.{accepted, start-sizes, load-sizes}
 use Rattle.costs.proofs.three_figures.Statement.{statement}
 use Rattle.costs.proofs.three_figures.Tie as tie
 
-suc-of-requires : tie.Need-suc-of-requires
+suc-of-requires : tie.Need-suc_of-suc-requires
 suc-of-requires c κs =
     let o = c.before.before.before in
     let a = accepted _ _ _ o.requires in
     start-sizes o.args.inputs a.inputs a.shape
 
-mlc-of-requires : tie.Need-mlc-of-requires
+mlc-of-requires : tie.Need-mlc_of-mlc-requires
 mlc-of-requires c κs =
     let o = c.before.before.before.before in
     let a = accepted _ _ _ o.requires in
     load-sizes o.args.inputs a.inputs a.shape
 
-pub three-figures-spec : {M : Type 1} → statement M
-three-figures-spec = tie.close (tie.spec (λ c κs. search rules) suc-of-requires mlc-of-requires (λ c. cc))
+pub three_figures_spec : {M : Type 1} → statement M
+three_figures_spec = tie.close (tie.spec (λ c κs. search rules) suc-of-requires mlc-of-requires (λ c. cc))

@@ -12,70 +12,70 @@ use Rattle.costs.proofs.Segments.{Next, weighted-next}
 use Rattle.costs.proofs.weighted_units.Statement.{statement}
 use Rattle.costs.proofs.weighted_units.Tie as tie
 
-abbrev invariant-loop : tie.invariant-loop
+abbrev invariant-loop : tie.invariant-loop-i
 invariant-loop price om mws heats sum₀ i₀ sum i =
     (i ≤ length mws) × (sum + weighted_units price om (drop i mws) (drop i heats) ≡ weighted_units price om mws heats)
 
-abbrev decreases-loop : tie.decreases-loop
+abbrev decreases-loop : tie.decreases-loop-i
 decreases-loop price om mws heats sum₀ i₀ sum i = length mws - i
 
-loop-holds : tie.Need-loop-init invariant-loop decreases-loop
+loop-holds : tie.Need-loop-i-init invariant-loop decreases-loop
 loop-holds c = omega arith
 
-mul-mw : tie.Need-overflow-mul-mw invariant-loop decreases-loop
+mul-mw : tie.Need-offset_bounds-mws-i invariant-loop decreases-loop
 mul-mw c = search rules
 
-shared-slice-read-mw : tie.Need-shared-slice-read-mw invariant-loop decreases-loop
+shared-slice-read-mw : tie.Need-bounds-mws-i invariant-loop decreases-loop
 shared-slice-read-mw c = search rules
 
-mul-sum : tie.Need-overflow-mul-sum invariant-loop decreases-loop
+mul-sum : tie.Need-offset_bounds-heats-i invariant-loop decreases-loop
 mul-sum c = search rules
 
-shared-slice-read-sum : tie.Need-shared-slice-read-sum invariant-loop decreases-loop
+shared-slice-read-sum : tie.Need-bounds-heats-i invariant-loop decreases-loop
 shared-slice-read-sum c = omega arith
 
 next :
-    (c : tie.In-loop invariant-loop decreases-loop) →
+    (c : tie.In-loop-i invariant-loop decreases-loop) →
     let a = c.before.before.args in
-    Next a.price a.om a.mws.now a.heats.now c.before.loop.i
+    Next a.price a.om a.mws.now a.heats.now c.before.loop-i.i
 next c =
     let a = c.before.before.args in
-    weighted-next a.price a.om most_mw a.mws.now a.heats.now c.before.loop.i
-    c.before.before.requires.1.0 c.loop-test.true (omega arith)
+    weighted-next a.price a.om most_mw a.mws.now a.heats.now c.before.loop-i.i
+    c.before.before.requires.1.0 c.loop-i-test.true (omega arith)
 
-mul-sum-2 : tie.Need-overflow-mul-sum-2 invariant-loop decreases-loop
+mul-sum-2 : tie.Need-overflow_mul-sum invariant-loop decreases-loop
 mul-sum-2 c = omega (arith, next c.before.before)
 
-mul-sum-3 : tie.Need-overflow-mul-sum-3 invariant-loop decreases-loop
+mul-sum-3 : tie.Need-overflow_mul-sum-in-loop-i invariant-loop decreases-loop
 mul-sum-3 c = omega (arith, next c.before.before)
 
-add-sum : tie.Need-overflow-add-sum invariant-loop decreases-loop
+add-sum : tie.Need-overflow_add-sum invariant-loop decreases-loop
 add-sum c = omega (arith, next c.before.before)
 
-mul-sum-4 : tie.Need-overflow-mul-sum-4 invariant-loop decreases-loop
+mul-sum-4 : tie.Need-overflow_mul-sum-in-loop-i-2 invariant-loop decreases-loop
 mul-sum-4 c = omega (arith, next c.before.before)
 
-add-sum-2 : tie.Need-overflow-add-sum-2 invariant-loop decreases-loop
+add-sum-2 : tie.Need-overflow_add-sum-in-loop-i invariant-loop decreases-loop
 add-sum-2 c = omega (arith, next c.before.before)
 
-add-i : tie.Need-overflow-add-i invariant-loop decreases-loop
+add-i : tie.Need-overflow_add-i invariant-loop decreases-loop
 add-i c = omega arith
 
-loop-less : tie.Need-loop-smaller invariant-loop decreases-loop
+loop-less : tie.Need-loop-i-smaller invariant-loop decreases-loop
 loop-less c = omega arith
 
-loop-again : tie.Need-loop-preserved invariant-loop decreases-loop
+loop-again : tie.Need-loop-i-preserved invariant-loop decreases-loop
 loop-again c = omega (arith, next c.before.before)
 
 returns : tie.Need-returns invariant-loop decreases-loop
 returns c =
     let a = c.before.before.args in
-    let i = c.before.loop.i in
+    let i = c.before.loop-i.i in
     omega
     (arith, ap (λ (t : List ℕ). weighted_units a.price a.om t (drop i a.heats.now)) (drop_of_length-le a.mws.now {i = i} (omega arith)))
 
-pub weighted-units-spec : {M : Type 1} → statement M
-weighted-units-spec =
+pub weighted_units_spec : {M : Type 1} → statement M
+weighted_units_spec =
     tie.close
     (tie.spec
     invariant-loop

@@ -6,10 +6,10 @@ use Rattle.curves.specs.Curve.{segment}
 use Rattle.curves.proofs.open_after.Statement.{statement}
 use Rattle.curves.proofs.open_after.Tie as tie
 
-returns-2 : tie.Need-returns-2
+returns-2 : tie.Need-returns
 returns-2 c =
     let a = c.before.before.args in
-    simp c.before.if1.false (ap (segment a.last.from a.next.to) (plain_fits (record { sfits = c.struct_told.given.1.1.0.1 })))
+    simp c.before.if-closed.false (ap (segment a.last.from a.next.to) (plain_fits (record { sfits = c.struct_told-1.given.1.1.0.1 })))
 
-pub open-after-spec : {M : Type 1} → statement M
-open-after-spec = tie.close (tie.spec (λ c. search rules) returns-2)
+pub open_after_spec : {M : Type 1} → statement M
+open_after_spec = tie.close (tie.spec (λ c. search rules) returns-2)

@@ -12,10 +12,10 @@ returns : tie.Need-returns
 returns c =
     let a = c.before.before.before.before.before.before.before.args in
     ap (segment (get_or a.levels.now a.i 0) (get_or a.levels.now (a.i + 1) 0))
-    (plain_fits (record { sfits = c.own-price.type-inv }) ∙ c.own-price.ensures)
+    (plain_fits (record { sfits = c.own_price-price.type_inv }) ∙ c.own_price-price.ensures)
 
-pub own-segment-spec : {M : Type 1} → statement M
-own-segment-spec =
+pub own_segment_spec : {M : Type 1} → statement M
+own_segment_spec =
     tie.close
     (tie.spec
     (λ c. search rules)

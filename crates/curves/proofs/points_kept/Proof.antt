@@ -9,24 +9,24 @@ use Rattle.curves.proofs.points_kept.Statement.{statement}
 use Rattle.curves.proofs.points_kept.Tie as tie
 
 counts :
-    (c : tie.After-count-kept2) →
+    (c : tie.After-count_kept-2) →
     (count_kept (length c.before.before.before.before.args.levels.now)
     && count_kept (length c.before.before.before.before.args.rates.now))
-    ≡ (c.before.count_kept.result && c.count-kept2.result)
-counts c = sym (ap₂ ◌&&◌ c.before.count_kept.ensures c.count-kept2.ensures)
+    ≡ (c.before.count_kept.result && c.count_kept-2.result)
+counts c = sym (ap₂ ◌&&◌ c.before.count_kept.ensures c.count_kept-2.ensures)
 
-returns : tie.Need-returns
+returns : tie.Need-returns-then-not-count_kept
 unfolding points_kept
-returns c = simp (counts c.before ∙ not-true _ c.if1.true)
+returns c = simp (counts c.before ∙ not-true _ c.if-not-count_kept.true-raw)
 
-returns-2 : tie.Need-returns-2
+returns-2 : tie.Need-returns
 unfolding points_kept
 returns-2 c =
-    simp (counts c.before.before.before ∙ not-false _ c.before.before.if1.false)
-    (ap₂ ◌&&◌ c.before.every-one-to.ensures c.every-one-to2.ensures)
+    simp (counts c.before.before.before ∙ not-false _ c.before.before.if-not-count_kept.false-raw)
+    (ap₂ ◌&&◌ c.before.every_one_to.ensures c.every_one_to-2.ensures)
 
-pub points-kept-spec : {M : Type 1} → statement M
-points-kept-spec =
+pub points_kept_spec : {M : Type 1} → statement M
+points_kept_spec =
     tie.close
     (tie.spec
     (λ c κs. search rules)

@@ -13,27 +13,27 @@ use Rattle.curves.proofs.price_units.Tie as tie
 
 -- the fuel's part, read back
 abbrev change : tie.After-signed → ℤ
-change c = let a = c.before.before.args in (incremental_rate a.from a.from-rate a.to a.to-rate).num
+change c = let a = c.before.before.args in (incremental_rate a.from a.from_rate a.to a.to_rate).num
 
 fuel :
     (c : tie.After-signed) →
-    to_z w64 (of_z w64 c.before.heat-change.result) *ℤ to_z w64 (of_z w64 c.signed.result)
+    to_z w64 (of_z w64 c.before.heat_change.result) *ℤ to_z w64 (of_z w64 c.signed.result)
     ≡ change c *ℤ pos c.before.before.args.inputs.gas
 fuel c =
     rw (
-      plain_fits {x = c.before.heat-change.result} (record { sfits = c.before.heat-change.type-inv }),
-      plain_fits {x = c.signed.result} (record { sfits = c.signed.type-inv }),
-      c.before.heat-change.ensures,
+      plain_fits {x = c.before.heat_change.result} (record { sfits = c.before.heat_change.type_inv }),
+      plain_fits {x = c.signed.result} (record { sfits = c.signed.type_inv }),
+      c.before.heat_change.ensures,
       c.signed.ensures,
     )
 
 fuel-fits : (c : tie.After-signed) → SFits w64 (change c *ℤ pos c.before.before.args.inputs.gas)
 fuel-fits c = within-fits (fuel-within c.before.before.requires.1 c.before.before.requires.0) (omega arith)
 
-mul-fuel : tie.Need-overflow-mul-fuel
+mul-fuel : tie.Need-overflow_mul-fuel
 mul-fuel c = rw (fuel c) (fuel-fits c)
 
-mul-fixed-2 : tie.Need-overflow-mul-fixed-2
+mul-fixed-2 : tie.Need-overflow_mul-fixed-2
 mul-fixed-2 c = let o = c.before.before.before.before in record { fits = omega (arith, fixed-most o.requires.1 o.requires.0) }
 
 signed-requires-2 : tie.Need-signed-requires-2
@@ -41,19 +41,19 @@ signed-requires-2 c κs = let o = c.before.before.before.before in omega (arith,
 
 -- the sum of both parts, read back
 sum :
-    (c : tie.After-signed2) →
+    (c : tie.After-signed-2) →
     let s = c.before.before.before in
     let a = s.before.before.args in
-    to_z w64 (of_z w64 (to_z w64 (of_z w64 s.before.heat-change.result) *ℤ to_z w64 (of_z w64 s.signed.result)))
-    +ℤ to_z w64 (of_z w64 c.signed2.result)
-    ≡ (price_fraction a.inputs a.from a.from-rate a.to a.to-rate).num
+    to_z w64 (of_z w64 (to_z w64 (of_z w64 s.before.heat_change.result) *ℤ to_z w64 (of_z w64 s.signed.result)))
+    +ℤ to_z w64 (of_z w64 c.signed-2.result)
+    ≡ (price_fraction a.inputs a.from a.from_rate a.to a.to_rate).num
 sum c =
     let s = c.before.before.before in
     let o = s.before.before in
-    rw (fuel s, plain_fits (fuel-fits s), plain_fits {x = c.signed2.result} (record { sfits = c.signed2.type-inv }), c.signed2.ensures)
+    rw (fuel s, plain_fits (fuel-fits s), plain_fits {x = c.signed-2.result} (record { sfits = c.signed-2.type_inv }), c.signed-2.ensures)
     (sum_is o.requires.1 o.requires.0)
 
-add-result : tie.Need-overflow-add-result
+add-result : tie.Need-overflow_add-result
 add-result c = let o = c.before.before.before.before.before in rw (sum c) (within-fits (sum-within o.requires.1 o.requires.0) (omega arith))
 
 returns : tie.Need-returns
@@ -61,8 +61,8 @@ returns c =
     let o = c.before.before.before.before.before in
     rw (sum c) (plain_fits (within-fits (sum-within o.requires.1 o.requires.0) (omega arith)))
 
-pub price-units-spec : {M : Type 1} → statement M
-price-units-spec =
+pub price_units_spec : {M : Type 1} → statement M
+price_units_spec =
     tie.close
     (tie.spec
     (λ c κs. search rules)

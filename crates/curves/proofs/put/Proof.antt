@@ -10,7 +10,7 @@ use Rattle.curves.proofs.put.Tie as tie
 returns : tie.Need-returns
 returns c =
     let a = c.before.args in
-    (refl, (refl, ap (λ (x : ℤ). set a.prices.now a.at x) (plain_fits (record { sfits = c.struct_told.given.1.1.0.1 }))))
+    (refl, (refl, ap (λ (x : ℤ). set a.prices.now a.at x) (plain_fits (record { sfits = c.struct_told-1.given.1.1.0.1 }))))
 
 pub put_spec : {M : Type 1} → statement M
 put_spec =

@@ -9,39 +9,39 @@ use Rattle.curves.proofs.Ranges.{rising-start, rising-on, rising-stops}
 use Rattle.curves.proofs.rising.Statement.{statement}
 use Rattle.curves.proofs.rising.Tie as tie
 
-abbrev invariant-loop : tie.invariant-loop
+abbrev invariant-loop : tie.invariant-loop-i
 invariant-loop levels i₀ i = (1 ≤ i) × (rising_from (get_or levels (i - 1) 0) (drop i levels) ≡ rising levels)
 
-abbrev decreases-loop : tie.decreases-loop
+abbrev decreases-loop : tie.decreases-loop-i
 decreases-loop levels i₀ i = length levels - i
 
-loop-holds : tie.Need-loop-init invariant-loop decreases-loop
+loop-holds : tie.Need-loop-i-init invariant-loop decreases-loop
 loop-holds c = (omega arith, rising-start c.args.levels.now)
 
-returns : tie.Need-returns invariant-loop decreases-loop
+returns : tie.Need-returns-then-levels-i invariant-loop decreases-loop
 returns c =
     let l = c.before.before.before.before in
-    rising-stops _ l.before.args.levels.now l.loop.i c.before.before.before.loop-test.true c.if1.true ∙ l.loop.invariant.1
+    rising-stops _ l.before.args.levels.now l.loop-i.i c.before.before.before.loop-i-test.true c.if-levels-i.true ∙ l.loop-i.invariant.1
 
-loop-again : tie.Need-loop-preserved invariant-loop decreases-loop
+loop-again : tie.Need-loop-i-preserved invariant-loop decreases-loop
 loop-again c =
     let l = c.before.before.before.before in
     let levels = l.before.args.levels.now in
-    let e : l.loop.i + 1 - 1 ≡ l.loop.i = omega arith in (
+    let e : l.loop-i.i + 1 - 1 ≡ l.loop-i.i = omega arith in (
       omega arith,
-      ap (λ (n : ℕ). rising_from (get_or levels n 0) (drop (l.loop.i + 1) levels)) e
-          ∙ rising-on (get_or levels (l.loop.i - 1) 0) levels l.loop.i c.before.before.before.loop-test.true c.if1.false
-          ∙ l.loop.invariant.1,
+      ap (λ (n : ℕ). rising_from (get_or levels n 0) (drop (l.loop-i.i + 1) levels)) e
+          ∙ rising-on (get_or levels (l.loop-i.i - 1) 0) levels l.loop-i.i c.before.before.before.loop-i-test.true c.if-levels-i.false
+          ∙ l.loop-i.invariant.1,
     )
 
-returns-2 : tie.Need-returns-2 invariant-loop decreases-loop
+returns-2 : tie.Need-returns invariant-loop decreases-loop
 returns-2 c =
     let l = c.before in
     let levels = l.before.args.levels.now in
-    sym (ap (rising_from (get_or levels (l.loop.i - 1) 0)) (drop_of_length-le levels {i = l.loop.i} (omega arith))) ∙ l.loop.invariant.1
+    sym (ap (rising_from (get_or levels (l.loop-i.i - 1) 0)) (drop_of_length-le levels {i = l.loop-i.i} (omega arith))) ∙ l.loop-i.invariant.1
 
-pub rising-spec : {M : Type 1} → statement M
-rising-spec =
+pub rising_spec : {M : Type 1} → statement M
+rising_spec =
     tie.close
     (tie.spec
     invariant-loop

@@ -10,10 +10,10 @@ use Rattle.exports.specs.Answers.{assess_numbers}
 returns : tie.Need-returns
 returns c =
     let s = c.before.before.before.before in
-    c.of-assessment.ensures
+    c.of_assessment.ensures
     ∙ ap assess_numbers c.before.assess.ensures
     ∙ ap (λ (u : UnitRecord). assess_numbers (assessed u s.args.prices.now s.args.schedule.now)) c.before.before.record_of.ensures
 
-pub ralwinga-assess-spec : {M : Type 1} → statement M
-ralwinga-assess-spec =
+pub ralwinga_assess_spec : {M : Type 1} → statement M
+ralwinga_assess_spec =
     tie.close (tie.spec (λ c κs. search rules) (λ c κs. search rules) (λ c κs. search rules) returns)

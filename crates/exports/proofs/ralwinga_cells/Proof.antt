@@ -12,12 +12,12 @@ use Rattle.exports.proofs.ralwinga_cells.Statement.{statement}
 use Rattle.exports.proofs.ralwinga_cells.Tie as tie
 
 -- the check, by the record that the numbers stand for, and the answer by what it comes to
-checked-is : (c : tie.After-check-case) →
+checked-is : (c : tie.After-check_case) →
     let a = c.before.before.args in
-    c.check-case.result ≡ case_checked (record_of a.unit) true a.intervals
-checked-is c = rw c.before.record_of.ensures at c.check-case.ensures
+    c.check_case.result ≡ case_checked (record_of a.unit) true a.intervals
+checked-is c = rw c.before.record_of-record.ensures at c.check_case.ensures
 
-found : (c : tie.After-check-case) {k : Checked} → c.check-case.result ≡ k →
+found : (c : tie.After-check_case) {k : Checked} → c.check_case.result ≡ k →
     let a = c.before.before.args in
     let needed = cells_needed (record_of a.unit) a.intervals in
     let long = cells_long (record_of a.unit) a.intervals in
@@ -28,23 +28,23 @@ found c e =
     (sym e ∙ checked-is c)
 
 -- a case that passed is in order
-order : (c : tie.After-enum-told) → let check = c.before.before in InOrder check.before.record_of.result check.before.before.args.intervals
+order : (c : tie.In-Passed) → let check = c.before in InOrder check.before.record_of-record.result check.before.before.args.intervals
 order c =
-    let check = c.before.before in
-    (passing check.before.record_of.result true check.before.before.args.intervals (sym check.check-case.ensures ∙ c.enum_told.given.1)).order
+    let check = c.before in
+    (passing check.before.record_of-record.result true check.before.before.args.intervals (sym check.check_case.ensures ∙ c.in-Passed.is)).order
 
-returns : tie.Need-returns
+returns : tie.Need-returns-in-Passed
 returns c =
     let needed = c.before in
     let told = needed.before in
-    let check = told.before.before in
-    rw (needed.cells-needed.ensures, c.cells-long.ensures, check.before.record_of.ensures) (found check told.enum_told.given.1)
+    let check = told.before in
+    rw (needed.cells_needed.ensures, c.cells_long.ensures, check.before.record_of-record.ensures) (found check told.in-Passed.is)
 
-returns-2 : tie.Need-returns-2
-returns-2 c = rw c.number_of_lem.ensures (found c.before.before.before.before c.before.before.cause.given.1)
+returns-2 : tie.Need-returns-in-Refused
+returns-2 c = rw c.number_of.ensures (found c.before.before c.before.in-Refused.is)
 
-pub ralwinga-cells-spec : {M : Type 1} → statement M
-ralwinga-cells-spec =
+pub ralwinga_cells_spec : {M : Type 1} → statement M
+ralwinga_cells_spec =
     tie.close
     (tie.spec
     (λ c κs. search rules) (λ c κs. search rules) (λ c. search rules)

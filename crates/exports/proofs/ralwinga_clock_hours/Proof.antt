@@ -10,9 +10,9 @@ use Rattle.exports.proofs.ralwinga_clock_hours.Tie as tie
 returns : tie.Need-returns
 returns c =
     let told = c.before.before.before in
-    let e = told.hours-into.ensures in
+    let e = told.hours_into.ensures in
     let entries = length told.before.before.before.args.hours.now in
-    (c.of-hours.ensures ∙ ap (λ (k : Checked). hours_numbers k entries) e.0, e.1)
+    (c.of_hours.ensures ∙ ap (λ (k : Checked). hours_numbers k entries) e.0, e.1)
 
-pub ralwinga-clock-hours-spec : {M : Type 1} → statement M
-ralwinga-clock-hours-spec = tie.close (tie.spec (λ c κs. search rules) (λ c κs. search rules) (λ c. search rules) returns)
+pub ralwinga_clock_hours_spec : {M : Type 1} → statement M
+ralwinga_clock_hours_spec = tie.close (tie.spec (λ c κs. search rules) (λ c κs. search rules) (λ c. search rules) returns)

@@ -7,11 +7,11 @@ use Rattle.exports.specs.Answers.{curve_numbers}
 
 returns : tie.Need-returns
 returns c =
-    let e = c.before.before.before.before.before.before.curve-into.ensures in
-    (c.of-curve.ensures ∙ ap curve_numbers e.0, e.1)
+    let e = c.before.before.before.before.before.before.curve_into.ensures in
+    (c.of_curve.ensures ∙ ap curve_numbers e.0, e.1)
 
-pub ralwinga-curve-spec : {M : Type 1} → statement M
-ralwinga-curve-spec =
+pub ralwinga_curve_spec : {M : Type 1} → statement M
+ralwinga_curve_spec =
     tie.close
     (tie.spec
     (λ c κs. search rules)

@@ -6,7 +6,7 @@ use mathlib.Core.Path.{ap, ◌∙◌}
 use Rattle.exports.specs.Answers.{figures_numbers}
 
 returns : tie.Need-returns
-returns c = c.of-figures.ensures ∙ ap figures_numbers c.before.figures.ensures
+returns c = c.of_figures.ensures ∙ ap figures_numbers c.before.figures.ensures
 
-pub ralwinga-figures-spec : {M : Type 1} → statement M
-ralwinga-figures-spec = tie.close (tie.spec (λ c κs. search rules) (λ c κs. search rules) returns)
+pub ralwinga_figures_spec : {M : Type 1} → statement M
+ralwinga_figures_spec = tie.close (tie.spec (λ c κs. search rules) (λ c κs. search rules) returns)

@@ -11,11 +11,11 @@ returns c =
     let w = c.before.before.before in
     let word = w.before.before in
     let o = word.before in
-    let made = rw (o.outcomes-from.ensures, word.word-from.ensures, plain_fits o.before.before.before.ranges.profit) at w.write-listing.ensures in
-    (c.of-written.ensures ∙ ap written_numbers made.0, made.1)
+    let made = rw (o.outcomes_from.ensures, word.word_from.ensures, plain_fits o.before.before.before.ranges.profit) at w.write_listing.ensures in
+    (c.of_written.ensures ∙ ap written_numbers made.0, made.1)
 
-pub ralwinga-listing-spec : {M : Type 1} → statement M
-ralwinga-listing-spec =
+pub ralwinga_listing_spec : {M : Type 1} → statement M
+ralwinga_listing_spec =
     tie.close
     (tie.spec
     (λ c κs. search rules)

@@ -8,11 +8,11 @@ use Rattle.exports.specs.Answers.{plan_numbers}
 returns : tie.Need-returns
 returns c =
     let r = c.before.before.before.before.before.before.before.record_of.ensures in
-    let made = rw r at c.before.before.before.before.plan-into.ensures in
-    (c.of-plan.ensures ∙ ap plan_numbers made.0, made.1)
+    let made = rw r at c.before.before.before.before.plan_into.ensures in
+    (c.of_plan.ensures ∙ ap plan_numbers made.0, made.1)
 
-pub ralwinga-plan-spec : {M : Type 1} → statement M
-ralwinga-plan-spec =
+pub ralwinga_plan_spec : {M : Type 1} → statement M
+ralwinga_plan_spec =
     tie.close
     (tie.spec
     (λ c κs. search rules)

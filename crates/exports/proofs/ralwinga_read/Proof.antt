@@ -7,7 +7,7 @@ use Rattle.exports.specs.Answers.{case_numbers}
 
 returns : tie.Need-returns
 returns c =
-    (c.of-case.ensures ∙ ap case_numbers c.before.before.read-into.ensures.0, c.before.before.read-into.ensures.1)
+    (c.of_case.ensures ∙ ap case_numbers c.before.before.read_into.ensures.0, c.before.before.read_into.ensures.1)
 
-pub ralwinga-read-spec : {M : Type 1} → statement M
-ralwinga-read-spec = tie.close (tie.spec (λ c κs. search rules) (λ c κs. search rules) (λ c. search rules) returns)
+pub ralwinga_read_spec : {M : Type 1} → statement M
+ralwinga_read_spec = tie.close (tie.spec (λ c κs. search rules) (λ c κs. search rules) (λ c. search rules) returns)

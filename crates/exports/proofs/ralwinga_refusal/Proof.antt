@@ -7,8 +7,8 @@ use Rattle.exports.specs.Answers.{written_numbers}
 
 returns : tie.Need-returns
 returns c =
-    (c.of-written.ensures ∙ ap written_numbers c.before.before.before.write-refusal.ensures.0, c.before.before.before.write-refusal.ensures.1)
+    (c.of_written.ensures ∙ ap written_numbers c.before.before.before.write_refusal.ensures.0, c.before.before.before.write_refusal.ensures.1)
 
-pub ralwinga-refusal-spec : {M : Type 1} → statement M
-ralwinga-refusal-spec =
+pub ralwinga_refusal_spec : {M : Type 1} → statement M
+ralwinga_refusal_spec =
     tie.close (tie.spec (λ c κs. search rules) (λ c κs. search rules) (λ c. search rules) returns)

@@ -8,11 +8,11 @@ use Rattle.exports.specs.Answers.{report_numbers}
 returns : tie.Need-returns
 returns c =
     let w = c.before.before.before.before in
-    let made = rw w.before.before.before.record_of.ensures at w.report-into.ensures in
-    (c.of-report.ensures ∙ ap report_numbers made.0, made.1)
+    let made = rw w.before.before.before.record_of.ensures at w.report_into.ensures in
+    (c.of_report.ensures ∙ ap report_numbers made.0, made.1)
 
-pub ralwinga-report-spec : {M : Type 1} → statement M
-ralwinga-report-spec =
+pub ralwinga_report_spec : {M : Type 1} → statement M
+ralwinga_report_spec =
     tie.close
     (tie.spec
     (λ c κs. search rules)

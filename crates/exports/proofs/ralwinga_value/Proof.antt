@@ -9,8 +9,8 @@ returns : tie.Need-returns
 returns c =
     let w = c.before.before in
     let made = rw w.before.before.record_of.ensures at w.value.ensures in
-    (c.of-value.ensures ∙ ap value_numbers made.0, made.1)
+    (c.of_value.ensures ∙ ap value_numbers made.0, made.1)
 
-pub ralwinga-value-spec : {M : Type 1} → statement M
-ralwinga-value-spec =
+pub ralwinga_value_spec : {M : Type 1} → statement M
+ralwinga_value_spec =
     tie.close (tie.spec (λ c κs. search rules) (λ c κs. search rules) (λ c κs. search rules) (λ c. search rules) returns)

@@ -15,20 +15,20 @@ some f = (
   omega (arith, in-section f 0 0 0 (omega arith) (omega arith) (omega arith)),
 )
 
-some-row : (c : tie.After-section-cells) → 0 < c.before.before.row-cells.result
-some-row c = rw c.before.before.row-cells.ensures (some c.before.before.before.args.f).0
+some-row : (c : tie.After-section_cells-section) → 0 < c.before.before.row_cells-row.result
+some-row c = rw c.before.before.row_cells-row.ensures (some c.before.before.before.args.f).0
 
-some-span : (c : tie.After-section-cells) → 0 < c.before.span-cells.result
-some-span c = rw c.before.span-cells.ensures (some c.before.before.before.args.f).1
+some-span : (c : tie.After-section_cells-section) → 0 < c.before.span_cells-span.result
+some-span c = rw c.before.span_cells-span.ensures (some c.before.before.before.args.f).1
 
-some-section : (c : tie.After-section-cells) → 0 < c.section-cells.result
-some-section c = rw c.section-cells.ensures (some c.before.before.before.args.f).2
+some-section : (c : tie.After-section_cells-section) → 0 < c.section_cells-section.result
+some-section c = rw c.section_cells-section.ensures (some c.before.before.before.args.f).2
 
 returns : tie.Need-returns
 unfolding cell_of
-returns c = rw (c.before.before.row-cells.ensures, c.before.span-cells.ensures, c.section-cells.ensures)
+returns c = rw (c.before.before.row_cells-row.ensures, c.before.span_cells-span.ensures, c.section_cells-section.ensures)
 
-pub cell-of-spec : {M : Type 1} → statement M
-cell-of-spec =
+pub cell_of_spec : {M : Type 1} → statement M
+cell_of_spec =
     tie.close
     (tie.spec (λ c κs. search rules) (λ c κs. search rules) (λ c κs. search rules) some-section some-span some-section some-span some-row some-row returns)

@@ -20,50 +20,50 @@ small c =
     let wide : width c.args.f < 2 ^ 64 = lt_of_le_of_lt (width-most c.args.f c.requires.0) (lit< tt) in
     omega (arith, index-lt c.args.f c.args.c c.requires.1)
 
-mul-result : tie.Need-overflow-mul-result
+mul-result : tie.Need-overflow_mul-result
 mul-result c =
     let o = c.before in
     let k = small o.before.before.before in
-    rw o.section-cells.ensures (omega arith)
+    rw o.section_cells-section.ensures (omega arith)
 
-mul-result-2 : tie.Need-overflow-mul-result-2
+mul-result-2 : tie.Need-overflow_mul-result-2
 mul-result-2 c =
     let o = c.before.before in
     let k = small o.before.before.before in
-    rw o.before.span-cells.ensures (omega arith)
+    rw o.before.span_cells-span.ensures (omega arith)
 
-mul-result-3 : tie.Need-overflow-mul-result-3
+mul-result-3 : tie.Need-overflow_mul-result-3
 mul-result-3 c =
     let o = c.before.before.before in
     let k = small o.before.before.before in
-    rw o.before.before.row-cells.ensures (omega arith)
+    rw o.before.before.row_cells-row.ensures (omega arith)
 
-add-result : tie.Need-overflow-add-result
+add-result : tie.Need-overflow_add-result
 add-result c =
     let o = c.before.before.before.before in
     let k = small o.before.before.before in
-    rw o.before.before.row-cells.ensures (omega arith)
+    rw o.before.before.row_cells-row.ensures (omega arith)
 
-add-result-2 : tie.Need-overflow-add-result-2
+add-result-2 : tie.Need-overflow_add-result-2
 add-result-2 c =
     let o = c.before.before.before.before in
     let k = small o.before.before.before in
-    rw (o.before.before.row-cells.ensures, o.before.span-cells.ensures) (omega arith)
+    rw (o.before.before.row_cells-row.ensures, o.before.span_cells-span.ensures) (omega arith)
 
-add-result-3 : tie.Need-overflow-add-result-3
+add-result-3 : tie.Need-overflow_add-result-3
 add-result-3 c =
     let o = c.before.before.before.before in
     let k = small o.before.before.before in
-    rw (o.before.before.row-cells.ensures, o.before.span-cells.ensures, o.section-cells.ensures) (omega arith)
+    rw (o.before.before.row_cells-row.ensures, o.before.span_cells-span.ensures, o.section_cells-section.ensures) (omega arith)
 
 returns : tie.Need-returns
 unfolding index
 returns c =
     let o = c.before.before.before.before in
-    rw (o.before.before.row-cells.ensures, o.before.span-cells.ensures, o.section-cells.ensures)
+    rw (o.before.before.row_cells-row.ensures, o.before.span_cells-span.ensures, o.section_cells-section.ensures)
 
-pub index-spec : {M : Type 1} → statement M
-index-spec =
+pub index_spec : {M : Type 1} → statement M
+index_spec =
     tie.close
     (tie.spec (λ c κs. search rules) (λ c κs. search rules) (λ c κs. search rules) mul-result mul-result-2 mul-result-3 add-result
     add-result-2 add-result-3 returns)

@@ -9,5 +9,5 @@ returns : tie.Need-returns
 unfolding row
 returns c = refl
 
-pub row-cells-spec : {M : Type 1} → statement M
-row-cells-spec = tie.close (tie.spec (λ c. search rules) returns)
+pub row_cells_spec : {M : Type 1} → statement M
+row_cells_spec = tie.close (tie.spec (λ c. search rules) returns)

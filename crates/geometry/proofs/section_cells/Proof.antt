@@ -9,15 +9,15 @@ use Rattle.geometry.proofs.Sizes.{section-most}
 use Rattle.geometry.proofs.section_cells.Statement.{statement}
 use Rattle.geometry.proofs.section_cells.Tie as tie
 
-mul-result : tie.Need-overflow-mul-result
+mul-result : tie.Need-overflow_mul-result
 unfolding section
 mul-result c =
     let s = c.before.before in
-    rw c.span-cells.ensures (record { fits = lt_of_le_of_lt (section-most s.args.f s.requires) (lit< tt) })
+    rw c.span_cells.ensures (record { fits = lt_of_le_of_lt (section-most s.args.f s.requires) (lit< tt) })
 
 returns : tie.Need-returns
 unfolding section
-returns c = ap (λ (cells : ℕ). (c.before.before.args.f.most.starts + 1) * cells) c.span-cells.ensures
+returns c = ap (λ (cells : ℕ). (c.before.before.args.f.most.starts + 1) * cells) c.span_cells.ensures
 
-pub section-cells-spec : {M : Type 1} → statement M
-section-cells-spec = tie.close (tie.spec (λ c. search rules) (λ c κs. search rules) mul-result returns)
+pub section_cells_spec : {M : Type 1} → statement M
+section_cells_spec = tie.close (tie.spec (λ c. search rules) (λ c κs. search rules) mul-result returns)

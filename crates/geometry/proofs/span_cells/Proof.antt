@@ -9,15 +9,15 @@ use Rattle.geometry.proofs.Sizes.{span-most}
 use Rattle.geometry.proofs.span_cells.Statement.{statement}
 use Rattle.geometry.proofs.span_cells.Tie as tie
 
-mul-result : tie.Need-overflow-mul-result
+mul-result : tie.Need-overflow_mul-result
 unfolding span
 mul-result c =
     let s = c.before.before in
-    rw c.row-cells.ensures (record { fits = lt_of_le_of_lt (span-most s.args.f s.requires) (lit< tt) })
+    rw c.row_cells.ensures (record { fits = lt_of_le_of_lt (span-most s.args.f s.requires) (lit< tt) })
 
 returns : tie.Need-returns
 unfolding span
-returns c = ap (λ (cells : ℕ). (c.before.before.args.f.most.ons + 1) * cells) c.row-cells.ensures
+returns c = ap (λ (cells : ℕ). (c.before.before.args.f.most.ons + 1) * cells) c.row_cells.ensures
 
-pub span-cells-spec : {M : Type 1} → statement M
-span-cells-spec = tie.close (tie.spec (λ c. search rules) (λ c κs. search rules) mul-result returns)
+pub span_cells_spec : {M : Type 1} → statement M
+span_cells_spec = tie.close (tie.spec (λ c. search rules) (λ c κs. search rules) mul-result returns)

@@ -10,9 +10,9 @@ returns c =
     let made = c.before in
     let a = made.before.before.args in
     let h = made.pass.ensures in (
-      record { layer = first-layer a.f a.prices.now a.hours a.w made.pass.new.0 h.marked; marked = h.marked },
-      same_from a.cells.now made.pass.new.0 _ made.pass.auto.0 h.beyond,
+      record { layer = first-layer a.f a.prices.now a.hours a.w made.pass.new.cells h.marked; marked = h.marked },
+      same_from a.cells.now made.pass.new.cells _ made.pass.auto.cells h.beyond,
     )
 
-pub first-pass-spec : {M : Type 1} → statement M
-first-pass-spec = tie.close (tie.spec (λ c κs. search rules) (λ c. search rules) returns)
+pub first_pass_spec : {M : Type 1} → statement M
+first_pass_spec = tie.close (tie.spec (λ c κs. search rules) (λ c. search rules) returns)

@@ -54,16 +54,16 @@ room c n e =
     }
 
 -- the last layer
-last : (c : tie.After-put-end) →
+last : (c : tie.After-put_end) →
     let o = c.before.before.before.before in
     let a = o.args in
     let f = a.g.figures in
-    Layer f (ends_by a.t.end) [] (stored_at f c.put-end.new.0 (length (prices_here o) * width f))
+    Layer f (ends_by a.t.end) [] (stored_at f c.put_end.new.cells (length (prices_here o) * width f))
 last c =
     let o = c.before.before.before.before in
     let a = o.args in
     let f = a.g.figures in
-    subst (λ (n : ℕ). Layer f (ends_by a.t.end) [] (stored_at f c.put-end.new.0 n)) (sym (behind o)) c.put-end.ensures.0
+    subst (λ (n : ℕ). Layer f (ends_by a.t.end) [] (stored_at f c.put_end.new.cells n)) (sym (behind o)) c.put_end.ensures.0
 
 fill-requires : tie.Need-fill-requires
 fill-requires c κs =
@@ -72,7 +72,7 @@ fill-requires c κs =
     let a = o.args in
     let k = asked o in (
       (
-        room o _ put.put-end.auto.0,
+        room o _ put.put_end.auto.cells,
         k.wide,
         prices-in-range a.prices.now a.t.from a.t.to k.given.asked.ordered k.given.asked.inside k.given.asked.priced,
         k.given.asked.clocked,
@@ -84,7 +84,7 @@ fill-requires c κs =
 plans : (c : tie.After-fill) →
     let o = c.before.before.before.before.before.before.before.before in
     let a = o.args in
-    PlanFrom a.g.figures (ends_by a.t.end) (prices_here o) c.fill.new.0 a.t.cell (quarters_here o)
+    PlanFrom a.g.figures (ends_by a.t.end) (prices_here o) c.fill.new.scratch a.t.cell (quarters_here o)
 plans c =
     let put = c.before.before.before.before in
     let o = put.before.before.before.before in
@@ -97,7 +97,7 @@ plans c =
           (asked o).given.some;
     }
 
-read-off-requires : tie.Need-read-off-requires
+read-off-requires : tie.Need-read_off-requires
 read-off-requires c κs =
     let filled = c.before.before.before in
     let put = filled.before.before.before.before in
@@ -106,7 +106,7 @@ read-off-requires c κs =
     let k = asked o in
     let part = ap (λ (xs : List ℕ). length xs) (tail-part a.t.from a.schedule.now) in (
       (
-        room o _ (filled.fill.auto.0 ∙ put.put-end.auto.0),
+        room o _ (filled.fill.auto.scratch ∙ put.put_end.auto.cells),
         k.wide,
         prices-in-range a.prices.now a.t.from a.t.to k.given.asked.ordered k.given.asked.inside k.given.asked.priced,
       ),
@@ -141,11 +141,11 @@ returns c =
       },
       λ j h.
           same-beyond (length (prices_here o) * a.g.width) _ _ filled.fill.ensures.1 j (omega (arith, h, ap (λ (n : ℕ). n * a.g.width) (long o)))
-          ∙ put.put-end.ensures.1 j (inr (omega (arith, h))),
+          ∙ put.put_end.ensures.1 j (inr (omega (arith, h))),
     )
 
-pub leaf-spec : {M : Type 1} → statement M
-leaf-spec =
+pub leaf_spec : {M : Type 1} → statement M
+leaf_spec =
     tie.close
     (tie.spec (λ c. search rules) (λ c. search rules) (λ c κs. search rules) (λ c. search rules) (λ c. search rules) (λ c. search rules) (λ c. search rules)
     fill-requires (λ c. search rules) (λ c. search rules) (λ c. search rules) (λ c. search rules) read-off-requires (λ c. search rules) (λ c. search rules)

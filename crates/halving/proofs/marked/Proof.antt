@@ -18,27 +18,27 @@ inside : (c : tie.After-index) → c.before.args.w + c.index.result < length c.b
 inside c = let o = c.before in omega (arith, c.index.ensures, index-lt o.args.f o.args.c o.requires.1, o.requires.2)
 
 -- the number that is read
-number_is : (c : tie.After-natural-arg) →
+number_is : (c : tie.After-natural-arg-1) →
     let o = c.before.before in
     let a = o.args in
     to_z w64 (of_z w64 (get_or a.cells.now (a.w + c.before.index.result) (pos 0))) ≡ mark_of a.f a.w a.cells.now a.c
 number_is c =
     let o = c.before.before in
     let a = o.args in
-    plain_fits (record { sfits = c.natural-arg.given }) ∙ ap (λ (i : ℕ). get_or a.cells.now (a.w + i) (pos 0)) c.before.index.ensures
+    plain_fits (record { sfits = c.natural-arg-1.given }) ∙ ap (λ (i : ℕ). get_or a.cells.now (a.w + i) (pos 0)) c.before.index.ensures
 
-natural-requires : tie.Need-natural-requires
+natural-requires : tie.Need-natural-number-requires
 natural-requires c κs = rw (number_is c, c.before.before.requires.3.is)
 
 returns : tie.Need-returns
 returns c at here is =
     let read = c.before.before in
     let o = read.before.before in
-    c.cell-of.ensures
-    ∙ ap (cell_of o.args.f) (c.before.natural.ensures ∙ ap nat_abs (number_is read ∙ is))
+    c.cell_of.ensures
+    ∙ ap (cell_of o.args.f) (c.before.natural-number.ensures ∙ ap nat_abs (number_is read ∙ is))
     ∙ cell-there o.args.f at here
 
-pub marked-spec : {M : Type 1} → statement M
-marked-spec =
+pub marked_spec : {M : Type 1} → statement M
+marked_spec =
     tie.close
     (tie.spec (λ c κs. search rules) (λ c. omega (arith, inside c)) (λ c. omega (arith, inside c)) inside natural-requires (λ c κs. search rules) returns)

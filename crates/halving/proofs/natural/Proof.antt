@@ -19,8 +19,8 @@ magnitude-fits : (x : ℤ) → SFits w64 x → nat_abs x ≤ 2 ^ 63
 magnitude-fits (pos n) h = omega (arith, h.sfits)
 magnitude-fits (negsuc n) h = omega (arith, h.sfits)
 
-cast-result : tie.Need-overflow-cast-result
+cast-result : tie.Need-overflow_cast-result
 cast-result c = rw (plain_fits c.ranges.x) (not-below c.args.x c.requires, record { fits = omega (arith, magnitude-fits c.args.x c.ranges.x) })
 
-pub natural-spec : {M : Type 1} → statement M
-natural-spec = tie.close (tie.spec cast-result (λ c. search rules))
+pub natural_spec : {M : Type 1} → statement M
+natural_spec = tie.close (tie.spec cast-result (λ c. search rules))

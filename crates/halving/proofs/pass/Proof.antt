@@ -31,21 +31,21 @@ asked : (c : tie.Start) →
 asked c = c.requires
 
 -- where the middle lies
-middle : (c : tie.After-midway) → let a = c.before.before.args in (a.from ≤ c.midway.result) × (c.midway.result < a.to)
+middle : (c : tie.After-midway-at) → let a = c.before.before.args in (a.from ≤ c.midway-at.result) × (c.midway-at.result < a.to)
 middle c =
     let o = c.before.before in
     let a = o.args in
-    let e = c.midway.ensures in
+    let e = c.midway-at.ensures in
     (omega (arith, e, (asked o).asked.ordered), omega (arith, e, middle-before a.from a.to (asked o).some))
 
 -- the layer that is put behind
-last : (c : tie.After-put-end) →
+last : (c : tie.After-put_end) →
     let a = c.before.before.before.before.args in
-    Layer a.g.figures (ends_by a.end) [] (stored_at a.g.figures c.put-end.new.0 (width a.g.figures))
+    Layer a.g.figures (ends_by a.end) [] (stored_at a.g.figures c.put_end.new.cells (width a.g.figures))
 last c =
     let o = c.before.before.before.before in
     let a = o.args in
-    subst (λ (n : ℕ). Layer a.g.figures (ends_by a.end) [] (stored_at a.g.figures c.put-end.new.0 n)) (asked o).wide c.put-end.ensures.0
+    subst (λ (n : ℕ). Layer a.g.figures (ends_by a.end) [] (stored_at a.g.figures c.put_end.new.cells n)) (asked o).wide c.put_end.ensures.0
 
 roll-requires : tie.Need-roll-requires
 roll-requires c κs =
@@ -56,7 +56,7 @@ roll-requires c κs =
     record {
       sound = k.asked.sound;
       wide = k.wide;
-      fits = omega (arith, put.put-end.auto.0, k.fits);
+      fits = omega (arith, put.put_end.auto.cells, k.fits);
       priced = k.asked.priced;
       clocked = k.asked.clocked;
       short = k.asked.short;
@@ -69,19 +69,19 @@ roll-requires c κs =
     }
 
 -- the later quarters, and the layer before them
-abbrev later_quarters : tie.After-midway → List Quarter
-later_quarters c = let a = c.before.before.args in between (quarters_in a.g.hours a.prices.now) c.midway.result a.to
+abbrev later_quarters : tie.After-midway-at → List Quarter
+later_quarters c = let a = c.before.before.args in between (quarters_in a.g.hours a.prices.now) c.midway-at.result a.to
 
-later-long : (c : tie.After-midway) → length (later_quarters c) ≡ c.before.before.args.to - c.midway.result
+later-long : (c : tie.After-midway-at) → length (later_quarters c) ≡ c.before.before.args.to - c.midway-at.result
 later-long c =
     let a = c.before.before.args in
-    between-length (quarters_in a.g.hours a.prices.now) c.midway.result a.to (omega (arith, middle c))
+    between-length (quarters_in a.g.hours a.prices.now) c.midway-at.result a.to (omega (arith, middle c))
     (omega (arith, quarters-length (opens a.g.hours) 0 a.prices.now, (asked c.before.before).asked.inside))
 
 layer : (c : tie.After-roll) →
     let mid = c.before.before.before.before.before in
     let a = mid.before.before.args in
-    Layer a.g.figures (ends_by a.end) (later_quarters mid) (value_of a.g.figures a.g.width c.roll.new.0)
+    Layer a.g.figures (ends_by a.end) (later_quarters mid) (value_of a.g.figures a.g.width c.roll.new.scratch)
 layer c =
     let put = c.before.before.before in
     let mid = put.before.before in
@@ -102,7 +102,7 @@ mark-requires c κs =
       record {
         sound = k.asked.sound;
         wide = k.wide;
-        marks = omega (arith, rolled.roll.auto.0, put.put-end.auto.0, k.fits);
+        marks = omega (arith, rolled.roll.auto.scratch, put.put_end.auto.cells, k.fits);
         priced = k.asked.priced;
         clocked = k.asked.clocked;
         ordered = m.0;
@@ -127,22 +127,22 @@ returns c =
     let a = o.args in
     let k = asked o in
     let m = made.mark.ensures in
-    let inside : mid.midway.result ≤ length (quarters_in a.g.hours a.prices.now) =
+    let inside : mid.midway-at.result ≤ length (quarters_in a.g.hours a.prices.now) =
     omega (arith, quarters-length (opens a.g.hours) 0 a.prices.now, k.asked.inside, middle mid) in
-    let early = between-length (quarters_in a.g.hours a.prices.now) a.from mid.midway.result (middle mid).0 inside in
-    let early_quarters = between (quarters_in a.g.hours a.prices.now) a.from mid.midway.result in
+    let early = between-length (quarters_in a.g.hours a.prices.now) a.from mid.midway-at.result (middle mid).0 inside in
+    let early_quarters = between (quarters_in a.g.hours a.prices.now) a.from mid.midway-at.result in
     let both : length (later_quarters mid) + length early_quarters ≡ length (early_quarters ++ later_quarters mid) =
     omega (arith, length-append early_quarters (later_quarters mid)) in
     record {
       marked =
-          rw mid.midway.ensures at
+          rw mid.midway-at.ensures at
           (subst
           (λ (n : ℕ). MarkedAt a.g.figures n (ends_by a.end) early_quarters (later_quarters mid) (λ x. pos (index a.g.figures x))
-          (value_of a.g.figures a.g.width made.mark.new.0) (mark_of a.g.figures a.g.width made.mark.new.0)) both
+          (value_of a.g.figures a.g.width made.mark.new.cells) (mark_of a.g.figures a.g.width made.mark.new.cells)) both
           (m.marked (ends_by a.end) (later_quarters mid) (length (later_quarters mid)) (layer rolled)
           (omega (arith, early, later-long mid, middle mid, k.asked.inside, k.asked.short))));
       beyond = λ j h.
-          m.beyond j h ∙ same-beyond (a.g.width + a.g.width) _ _ rolled.roll.ensures.1 j h ∙ put.put-end.ensures.1 j (inr (omega (arith, h)));
+          m.beyond j h ∙ same-beyond (a.g.width + a.g.width) _ _ rolled.roll.ensures.1 j h ∙ put.put_end.ensures.1 j (inr (omega (arith, h)));
     }
 
 pub pass_spec : {M : Type 1} → statement M

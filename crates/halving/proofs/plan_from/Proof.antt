@@ -54,10 +54,10 @@ returns c =
       s.tried ∙ ap (λ (p : Plan). tries_over a.f.block a.f.pmin (schedule_of p)) (same o),
       (
         s.written ∙ ap (λ (p : Plan). schedule_of p ++ drop (length a.prices.now) a.schedule.now) (same o),
-        same_from a.cells.now made.halves.new.0 _ made.halves.auto.0 made.halves.ensures.1,
+        same_from a.cells.now made.halves.new.cells _ made.halves.auto.cells made.halves.ensures.1,
       ),
     )
 
-pub plan-from-spec : {M : Type 1} → statement M
-plan-from-spec =
+pub plan_from_spec : {M : Type 1} → statement M
+plan_from_spec =
     tie.close (tie.spec (λ c. search rules) halves-requires (λ c. search rules) (λ c. search rules) returns)

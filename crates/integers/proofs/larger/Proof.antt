@@ -7,19 +7,19 @@ use Rattle.integers.proofs.Ranges.{plain_fits, lt-plain}
 use Rattle.integers.proofs.larger.Statement.{statement}
 use Rattle.integers.proofs.larger.Tie as tie
 
-returns : tie.Need-returns
+returns : tie.Need-returns-then-a-b
 unfolding maxℤ
 returns c =
     let o = c.before in
-    let t : lt_z o.args.a o.args.b ≡ true = lt-plain o.ranges.a o.ranges.b c.if1.true in
+    let t : lt_z o.args.a o.args.b ≡ true = lt-plain o.ranges.a o.ranges.b c.if-a-b.true in
     simp t (plain_fits o.ranges.b)
 
-returns-2 : tie.Need-returns-2
+returns-2 : tie.Need-returns-else-a-b
 unfolding maxℤ
 returns-2 c =
     let o = c.before in
-    let t : lt_z o.args.a o.args.b ≡ false = lt-plain o.ranges.a o.ranges.b c.if1.false in
+    let t : lt_z o.args.a o.args.b ≡ false = lt-plain o.ranges.a o.ranges.b c.if-a-b.false in
     simp t (plain_fits o.ranges.a)
 
-pub larger-spec : {M : Type 1} → statement M
-larger-spec = tie.close (tie.spec returns returns-2)
+pub larger_spec : {M : Type 1} → statement M
+larger_spec = tie.close (tie.spec returns returns-2)

@@ -8,5 +8,5 @@ use Rattle.integers.proofs.signed.Tie as tie
 returns : tie.Need-returns
 returns c = plain (within-at c.args.x) (omega arith)
 
-pub signed-spec : {M : Type 1} → statement M
-signed-spec = tie.close (tie.spec (λ c. search rules) returns)
+pub signed_spec : {M : Type 1} → statement M
+signed_spec = tie.close (tie.spec (λ c. search rules) returns)

@@ -20,13 +20,13 @@ use Rattle.layers.proofs.Filling.{PricedOver, FilledFrom, layer-small, filled-la
 use Rattle.layers.proofs.fill.Statement.{statement}
 use Rattle.layers.proofs.fill.Tie as tie
 
-abbrev invariant-loop : tie.invariant-loop
+abbrev invariant-loop : tie.invariant-loop-t
 invariant-loop scratch₀ w f prices hours first t₀ at₀ scratch t at =
     (t ≤ length prices) × (at ≡ t * width f)
     × ((ends : Cell → BestProfit) → Layer f ends [] (stored_at f scratch₀ (length (quarters_on hours first prices) * width f))
     → FilledFrom f ends (quarters_on hours first prices) scratch₀ scratch t)
 
-abbrev decreases-loop : tie.decreases-loop
+abbrev decreases-loop : tie.decreases-loop-t
 decreases-loop scratch₀ w f prices hours first t₀ at₀ scratch t at = t
 
 -- the quarters, as many as there are prices
@@ -36,16 +36,16 @@ quarters_at c = quarters_on c.args.hours c.args.first c.args.prices.now
 as_many : (c : tie.Start invariant-loop decreases-loop) → length (quarters_at c) ≡ length c.args.prices.now
 as_many c = quarters-length (opens c.args.hours) c.args.first c.args.prices.now
 
-loop-holds : tie.Need-loop-init invariant-loop decreases-loop
+loop-holds : tie.Need-loop-t-init invariant-loop decreases-loop
 loop-holds c =
     let a = c.args in
     (omega arith, rw c.requires.0.1, λ ends last. rw (as_many c) at (filled-last a.f ends (quarters_at c) a.scratch.now last))
 
 -- by the ends that the last layer is known to have
-filled : (c : tie.At-loop invariant-loop decreases-loop) →
+filled : (c : tie.At-loop-t invariant-loop decreases-loop) →
     let a = c.before.args in
-    FilledFrom a.f c.before.requires.1.0.ends (quarters_at c.before) a.scratch.now c.loop.scratch c.loop.t
-filled c = c.loop.invariant.2 c.before.requires.1.0.ends (rw (as_many c.before) c.before.requires.1.0.last)
+    FilledFrom a.f c.before.requires.1.0.ends (quarters_at c.before) a.scratch.now c.loop-t.scratch c.loop-t.t
+filled c = c.loop-t.invariant.2 c.before.requires.1.0.ends (rw (as_many c.before) c.before.requires.1.0.last)
 
 -- what a turn finds
 record Turn (f : Figures) (w : ℕ) (prices s : List ℤ) (at t : ℕ) : Type 0 where
@@ -56,15 +56,15 @@ record Turn (f : Figures) (w : ℕ) (prices s : List ℤ) (at t : ℕ) : Type 0 
   fits : at + w ≤ length s
   price : nat_abs (get_or prices (t - 1) (pos 0)) ≤ most_price
 
-here : (c : tie.In-loop invariant-loop decreases-loop) →
+here : (c : tie.In-loop-t invariant-loop decreases-loop) →
     let a = c.before.before.args in
-    let l = c.before.loop in
+    let l = c.before.loop-t in
     Turn a.f a.w a.prices.now l.scratch l.at l.t
 here c =
     let o = c.before.before in
     let a = o.args in
-    let l = c.before.loop in
-    let lt = c.loop-test.true in
+    let l = c.before.loop-t in
+    let lt = c.loop-t-test.true in
     let t = next-layer l.t (length a.prices.now) (width a.f) l.at (length l.scratch) lt l.invariant.0 l.invariant.1
     (omega (arith, o.requires.0.0.fits, (filled c.before).same)) in
     let e = o.requires.0.1 in
@@ -78,36 +78,36 @@ here c =
     }
 
 -- the quarter of a turn
-quarter-is : (c : tie.In-loop invariant-loop decreases-loop) →
+quarter-is : (c : tie.In-loop-t invariant-loop decreases-loop) →
     let o = c.before.before in
-    let t = c.before.loop.t - 1 in
+    let t = c.before.loop-t.t - 1 in
     get_or (quarters_at o) t no_quarter ≡ quarter (get_or o.args.prices.now t (pos 0)) (opens o.args.hours (o.args.first + t))
 quarter-is c =
     let o = c.before.before in
-    let t = c.before.loop.t - 1 in
-    let inside : t < length o.args.prices.now = omega (arith, c.loop-test.true, c.before.loop.invariant.0) in
+    let t = c.before.loop-t.t - 1 in
+    let inside : t < length o.args.prices.now = omega (arith, c.loop-t-test.true, c.before.loop-t.invariant.0) in
     quarter-at (opens o.args.hours) o.args.first o.args.prices.now t inside
 
-add-opens-in : tie.Need-overflow-add-opens-in invariant-loop decreases-loop
+add-opens-in : tie.Need-overflow_add-first invariant-loop decreases-loop
 add-opens-in c =
     let at-loop = c.before.before.before in
-    omega (arith, c.before.before.loop-test.true, at-loop.loop.invariant.0, at-loop.before.requires.1.1)
+    omega (arith, c.before.before.loop-t-test.true, at-loop.loop-t.invariant.0, at-loop.before.requires.1.1)
 
-opens-in-requires : tie.Need-opens-in-requires invariant-loop decreases-loop
+opens-in-requires : tie.Need-opens_in-requires invariant-loop decreases-loop
 opens-in-requires c κs =
     let at-loop = c.before.before.before in
     let o = at-loop.before in
-    (omega (arith, c.before.before.loop-test.true, at-loop.loop.invariant.0, o.requires.1.1), o.requires.0.3)
+    (omega (arith, c.before.before.loop-t-test.true, at-loop.loop-t.invariant.0, o.requires.1.1), o.requires.0.3)
 
-fill-layer-requires : tie.Need-fill-layer-requires invariant-loop decreases-loop
+fill-layer-requires : tie.Need-fill_layer-requires invariant-loop decreases-loop
 fill-layer-requires c κs =
     let priced = c.before in
     let at-loop = priced.before.before.before in
     let o = at-loop.before in
     let a = o.args in
-    let l = at-loop.loop in
+    let l = at-loop.loop-t in
     let t = here priced.before.before in (
-      record { sound = o.requires.0.0.sound; priced = rw (plain_fits (record { sfits = priced.fill-layer-arg2.given })) t.price },
+      record { sound = o.requires.0.0.sound; priced = rw (plain_fits (record { sfits = priced.fill_layer-arg-in-loop-t-1.given })) t.price },
       o.requires.0.1,
       record {
         before = omega arith;
@@ -127,26 +127,26 @@ priced-over c i h =
     let inside : i < length a.prices.now = omega (arith, h, as_many c) in
     rw (quarter-at (opens a.hours) a.first a.prices.now i inside) (c.requires.0.2 i inside)
 
-loop-again : tie.Need-loop-preserved invariant-loop decreases-loop
+loop-again : tie.Need-loop-t-preserved invariant-loop decreases-loop
 loop-again c =
     let opened = c.before.before in
     let priced = opened.before in
     let in-loop = priced.before.before in
     let o = in-loop.before.before in
     let a = o.args in
-    let l = in-loop.before.loop in
+    let l = in-loop.before.loop-t in
     let t = here in-loop in
     let made =
-    rw (plain_fits (record { sfits = priced.fill-layer-arg2.given }), t.start, opened.opens_in.ensures, ← quarter-is in-loop) at
-    c.before.fill-layer.ensures in (
+    rw (plain_fits (record { sfits = priced.fill_layer-arg-in-loop-t-1.given }), t.start, opened.opens_in.ensures, ← quarter-is in-loop) at
+    c.before.fill_layer.ensures in (
       omega (arith, l.invariant.0),
       t.start,
       λ ends last.
           filled_next a.f ends (quarters_at o) a.scratch.now o.requires.0.0.sound (priced-over o) (omega (arith, as_many o, o.requires.0.0.short))
           l.scratch
-          c.before.fill-layer.new.0 (l.t - 1)
-          (omega (arith, as_many o, l.invariant.0, in-loop.loop-test.true))
-          c.before.fill-layer.auto.0
+          c.before.fill_layer.new.scratch (l.t - 1)
+          (omega (arith, as_many o, l.invariant.0, in-loop.loop-t-test.true))
+          c.before.fill_layer.auto.scratch
           (rw (sym t.one) at (l.invariant.2 ends last))
           made,
     )
@@ -155,8 +155,8 @@ returns : tie.Need-returns invariant-loop decreases-loop
 returns c =
     let o = c.before.before in
     let a = o.args in
-    let l = c.before.loop in
-    let z : l.t ≡ 0 = omega (arith, c.loop-test.false) in (
+    let l = c.before.loop-t in
+    let z : l.t ≡ 0 = omega (arith, c.loop-t-test.false) in (
       (λ ends last. filled-done a.f ends (quarters_at o) a.scratch.now l.scratch (rw z at (l.invariant.2 ends last))),
       rw (o.requires.0.1, ← as_many o)
           (filled-beyond a.f o.requires.1.0.ends (quarters_at o) a.scratch.now l.scratch (rw z at (filled c.before))),
@@ -166,6 +166,6 @@ pub fill_spec : {M : Type 1} → statement M
 fill_spec =
     tie.close
     (tie.spec invariant-loop decreases-loop (λ c. let room = c.requires.0.0.fits in let e = c.requires.0.1 in rw e (omega arith)) loop-holds
-    (λ c. omega arith) (λ c. omega (arith, (here c).low)) (λ c. omega (arith, c.before.loop-test.true, c.before.before.loop.invariant.0))
-    (λ c. omega (arith, c.before.loop-test.true, c.before.before.loop.invariant.0)) add-opens-in opens-in-requires fill-layer-requires
-    (λ c. omega (arith, c.before.before.before.before.before.loop-test.true)) loop-again (λ c. (filled c.before).same) returns)
+    (λ c. omega arith) (λ c. omega (arith, (here c).low)) (λ c. omega (arith, c.before.loop-t-test.true, c.before.before.loop-t.invariant.0))
+    (λ c. omega (arith, c.before.loop-t-test.true, c.before.before.loop-t.invariant.0)) add-opens-in opens-in-requires fill-layer-requires
+    (λ c. omega (arith, c.before.before.before.before.before.loop-t-test.true)) loop-again (λ c. (filled c.before).same) returns)

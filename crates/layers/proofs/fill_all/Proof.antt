@@ -24,7 +24,7 @@ fits c = let room = c.requires.0.fits in omega arith
 -- the last layer, put
 put_is : (c : tie.After-put) →
     let a = c.before.before.args in
-    c.put.new.0 ≡ put_in a.scratch.now (length a.prices.now * width a.f) (width a.f) (pos 0)
+    c.put.new.scratch ≡ put_in a.scratch.now (length a.prices.now * width a.f) (width a.f) (pos 0)
 put_is c = rw c.before.before.requires.1 at c.put.ensures
 
 fill-requires : tie.Need-fill-requires
@@ -32,7 +32,7 @@ fill-requires c κs =
     let put = c.before.before in
     let o = put.before.before in
     let a = o.args in (
-      (rw put.put.auto.0 o.requires.0, o.requires.1, o.requires.2, o.requires.3),
+      (rw put.put.auto.scratch o.requires.0, o.requires.1, o.requires.2, o.requires.3),
       (
         record {
           ends = anywhere;
@@ -60,12 +60,12 @@ returns c =
     let w = width a.f in (
       c.before.fill.ensures.0 anywhere (rw (put_is put, quarters-length (opens a.hours) 0 a.prices.now)
           (ends-anywhere a.f a.scratch.now (n * w) (fits o))),
-      rw o.requires.1 (behind n w a.scratch.now put.put.new.0 c.before.fill.new.0 (fits o) (put_is put) put.put.auto.0
+      rw o.requires.1 (behind n w a.scratch.now put.put.new.scratch c.before.fill.new.scratch (fits o) (put_is put) put.put.auto.scratch
           (rw o.requires.1 at c.before.fill.ensures.1)),
     )
 
-pub fill-all-spec : {M : Type 1} → statement M
-fill-all-spec =
+pub fill_all_spec : {M : Type 1} → statement M
+fill_all_spec =
     tie.close
     (tie.spec (λ c. rw c.before.requires.1 (omega (arith, fits c.before))) (λ c κs. rw c.before.requires.1 (fits c.before))
     fill-requires (λ c. search rules) returns)

@@ -15,23 +15,23 @@ use Rattle.listing.proofs.put_interval.Tie as tie
 parts : (c : tie.Start) → length (interval_line c.args.interval c.args.mw) ≡ length (number c.args.interval) + 1 + length (number c.args.mw) + 1
 parts c = simp length-append (omega arith)
 
-put-number-requires : tie.Need-put-number-requires
+put-number-requires : tie.Need-put_number-comma-requires
 put-number-requires c κs = omega (arith, parts c.before.before)
 
-put-byte-requires : tie.Need-put-byte-requires
+put-byte-requires : tie.Need-put_byte-output-requires
 put-byte-requires c κs =
     let first = c.before.before.before in
     let s = first.before.before.before in
     omega (arith, parts s)
 
-put-number-requires-2 : tie.Need-put-number-requires-2
+put-number-requires-2 : tie.Need-put_number-end-requires
 put-number-requires-2 c κs =
     let comma = c.before.before.before in
     let first = comma.before.before.before.before in
     let s = first.before.before.before in
     omega (arith, parts s)
 
-put-byte-requires-2 : tie.Need-put-byte-requires-2
+put-byte-requires-2 : tie.Need-put_byte-requires
 put-byte-requires-2 c κs =
     let second = c.before.before.before in
     let comma = second.before.before.before.before in
@@ -47,11 +47,11 @@ returns c =
     let s = first.before.before.before in
     let line = parts s in
     put_then (omega (arith, length-append (number s.args.interval) (44 ∷ number s.args.mw)))
-    (put_then (omega arith) first.put-number.ensures (put_then (omega arith) comma.put_byte.ensures second.put-number2.ensures))
-    c.before.before.put-byte2.ensures
+    (put_then (omega arith) first.put_number-comma.ensures (put_then (omega arith) comma.put_byte-output.ensures second.put_number-end.ensures))
+    c.before.before.put_byte.ensures
 
-pub put-interval-spec : {M : Type 1} → statement M
-put-interval-spec =
+pub put_interval_spec : {M : Type 1} → statement M
+put_interval_spec =
     tie.close
     (tie.spec
     put-number-requires

@@ -10,21 +10,21 @@ use Rattle.listing.proofs.Writing.{put-none, put_as}
 use Rattle.listing.proofs.put_window.Statement.{statement}
 use Rattle.listing.proofs.put_window.Tie as tie
 
-put-hours-requires : tie.Need-put-hours-requires
+put-hours-requires : tie.Need-put_hours-requires
 put-hours-requires c κs =
-    let told = c.before.before in
-    let word = told.word.given.1 in
-    let s = told.before.before.before in
+    let told = c.before in
+    let word = c.before.in-Word.is in
+    let s = c.before.before.before in
     (kept-below word s.requires.0, omega (arith, ap (λ (w : HourWord). length (window_line w)) word, s.requires.1))
 
-returns : tie.Need-returns
-returns c = put_as (sym (ap window_line c.enum_told.given.1)) (put-none _ _)
+returns : tie.Need-returns-in-None
+returns c = put_as (sym (ap window_line c.in-None.is)) (put-none _ _)
 
-returns-2 : tie.Need-returns-2
-returns-2 c = put_as (sym (ap window_line c.before.before.before.before.before.word.given.1)) c.before.before.put-hours.ensures
+returns-2 : tie.Need-returns-in-Word
+returns-2 c = put_as (sym (ap window_line c.before.before.before.before.in-Word.is)) c.before.before.put_hours.ensures
 
-pub put-window-spec : {M : Type 1} → statement M
-put-window-spec =
+pub put_window_spec : {M : Type 1} → statement M
+put_window_spec =
     tie.close
     (tie.spec
     (λ c. search rules)

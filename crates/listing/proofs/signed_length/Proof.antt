@@ -17,22 +17,22 @@ use Rattle.listing.proofs.signed_length.Tie as tie
 value-plain : (c : tie.Start) → to_z w64 (of_z w64 c.args.value) ≡ c.args.value
 value-plain c = plain_fits c.ranges.value
 
-digits : (c : tie.After-number-length) → c.number-length.result ≡ length (number (nat_abs c.before.before.args.value))
-digits c = c.number-length.ensures ∙ ap (λ (n : ℕ). length (number n)) (c.before.magnitude.ensures ∙ ap nat_abs (value-plain c.before.before))
+digits : (c : tie.After-number_length-digits) → c.number_length-digits.result ≡ length (number (nat_abs c.before.before.args.value))
+digits c = c.number_length-digits.ensures ∙ ap (λ (n : ℕ). length (number n)) (c.before.magnitude.ensures ∙ ap nat_abs (value-plain c.before.before))
 
-add-result : tie.Need-overflow-add-result
+add-result : tie.Need-overflow_add-result
 add-result c = omega (arith, digits c.before, number_short (nat_abs c.before.before.before.args.value))
 
-returns : tie.Need-returns
+returns : tie.Need-returns-then-value-lt0
 returns c =
     let s = c.before.before.before in
-    omega (arith, digits c.before, ap length (signed_below s.args.value (rw (value-plain s) at c.if1.true)))
+    omega (arith, digits c.before, ap length (signed_below s.args.value (rw (value-plain s) at c.if-value-lt0.true)))
 
-returns-2 : tie.Need-returns-2
+returns-2 : tie.Need-returns
 returns-2 c =
     let s = c.before.before.before in
-    digits c.before ∙ sym (ap length (signed-not-below s.args.value (rw (value-plain s) at c.if1.false)))
+    digits c.before ∙ sym (ap length (signed-not-below s.args.value (rw (value-plain s) at c.if-value-lt0.false)))
 
-pub signed-length-spec : {M : Type 1} → statement M
-signed-length-spec =
+pub signed_length_spec : {M : Type 1} → statement M
+signed_length_spec =
     tie.close (tie.spec (λ c κs. search rules) (λ c κs. search rules) add-result returns returns-2)

@@ -18,7 +18,7 @@ put-requires c κs = let o = c.before in let a = o.args in rw (lent o).wide (two
 -- what is put behind
 put_is : (c : tie.After-put) →
     let a = c.before.before.args in
-    c.put.new.0 ≡ put_in a.scratch.now (width a.f) (width a.f) (pos 0)
+    c.put.new.scratch ≡ put_in a.scratch.now (width a.f) (width a.f) (pos 0)
 put_is c = rw (lent c.before.before).wide at c.put.ensures
 
 roll-requires : tie.Need-roll-requires
@@ -27,7 +27,7 @@ roll-requires c κs =
     let o = put.before.before in
     let a = o.args in
     rw (put_is put)
-    (all_asked a.f a.w a.prices.now a.scratch.now a.hours (lent o) o.requires.1 (rw (put_is put) at put.put.auto.0))
+    (all_asked a.f a.w a.prices.now a.scratch.now a.hours (lent o) o.requires.1 (rw (put_is put) at put.put.auto.scratch))
 
 returns : tie.Need-returns
 returns c =
@@ -35,11 +35,11 @@ returns c =
     let put = made.before.before.before in
     let o = put.before.before in
     let a = o.args in (
-      all-rolled a.f a.w a.prices.now a.scratch.now a.hours (lent o) made.roll.new.0 (rw (put_is put) at made.roll.ensures.0),
+      all-rolled a.f a.w a.prices.now a.scratch.now a.hours (lent o) made.roll.new.scratch (rw (put_is put) at made.roll.ensures.0),
       made.roll.ensures.1
           ∙ (rw (put_is put, (lent o).wide)
-          (put-beyond a.f a.w a.prices.now a.scratch.now a.hours (lent o) (rw (put_is put) at put.put.auto.0))),
+          (put-beyond a.f a.w a.prices.now a.scratch.now a.hours (lent o) (rw (put_is put) at put.put.auto.scratch))),
     )
 
-pub roll-all-spec : {M : Type 1} → statement M
-roll-all-spec = tie.close (tie.spec put-requires roll-requires (λ c. search rules) returns)
+pub roll_all_spec : {M : Type 1} → statement M
+roll_all_spec = tie.close (tie.spec put-requires roll-requires (λ c. search rules) returns)

@@ -14,11 +14,11 @@ returns : tie.Need-returns
 returns c =
     let a = c.before.before.before.before.before.before.before.before.args in
     let found = plan_checked a.unit a.prices.now (length a.scratch.now) (length a.schedule.now) in
-    let report = c.before.before.before.before.report-into.ensures in (
-      c.plan-of.ensures ∙ ap plan_in report.0 ∙ plan-in found (best a.unit a.prices.now) (outcomes_of a.unit a.prices.now),
+    let report = c.before.before.before.before.report_into.ensures in (
+      c.plan_of.ensures ∙ ap plan_in report.0 ∙ plan-in found (best a.unit a.prices.now) (outcomes_of a.unit a.prices.now),
       report.1,
     )
 
-pub plan-into-spec : {M : Type 1} → statement M
-plan-into-spec =
+pub plan_into_spec : {M : Type 1} → statement M
+plan_into_spec =
     tie.close (tie.spec (λ c κs. search rules) (λ c κs. search rules) (λ c. search rules) (λ c. search rules) returns)

@@ -62,32 +62,32 @@ long-passed c e =
     let long = (lent a.unit a.prices.now (leb (length a.prices.now) (length a.schedule.now)) (length a.scratch.now) e).entries in
     (rw long at e, leb-true (length a.prices.now) (length a.schedule.now) long)
 
-report-case-requires : tie.Need-report-case-requires
+report-case-requires : tie.Need-report_case-requires
 report-case-requires c κs =
     let told = c.before.before in
-    let check = told.before.before in
+    let check = told.before in
     let s = check.before.before in
-    long-passed s (sym check.check-lent.ensures ∙ told.enum_told.given.1)
+    long-passed s (sym check.check_lent.ensures ∙ told.in-Passed.is)
 
-returns : tie.Need-returns
+returns : tie.Need-returns-in-Refused
 returns c =
-    let check = c.before.before.before in
+    let check = c.before in
     let s = check.before.before in
-    let found = sym check.check-lent.ensures ∙ c.before.cause.given.1 in
+    let found = sym check.check_lent.ensures ∙ c.in-Refused.is in
     (answer-is s found, (schedule-is s found, ap (cells s) (sym found)))
 
-returns-2 : tie.Need-returns-2
+returns-2 : tie.Need-returns-in-Passed
 returns-2 c =
     let case = c.before.before.before in
     let told = case.before.before.before in
-    let check = told.before.before in
+    let check = told.before in
     let s = check.before.before in
-    let found = sym check.check-lent.ensures ∙ told.enum_told.given.1 in
-    let r = case.report-case.ensures in
+    let found = sym check.check_lent.ensures ∙ told.in-Passed.is in
+    let r = case.report_case.ensures in
     (r.0 ∙ answer-is s found, (r.1.0 ∙ schedule-is s found, r.1.1 ∙ ap (cells s) (sym found)))
 
-pub report-into-spec : {M : Type 1} → statement M
-report-into-spec =
+pub report_into_spec : {M : Type 1} → statement M
+report_into_spec =
     tie.close
     (tie.spec
     (λ c κs. search rules)

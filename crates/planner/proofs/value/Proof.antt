@@ -36,21 +36,21 @@ module _ (c : tie.Start) {k : Checked} (found : lent_checked c.args.unit c.args.
   cells_are : cells c k ≡ scratch_valued c.args.unit c.args.prices.now c.args.scratch.now
   cells_are = ap (cells c) lent_is
 
-value-case-requires : tie.Need-value-case-requires
-value-case-requires c κs = let check = c.before.before.before in sym check.check-lent.ensures ∙ c.before.enum_told.given.1
+value-case-requires : tie.Need-value_case-requires
+value-case-requires c κs = let check = c.before.before in sym check.check_lent.ensures ∙ c.before.in-Passed.is
 
-returns : tie.Need-returns
+returns : tie.Need-returns-in-Refused
 returns c =
-    let check = c.before.before.before in
-    let found = sym check.check-lent.ensures ∙ c.before.cause.given.1 in
+    let check = c.before in
+    let found = sym check.check_lent.ensures ∙ c.in-Refused.is in
     (answer-is check.before found, cells_are check.before found)
 
-returns-2 : tie.Need-returns-2
+returns-2 : tie.Need-returns-in-Passed
 returns-2 c =
     let told = c.before.before.before in
-    let check = told.before.before in
-    let found = sym check.check-lent.ensures ∙ told.enum_told.given.1 in
-    (c.before.value-case.ensures.0 ∙ answer-is check.before found, c.before.value-case.ensures.1 ∙ cells_are check.before found)
+    let check = told.before in
+    let found = sym check.check_lent.ensures ∙ told.in-Passed.is in
+    (c.before.value_case.ensures.0 ∙ answer-is check.before found, c.before.value_case.ensures.1 ∙ cells_are check.before found)
 
 pub value_spec : {M : Type 1} → statement M
 value_spec =

@@ -33,5 +33,5 @@ decided quotient rest den h = ap₂ (λ (o t : Bool). o || (t && not (even quoti
 returns : tie.Need-returns
 returns c = decided c.args.quotient c.args.rest c.args.den c.requires
 
-pub goes-up-spec : {M : Type 1} → statement M
-goes-up-spec = tie.close (tie.spec (λ c. search rules) returns)
+pub goes_up_spec : {M : Type 1} → statement M
+goes_up_spec = tie.close (tie.spec (λ c. search rules) returns)

@@ -7,7 +7,7 @@ use Rattle.rounding.proofs.left_over.Tie as tie
 sizes : (c : tie.Start) → Divided c.args.num c.args.den
 sizes c = divided c.args.num c.args.den c.requires
 
-rem-result : tie.Need-nonzero-rem-result
+rem-result : tie.Need-nonzero_rem-result
 rem-result c =
     let d = sizes c.before in
     rw (c.signed.ensures, d.over, d.under) (c.before.requires.den-some, d.fits)
@@ -17,5 +17,5 @@ returns c =
     let d = sizes c.before in
     rw (c.signed.ensures, d.over, d.under) d.left
 
-pub left-over-spec : {M : Type 1} → statement M
-left-over-spec = tie.close (tie.spec (λ c κs. search rules) rem-result returns)
+pub left_over_spec : {M : Type 1} → statement M
+left_over_spec = tie.close (tie.spec (λ c κs. search rules) rem-result returns)

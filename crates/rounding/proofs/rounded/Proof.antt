@@ -9,10 +9,10 @@ use Rattle.rounding.proofs.Rounding.{goes}
 use Rattle.rounding.proofs.rounded.Statement.{statement}
 use Rattle.rounding.proofs.rounded.Tie as tie
 
-goes-up-requires : tie.Need-goes-up-requires
+goes-up-requires : tie.Need-goes_up-requires
 goes-up-requires c κs = mod-lt c.args.num c.requires
 
-add-result : tie.Need-overflow-add-result
+add-result : tie.Need-overflow_add-result
 add-result c =
     let o = c.before.before in
     let a = o.args in
@@ -21,16 +21,16 @@ add-result c =
       div-add-mod' a.num a.den,
       mod-lt a.num o.requires,
       le-mul_of_pos_right (a.num / a.den) o.requires,
-      (goes (a.num / a.den) (a.num % a.den) a.den (sym c.before.goes-up.ensures ∙ c.if1.true)).0,
+      (goes (a.num / a.den) (a.num % a.den) a.den (sym c.before.goes_up.ensures ∙ c.if-goes_up.true)).0,
     )
 
-returns : tie.Need-returns
+returns : tie.Need-returns-then-goes_up
 unfolding rounded
-returns c = simp (sym c.before.goes-up.ensures ∙ c.if1.true)
+returns c = simp (sym c.before.goes_up.ensures ∙ c.if-goes_up.true)
 
-returns-2 : tie.Need-returns-2
+returns-2 : tie.Need-returns
 unfolding rounded
-returns-2 c = simp (sym c.before.goes-up.ensures ∙ c.if1.false)
+returns-2 c = simp (sym c.before.goes_up.ensures ∙ c.if-goes_up.false)
 
-pub rounded-spec : {M : Type 1} → statement M
-rounded-spec = tie.close (tie.spec (λ c. search rules) (λ c. search rules) goes-up-requires add-result returns returns-2)
+pub rounded_spec : {M : Type 1} → statement M
+rounded_spec = tie.close (tie.spec (λ c. search rules) (λ c. search rules) goes-up-requires add-result returns returns-2)

@@ -18,30 +18,28 @@ use Rattle.valuation.proofs.gap_between.Tie as tie
 within-told : {b : BestProfit} (z : ℤ) → nat_abs (amount b) < most_amount → b ≡ Profit z → Within most_amount z
 within-told z h e = within-weaken (omega (arith, subst (λ (b : BestProfit). nat_abs (amount b) < most_amount) e h)) (within-abs z)
 
-most-within : (c : tie.After-known-told2) → Within most_amount c.before.first.given.0.0
-most-within c = let z = c.before.first.given in within-told z.0.0 c.before.before.before.before.before.before.requires.0 z.1
+most-within : (c : tie.In-Profit-first) → Within most_amount c.in-Profit-first.most
+most-within c = within-told c.in-Profit-first.most c.before.before.requires.0 c.in-Profit-first.is
 
-least-within : (c : tie.After-known-told2) → Within most_amount c.before.before.before.before.lower.given.0.0
-least-within c = let told = c.before.before.before.before in within-told told.lower.given.0.0 told.before.before.requires.1 told.lower.given.1
+least-within : (c : tie.In-Profit-first) → Within most_amount c.before.in-Profit.least
+least-within c = within-told c.before.in-Profit.least c.before.before.requires.1 c.before.in-Profit.is
 
-most-fits : (c : tie.After-known-told2) → SFits w64 c.before.first.given.0.0
+most-fits : (c : tie.In-Profit-first) → SFits w64 c.in-Profit-first.most
 most-fits c = within-fits (most-within c) (lit< tt)
 
-least_fits : (c : tie.After-known-told2) → SFits w64 c.before.before.before.before.lower.given.0.0
+least_fits : (c : tie.In-Profit-first) → SFits w64 c.before.in-Profit.least
 least_fits c = within-fits (least-within c) (lit< tt)
 
-sub-t5 : tie.Need-overflow-sub-t5
+sub-t5 : tie.Need-overflow_sub-result
 sub-t5 c = simp (plain_fits (most-fits c), plain_fits (least_fits c)) (within-fits (within-diff (most-within c) (least-within c)) (lit< tt))
 
-returns-3 : tie.Need-returns-3
+returns-3 : tie.Need-returns
 returns-3 c =
-    let p = c.before.first.given in
-    let q = c.before.before.before.before.lower.given in
     simp (plain_fits (most-fits c), plain_fits (least_fits c), plain_fits (within-fits (within-diff (most-within c) (least-within c)) (lit< tt)))
-    (sym (ap₂ gap_between p.1 q.1))
+    (sym (ap₂ gap_between c.in-Profit-first.is c.before.in-Profit.is))
 
-pub gap-between-spec : {M : Type 1} → statement M
-gap-between-spec =
+pub gap_between_spec : {M : Type 1} → statement M
+gap_between_spec =
     tie.close
     (tie.spec
     (λ c. search rules)

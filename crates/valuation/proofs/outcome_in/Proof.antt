@@ -15,8 +15,8 @@ use borrow.Author.Rules.{rules}
 use Rattle.valuation.proofs.outcome_in.Statement.{statement}
 use Rattle.valuation.proofs.outcome_in.Tie as tie
 
-limit_is : (c : tie.After-limit) → let a = c.before.before.before.before.args in limit_for a.unit.limits a.which ≡ At c.limit.given.0.0
-limit_is c = sym c.before.before.limit-for.ensures ∙ c.limit.given.1
+limit_is : (c : tie.In-At) → let a = c.before.before.before.args in limit_for a.unit.limits a.which ≡ At c.in-At.figure
+limit_is c = sym c.before.limit_for-limit.ensures ∙ c.in-At.is
 
 -- the outcome by the limitation's figure
 abbrev outcome : tie.Start → Limit → Outcome
@@ -24,32 +24,32 @@ outcome c l = gap_under (λ (k : ℕ). profit_of (best (run_at c.args.unit c.arg
 
 lowered-requires : tie.Need-lowered-requires
 lowered-requires c κs =
-    let limit = c.before in
-    let s = limit.before.before.before.before in
+    let limit = c in
+    let s = c.before.before.before in
     let small = limit-small s.args.unit s.requires.0.order.ranges s.args.which in
-    leb-true limit.limit.given.0.0 most_mwh (sym (ap (limit_kept most_mwh) (limit_is limit)) ∙ small)
+    leb-true c.in-At.figure most_mwh (sym (ap (limit_kept most_mwh) (limit_is limit)) ∙ small)
 
-run-pair-requires : tie.Need-run-pair-requires
+run-pair-requires : tie.Need-run_pair-requires
 run-pair-requires c κs =
-    let limit = c.before.before in
-    let s = limit.before.before.before.before in
-    (s.requires, rw (limit_is limit, c.lowered.ensures) (lowered-less limit.limit.given.0.0))
-
-returns : tie.Need-returns
-returns c =
+    let limit = c.before in
     let s = c.before.before.before.before in
-    ap (outcome s) (sym (sym c.before.before.limit-for.ensures ∙ c.enum_told.given.1))
+    (s.requires, rw (limit_is limit, c.lowered.ensures) (lowered-less c.before.in-At.figure))
 
-returns-2 : tie.Need-returns-2
+returns : tie.Need-returns-in-None
+returns c =
+    let s = c.before.before.before in
+    ap (outcome s) (sym (sym c.before.limit_for-limit.ensures ∙ c.in-None.is))
+
+returns-2 : tie.Need-returns-in-At
 returns-2 c =
-    let limit = c.before.before.before in
-    let s = limit.before.before.before.before in
-    c.run-pair.ensures
+    let limit = c.before.before in
+    let s = c.before.before.before.before.before in
+    c.run_pair.ensures
     ∙ ap (gap_at (λ (k : ℕ). profit_of (best (run_at s.args.unit s.args.which k) s.args.prices.now))) c.before.lowered.ensures
     ∙ ap (outcome s) (sym (limit_is limit))
 
-pub outcome-in-spec : {M : Type 1} → statement M
-outcome-in-spec =
+pub outcome_in_spec : {M : Type 1} → statement M
+outcome_in_spec =
     tie.close
     (tie.spec
     (λ c κs. search rules)

@@ -11,8 +11,8 @@ same-outcomes : {a a' b b' d d' : Outcome} → a ≡ a' → b ≡ b' → d ≡ d
 same-outcomes e f g = cc
 
 returns : tie.Need-returns
-returns c = same-outcomes c.before.before.outcome-in.ensures c.before.outcome-in2.ensures c.outcome-in3.ensures
+returns c = same-outcomes c.before.before.outcome_in-starts.ensures c.before.outcome_in-hours.ensures c.outcome_in-mwh.ensures
 
-pub outcomes-in-spec : {M : Type 1} → statement M
-outcomes-in-spec =
+pub outcomes_in_spec : {M : Type 1} → statement M
+outcomes_in_spec =
     tie.close (tie.spec (λ c κs. search rules) (λ c κs. search rules) (λ c κs. search rules) returns)

@@ -28,29 +28,29 @@ small c k h e =
     rw e
     (run_small a.unit a.prices.now a.cells.now c.requires.0.0 (with_limit limits a.which (At k)) (under_one limits a.which (At k) h))
 
-returns : tie.Need-returns
+returns : tie.Need-returns-then-figure-eq0
 returns c =
     let a = c.before.args in
-    ap (gap_at (λ (k : ℕ). profit_of (best (run_at a.unit a.which k) a.prices.now))) (sym c.if1.true)
+    ap (gap_at (λ (k : ℕ). profit_of (best (run_at a.unit a.which k) a.prices.now))) (sym c.if-figure-eq0.true)
 
-run-profit-requires-2 : tie.Need-run-profit-requires-2
+run-profit-requires-2 : tie.Need-run_profit-lower-requires
 run-profit-requires-2 c κs = let s = c.before.before in (s.requires.0, less s)
 
-gap-between-requires : tie.Need-gap-between-requires
+gap-between-requires : tie.Need-gap_between-requires
 gap-between-requires c κs =
     let s = c.before.before.before in
-    (small s s.args.figure s.requires.1 c.before.run-profit.ensures, small s (s.args.figure - 1) (less s) c.run-profit2.ensures)
+    (small s s.args.figure s.requires.1 c.before.run_profit-first.ensures, small s (s.args.figure - 1) (less s) c.run_profit-lower.ensures)
 
-returns-2 : tie.Need-returns-2
+returns-2 : tie.Need-returns
 returns-2 c =
     let first = c.before.before in
     let s = first.before.before in
     let a = s.args in
-    c.gap-between.ensures ∙ ap₂ gap_between first.run-profit.ensures c.before.run-profit2.ensures
-    ∙ sym (gap-above (λ (k : ℕ). profit_of (best (run_at a.unit a.which k) a.prices.now)) a.figure first.before.if1.false)
+    c.gap_between.ensures ∙ ap₂ gap_between first.run_profit-first.ensures c.before.run_profit-lower.ensures
+    ∙ sym (gap-above (λ (k : ℕ). profit_of (best (run_at a.unit a.which k) a.prices.now)) a.figure first.before.if-figure-eq0.false)
 
-pub run-pair-spec : {M : Type 1} → statement M
-run-pair-spec =
+pub run_pair_spec : {M : Type 1} → statement M
+run_pair_spec =
     tie.close
     (tie.spec
     returns

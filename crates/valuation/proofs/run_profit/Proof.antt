@@ -9,17 +9,17 @@ use borrow.Author.Rules.{rules}
 use Rattle.valuation.proofs.run_profit.Statement.{statement}
 use Rattle.valuation.proofs.run_profit.Tie as tie
 
-profit-under-requires : tie.Need-profit-under-requires
+profit-under-requires : tie.Need-profit_under-requires
 profit-under-requires c κs =
     let s = c.before.before in
     let a = s.args in
-    (s.requires.0, rw c.with-limit.ensures (under_one a.unit.limits a.which (At a.figure) s.requires.1))
+    (s.requires.0, rw c.with_limit-lower.ensures (under_one a.unit.limits a.which (At a.figure) s.requires.1))
 
 returns : tie.Need-returns
 returns c =
     let s = c.before.before.before in
-    c.profit-under.ensures
-    ∙ ap (λ (limits : Limits). profit_of (best (limited s.args.unit limits) s.args.prices.now)) c.before.with-limit.ensures
+    c.profit_under.ensures
+    ∙ ap (λ (limits : Limits). profit_of (best (limited s.args.unit limits) s.args.prices.now)) c.before.with_limit-lower.ensures
 
-pub run-profit-spec : {M : Type 1} → statement M
-run-profit-spec = tie.close (tie.spec (λ c κs. search rules) profit-under-requires returns)
+pub run_profit_spec : {M : Type 1} → statement M
+run_profit_spec = tie.close (tie.spec (λ c κs. search rules) profit-under-requires returns)

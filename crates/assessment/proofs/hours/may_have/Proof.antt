@@ -9,5 +9,5 @@ use Rattle.assessment.proofs.hours.may_have.Tie as tie
 returns : tie.Need-returns
 returns c = ap (λ (t : Bool). eqb c.before.args.output 0 || t) c.opens_in.ensures
 
-pub may-have-spec : {M : Type 1} → statement M
-may-have-spec = tie.close (tie.spec (λ c κs. search rules) returns)
+pub may_have_spec : {M : Type 1} → statement M
+may_have_spec = tie.close (tie.spec (λ c κs. search rules) returns)

@@ -37,23 +37,23 @@ climb-requires c κs =
     )
 
 -- whether there are sources before
-past : (c : tie.Then1) →
+past : (c : tie.Then-high-p) →
     let a = c.before.before.before.before.before.before.before.before.args in
     (a.l.high < a.p.first) × (a.l.low < a.l.high)
 past c =
     let a = c.before.before.before.before.before.before.before.before.args in
-    let t = both (ltb a.l.high a.p.first) (ltb a.l.low a.l.high) c.if1.true in
+    let t = both (ltb a.l.high a.p.first) (ltb a.l.low a.l.high) c.if-high-p.true in
     (ltb-true a.l.high a.p.first t.0, ltb-true a.l.low a.l.high t.1)
 
 -- where there are none the line begins, or there is one output
-plainly : (c : tie.Else1) →
+plainly : (c : tie.Else-high-p) →
     let a = c.before.before.before.before.before.before.before.before.args in
     (a.p.first ≡ a.l.low) ⊎ (a.l.high ≤ a.l.low)
 plainly c =
     let o = c.before.before.before.before.before.before.before.before in
     let a = o.args in
     ⊎_elim (λ (e : a.p.first ≡ a.l.low). inl e)
-    (λ (h : a.l.high < a.p.first). by h (ltb a.l.low a.l.high) refl c.if1.false) (asked o).begins
+    (λ (h : a.l.high < a.p.first). by h (ltb a.l.low a.l.high) refl c.if-high-p.false) (asked o).begins
   where
     by : let a = c.before.before.before.before.before.before.before.before.args in
         a.l.high < a.p.first → (t : Bool) → ltb a.l.low a.l.high ≡ t → (ltb a.l.high a.p.first && ltb a.l.low a.l.high) ≡ false
@@ -83,13 +83,13 @@ descend-requires c κs =
     let o = climbed.before.before.before.before.before in
     let a = o.args in
     let p = past then in
-    rw (falls most, plain_fits (record { sfits = most.most.type-inv }), most.most.ensures) (
+    rw (falls most, plain_fits (record { sfits = most.most.type_inv }), most.most.ensures) (
       down-sources a.l a.cells.now a.w a.p (asked o) p.0 p.1,
       omega (arith, o.requires.1, p.1),
-      omega (arith, climbed.climb.auto.1.1.1.0, o.requires.2),
+      omega (arith, climbed.climb.auto.out, o.requires.2),
     )
 
-returns : tie.Need-returns
+returns : tie.Need-returns-then-high-p
 returns c =
     let down = c.before in
     let most = down.before.before.before.before in
@@ -100,11 +100,11 @@ returns c =
     let ok = (asked o).steady in
     let p = past then in
     let up = rw (least-plain a.l ok, rise-plain a.l ok) at climbed.climb.ensures in
-    let d = rw (falls most, plain_fits (record { sfits = most.most.type-inv }), most.most.ensures) at down.descend.ensures in
+    let d = rw (falls most, plain_fits (record { sfits = most.most.type_inv }), most.most.ensures) at down.descend.ensures in
     chunk-joined a.l a.cells.now a.w a.p.line a.p.first (lowest o) a.p.count (asked o).most a.out.now a.to
     o.requires.1 _ _ p.0 p.1 up d
 
-returns-2 : tie.Need-returns-2
+returns-2 : tie.Need-returns-else-high-p
 returns-2 c =
     let climbed = c.before.before.before in
     let o = climbed.before.before.before.before.before in
@@ -114,8 +114,8 @@ returns-2 c =
     chunk-plain a.l a.cells.now a.w a.p.line a.p.first (lowest o) a.p.count (asked o).most a.out.now a.to
     o.requires.1 _ (plainly c) up
 
-pub chunk-spec : {M : Type 1} → statement M
-chunk-spec =
+pub chunk_spec : {M : Type 1} → statement M
+chunk_spec =
     tie.close
     (tie.spec (λ c. lowest c.before) (λ c. let k = asked c.before.before in omega (arith, k.values, k.marks)) climb-requires
     (λ c. omega (arith, past c.before))

@@ -23,13 +23,13 @@ use Rattle.carrying.proofs.images.climb.Tie as tie
 abbrev sloped : ℕ → ℕ → ℕ → ℕ → Slope
 sloped from count gain rise = record { from = from; count = count; gain = to_z w64 gain; rise = to_z w64 rise }
 
-abbrev invariant-loop : tie.invariant-loop
+abbrev invariant-loop : tie.invariant-loop-i
 invariant-loop cells w out₀ to from count gain rise best₀ mark₀ i₀ out best mark i =
     let s = sloped from count gain rise in
     (i ≤ count) × Held cells w s i (to_z w64 best) (to_z w64 mark)
     × Aside (UpPicked cells w s) out₀ out to i
 
-abbrev decreases-loop : tie.decreases-loop
+abbrev decreases-loop : tie.decreases-loop-i
 decreases-loop cells w out₀ to from count gain rise best₀ mark₀ i₀ out best mark i = count - i
 
 sources : (c : tie.Start invariant-loop decreases-loop) →
@@ -49,71 +49,71 @@ first_small c =
     let e : c.args.s.from + 0 ≡ c.args.s.from = omega arith in
     within-weaken (rw e at ((sources c).small 0 (omega (arith, (sources c).some)))) (within-abs _)
 
-first-less : (c : tie.After-best invariant-loop decreases-loop) →
+first-less : (c : tie.After-best-1 invariant-loop decreases-loop) →
     let a = c.before.before.before.args in
     Within (2 ^ 62 + swing) (to_z w64 (of_z w64 (get_or a.cells.now a.s.from (pos 0))) -ℤ to_z w64 (of_z w64 a.s.rise))
 first-less c =
     let o = c.before.before.before in
-    rw (plain_fits (record { sfits = c.best.given }), plain-rise o)
+    rw (plain_fits (record { sfits = c.best-1.given }), plain-rise o)
     (within-diff (first_small o) (within-weaken (sources o).rises (within-abs o.args.s.rise)))
 
 -- what is held, by the arguments
-held : (c : tie.At-loop invariant-loop decreases-loop) →
+held : (c : tie.At-loop-i invariant-loop decreases-loop) →
     let a = c.before.before.before.before.args in
-    let l = c.loop in
-    Held a.cells.now a.w a.s l.i (to_z w64 l.best) (to_z w64 l.mark)
-held c = let o = c.before.before.before.before in rw (plain-gain o, plain-rise o) at c.loop.invariant.1
+    let l = c.loop-i in
+    Held a.cells.now a.w a.s l.i (to_z w64 l.best-bits) (to_z w64 l.mark-bits)
+held c = let o = c.before.before.before.before in rw (plain-gain o, plain-rise o) at c.loop-i.invariant.1
 
-loop-holds : tie.Need-loop-init invariant-loop decreases-loop
+loop-holds : tie.Need-loop-i-init invariant-loop decreases-loop
 loop-holds c =
     let o = c.before.before.before in
     let a = o.args in
     let e : a.s.from + 0 ≡ a.s.from = omega arith in (
       omega arith,
-      rw (plain (first-less c) (lit< tt), plain_fits (record { sfits = c.best.given }), plain-rise o, e)
+      rw (plain (first-less c) (lit< tt), plain_fits (record { sfits = c.best-1.given }), plain-rise o, e)
           (-ℤ-+ℤ_cancel (get_or a.cells.now a.s.from (pos 0)) a.s.rise),
       pairs-none piece _ a.out.now a.to,
     )
 
 -- the place of a turn
-inside : (c : tie.In-loop invariant-loop decreases-loop) →
+inside : (c : tie.In-loop-i invariant-loop decreases-loop) →
     let a = c.before.before.before.before.before.args in
-    let at = a.s.from + c.before.loop.i in
-    (a.w + at < length a.cells.now) × (a.to + c.before.loop.i < piece)
+    let at = a.s.from + c.before.loop-i.i in
+    (a.w + at < length a.cells.now) × (a.to + c.before.loop-i.i < piece)
 inside c =
     let o = c.before.before.before.before.before in
     let s = sources o in
-    (omega (arith, s.values, s.marks, c.loop-test.true), omega (arith, o.requires.1, c.loop-test.true))
+    (omega (arith, s.values, s.marks, c.loop-i-test.true), omega (arith, o.requires.1, c.loop-i-test.true))
 
-risen : (c : tie.In-loop invariant-loop decreases-loop) →
+risen : (c : tie.In-loop-i invariant-loop decreases-loop) →
     let a = c.before.before.before.before.before.args in
-    Within (held_most a.cells.now a.w a.s + swing) (to_z w64 c.before.loop.best +ℤ a.s.rise)
+    Within (held_most a.cells.now a.w a.s + swing) (to_z w64 c.before.loop-i.best-bits +ℤ a.s.rise)
 risen c =
     let at-loop = c.before in
     let o = at-loop.before.before.before.before in
     let a = o.args in
-    let l = at-loop.loop in
-    held-risen a.cells.now a.w a.s (sources o) l.i (to_z w64 l.best) (to_z w64 l.mark) l.invariant.0 (held at-loop)
+    let l = at-loop.loop-i in
+    held-risen a.cells.now a.w a.s (sources o) l.i (to_z w64 l.best-bits) (to_z w64 l.mark-bits) l.invariant.0 (held at-loop)
 
 -- the number of a turn, and the best with its rise
-number_is : (c : tie.After-number invariant-loop decreases-loop) →
+number_is : (c : tie.After-number-1 invariant-loop decreases-loop) →
     let turn = c.before in
     let a = turn.before.before.before.before.before.args in
-    let n = get_or a.cells.now (a.s.from + turn.before.loop.i) (pos 0) in
+    let n = get_or a.cells.now (a.s.from + turn.before.loop-i.i) (pos 0) in
     to_z w64 (of_z w64 n) ≡ n
-number_is c = plain_fits (record { sfits = c.number.given })
+number_is c = plain_fits (record { sfits = c.number-1.given })
 
-carried-is : (c : tie.In-loop invariant-loop decreases-loop) →
+carried-is : (c : tie.In-loop-i invariant-loop decreases-loop) →
     let a = c.before.before.before.before.before.args in
-    to_z w64 (of_z w64 (to_z w64 c.before.loop.best +ℤ to_z w64 (of_z w64 a.s.rise))) ≡ to_z w64 c.before.loop.best +ℤ a.s.rise
+    to_z w64 (of_z w64 (to_z w64 c.before.loop-i.best-bits +ℤ to_z w64 (of_z w64 a.s.rise))) ≡ to_z w64 c.before.loop-i.best-bits +ℤ a.s.rise
 carried-is c = let o = c.before.before.before.before.before in rw (plain-rise o) (plain (risen c) (lit< tt))
 
 -- what is held after a turn
-next-held : (c : tie.After-either2 invariant-loop decreases-loop) →
+next-held : (c : tie.After-either-mark invariant-loop decreases-loop) →
     let at-loop = c.before.before.before.before.before in
     let a = at-loop.before.before.before.before.args in
-    Held a.cells.now a.w a.s (suc at-loop.loop.i) (to_z w64 (of_z w64 c.before.before.either.result))
-    (to_z w64 (of_z w64 c.either2.result))
+    Held a.cells.now a.w a.s (suc at-loop.loop-i.i) (to_z w64 (of_z w64 c.before.before.either-best.result))
+    (to_z w64 (of_z w64 c.either-mark.result))
 next-held c =
     let arg = c.before in
     let first = arg.before in
@@ -121,32 +121,32 @@ next-held c =
     let turn = number.before in
     let at-loop = turn.before in
     let a = at-loop.before.before.before.before.args in
-    let l = at-loop.loop in
-    let best = rw (number_is number, carried-is turn) at first.either.ensures in
-    let mark = rw (number_is number, carried-is turn, plain_fits (record { sfits = arg.either-arg.given })) at c.either2.ensures in
-    rw (plain_fits (record { sfits = first.either.type-inv }), plain_fits (record { sfits = c.either2.type-inv }), best, mark)
-    (held_next a.cells.now a.w a.s l.i (to_z w64 l.best) (to_z w64 l.mark) (held at-loop))
+    let l = at-loop.loop-i in
+    let best = rw (number_is number, carried-is turn) at first.either-best.ensures in
+    let mark = rw (number_is number, carried-is turn, plain_fits (record { sfits = arg.either-arg-1.given })) at c.either-mark.ensures in
+    rw (plain_fits (record { sfits = first.either-best.type_inv }), plain_fits (record { sfits = c.either-mark.type_inv }), best, mark)
+    (held_next a.cells.now a.w a.s l.i (to_z w64 l.best-bits) (to_z w64 l.mark-bits) (held at-loop))
 
 -- with what is gained
-gained : (c : tie.After-either2 invariant-loop decreases-loop) →
+gained : (c : tie.After-either-mark invariant-loop decreases-loop) →
     let turn = c.before.before.before.before in
     let a = turn.before.before.before.before.before.args in
-    Within (held_most a.cells.now a.w a.s + most_brought) (to_z w64 (of_z w64 c.before.before.either.result) +ℤ a.s.gain)
+    Within (held_most a.cells.now a.w a.s + most_brought) (to_z w64 (of_z w64 c.before.before.either-best.result) +ℤ a.s.gain)
 gained c =
     let turn = c.before.before.before.before in
     let at-loop = turn.before in
     let o = at-loop.before.before.before.before in
     let a = o.args in
-    held-gained a.cells.now a.w a.s (sources o) (suc at-loop.loop.i)
-    (to_z w64 (of_z w64 c.before.before.either.result)) (to_z w64 (of_z w64 c.either2.result)) (omega (arith, turn.loop-test.true)) (next-held c)
+    held-gained a.cells.now a.w a.s (sources o) (suc at-loop.loop-i.i)
+    (to_z w64 (of_z w64 c.before.before.either-best.result)) (to_z w64 (of_z w64 c.either-mark.result)) (omega (arith, turn.loop-i-test.true)) (next-held c)
 
 put-requires : tie.Need-put-requires invariant-loop decreases-loop
 put-requires c κs =
     let turn = c.before.before.before.before.before in
     let o = turn.before.before.before.before.before in
-    ((inside turn).1, omega (arith, turn.before.loop.invariant.2.apart.same, o.requires.2))
+    ((inside turn).1, omega (arith, turn.before.loop-i.invariant.2.apart.same, o.requires.2))
 
-loop-again : tie.Need-loop-preserved invariant-loop decreases-loop
+loop-again : tie.Need-loop-i-preserved invariant-loop decreases-loop
 loop-again c =
     let put = c.before in
     let second = put.before.before in
@@ -154,12 +154,12 @@ loop-again c =
     let at-loop = turn.before in
     let o = at-loop.before.before.before.before in
     let a = o.args in
-    let l = at-loop.loop in
+    let l = at-loop.loop-i in
     let room : piece + piece ≤ length l.out = omega (arith, l.invariant.2.apart.same, o.requires.2) in
     let stored = rw (plain-gain o, plain (gained second) (lit< tt)) at put.put.ensures in
     let held = next-held second in
     rw (plain-gain o, plain-rise o) (
-      omega (arith, turn.loop-test.true),
+      omega (arith, turn.loop-i-test.true),
       rw (add-one l.i) held,
       rw stored (pairs_next piece _ a.out.now l.out a.to l.i _ _ (inside turn).1 room (rw (plain-gain o, plain-rise o) at l.invariant.2) held),
     )
@@ -167,12 +167,12 @@ loop-again c =
 returns : tie.Need-returns invariant-loop decreases-loop
 returns c =
     let o = c.before.before.before.before.before in
-    let l = c.before.loop in
-    let e : l.i ≡ o.args.s.count = omega (arith, l.invariant.0, c.loop-test.false) in
+    let l = c.before.loop-i in
+    let e : l.i ≡ o.args.s.count = omega (arith, l.invariant.0, c.loop-i-test.false) in
     rw (plain-gain o, plain-rise o, e) at l.invariant.2
 
-pub climb-spec : {M : Type 1} → statement M
-climb-spec =
+pub climb_spec : {M : Type 1} → statement M
+climb_spec =
     tie.close
     (tie.spec invariant-loop decreases-loop (λ c. let s = sources c.before.before in omega (arith, s.values, s.marks, s.some))
     (λ c. let s = sources c.before.before in omega (arith, s.values, s.marks, s.some)) (λ c. within-fits (first-less c) (lit< tt)) loop-holds
@@ -185,5 +185,5 @@ climb-spec =
     (λ c. rw (plain-gain c.before.before.before.before.before.before.before.before.before.before) (within-fits (gained c.before) (lit< tt)))
     put-requires
     (λ c. omega (arith, inside c.before.before.before.before.before.before.before))
-    (λ c. omega (arith, c.before.before.before.before.before.before.before.loop-test.true)) loop-again
-    (λ c. c.before.loop.invariant.2.apart.same) returns)
+    (λ c. omega (arith, c.before.before.before.before.before.before.before.loop-i-test.true)) loop-again
+    (λ c. c.before.loop-i.invariant.2.apart.same) returns)

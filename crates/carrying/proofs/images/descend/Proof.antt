@@ -24,13 +24,13 @@ use Rattle.carrying.proofs.images.descend.Tie as tie
 abbrev sloped : ℕ → ℕ → ℕ → ℕ → Slope
 sloped from count gain fall = record { from = from; count = count; gain = to_z w64 gain; rise = to_z w64 fall }
 
-abbrev invariant-loop : tie.invariant-loop
+abbrev invariant-loop : tie.invariant-loop-i
 invariant-loop cells w out₀ to from count gain fall last best₀ mark₀ i₀ out best mark i =
     let s = sloped from count gain fall in
     (i ≤ count) × Held cells w s i (to_z w64 best) (to_z w64 mark)
     × Descended cells w s out₀ out to i
 
-abbrev decreases-loop : tie.decreases-loop
+abbrev decreases-loop : tie.decreases-loop-i
 decreases-loop cells w out₀ to from count gain fall last best₀ mark₀ i₀ out best mark i = count - i
 
 sources : (c : tie.Start invariant-loop decreases-loop) →
@@ -46,19 +46,19 @@ plain-fall : (c : tie.Start invariant-loop decreases-loop) → to_z w64 (of_z w6
 plain-fall c = plain (within-weaken (sources c).rises (within-abs c.args.s.rise)) (lit< tt)
 
 -- the last source
-last-is : (c : tie.After-best invariant-loop decreases-loop) →
+last-is : (c : tie.After-best-1 invariant-loop decreases-loop) →
     let a = c.before.before.before.args in
     let n = get_or a.cells.now (a.s.from + (a.s.count - 1)) (pos 0) in
     to_z w64 (of_z w64 n) ≡ n
-last-is c = plain_fits (record { sfits = c.best.given })
+last-is c = plain_fits (record { sfits = c.best-1.given })
 
-last-mark-is : (c : tie.After-mark invariant-loop decreases-loop) →
+last-mark-is : (c : tie.After-mark-1 invariant-loop decreases-loop) →
     let a = c.before.before.before.before.args in
     let n = get_or a.cells.now (a.w + (a.s.from + (a.s.count - 1))) (pos 0) in
     to_z w64 (of_z w64 n) ≡ n
-last-mark-is c = plain_fits (record { sfits = c.mark.given })
+last-mark-is c = plain_fits (record { sfits = c.mark-1.given })
 
-last_less : (c : tie.After-best invariant-loop decreases-loop) →
+last_less : (c : tie.After-best-1 invariant-loop decreases-loop) →
     let a = c.before.before.before.args in
     Within (2 ^ 62 + swing) (to_z w64 (of_z w64 (get_or a.cells.now (a.s.from + (a.s.count - 1)) (pos 0))) -ℤ to_z w64 (of_z w64 a.s.rise))
 last_less c =
@@ -71,13 +71,13 @@ last_less c =
     (within-weaken s.rises (within-abs o.args.s.rise)))
 
 -- what is held, by the arguments
-held : (c : tie.At-loop invariant-loop decreases-loop) →
+held : (c : tie.At-loop-i invariant-loop decreases-loop) →
     let a = c.before.before.before.before.before.args in
-    let l = c.loop in
-    Held a.cells.now a.w a.s l.i (to_z w64 l.best) (to_z w64 l.mark)
-held c = let o = c.before.before.before.before.before in rw (plain-gain o, plain-fall o) at c.loop.invariant.1
+    let l = c.loop-i in
+    Held a.cells.now a.w a.s l.i (to_z w64 l.best-bits) (to_z w64 l.mark-bits)
+held c = let o = c.before.before.before.before.before in rw (plain-gain o, plain-fall o) at c.loop-i.invariant.1
 
-loop-holds : tie.Need-loop-init invariant-loop decreases-loop
+loop-holds : tie.Need-loop-i-init invariant-loop decreases-loop
 loop-holds c =
     let best = c.before in
     let o = best.before.before.before in
@@ -93,44 +93,44 @@ loop-holds c =
     )
 
 -- the place of a turn
-inside : (c : tie.In-loop invariant-loop decreases-loop) →
+inside : (c : tie.In-loop-i invariant-loop decreases-loop) →
     let a = c.before.before.before.before.before.before.args in
-    let j = a.s.count - 1 - c.before.loop.i in
-    (a.w + (a.s.from + j) < length a.cells.now) × (a.to + j < piece) × (c.before.loop.i ≤ a.s.count - 1)
+    let j = a.s.count - 1 - c.before.loop-i.i in
+    (a.w + (a.s.from + j) < length a.cells.now) × (a.to + j < piece) × (c.before.loop-i.i ≤ a.s.count - 1)
 inside c =
     let o = c.before.before.before.before.before.before in
     let s = sources o in
-    (omega (arith, s.values, s.marks, c.loop-test.true), omega (arith, o.requires.1, c.loop-test.true), omega (arith, c.loop-test.true))
+    (omega (arith, s.values, s.marks, c.loop-i-test.true), omega (arith, o.requires.1, c.loop-i-test.true), omega (arith, c.loop-i-test.true))
 
-fallen : (c : tie.In-loop invariant-loop decreases-loop) →
+fallen : (c : tie.In-loop-i invariant-loop decreases-loop) →
     let a = c.before.before.before.before.before.before.args in
-    Within (held_most a.cells.now a.w a.s + swing) (to_z w64 c.before.loop.best +ℤ a.s.rise)
+    Within (held_most a.cells.now a.w a.s + swing) (to_z w64 c.before.loop-i.best-bits +ℤ a.s.rise)
 fallen c =
     let at-loop = c.before in
     let o = at-loop.before.before.before.before.before in
     let a = o.args in
-    let l = at-loop.loop in
-    held-fallen a.cells.now a.w a.s (sources o) l.i (to_z w64 l.best) (to_z w64 l.mark) l.invariant.0
+    let l = at-loop.loop-i in
+    held-fallen a.cells.now a.w a.s (sources o) l.i (to_z w64 l.best-bits) (to_z w64 l.mark-bits) l.invariant.0
     (held at-loop)
 
-number_is : (c : tie.After-number invariant-loop decreases-loop) →
+number_is : (c : tie.After-number-1 invariant-loop decreases-loop) →
     let turn = c.before in
     let a = turn.before.before.before.before.before.before.args in
-    let n = get_or a.cells.now (a.s.from + (a.s.count - 1 - turn.before.loop.i)) (pos 0) in
+    let n = get_or a.cells.now (a.s.from + (a.s.count - 1 - turn.before.loop-i.i)) (pos 0) in
     to_z w64 (of_z w64 n) ≡ n
-number_is c = plain_fits (record { sfits = c.number.given })
+number_is c = plain_fits (record { sfits = c.number-1.given })
 
-carried-is : (c : tie.In-loop invariant-loop decreases-loop) →
+carried-is : (c : tie.In-loop-i invariant-loop decreases-loop) →
     let a = c.before.before.before.before.before.before.args in
-    to_z w64 (of_z w64 (to_z w64 c.before.loop.best +ℤ to_z w64 (of_z w64 a.s.rise))) ≡ to_z w64 c.before.loop.best +ℤ a.s.rise
+    to_z w64 (of_z w64 (to_z w64 c.before.loop-i.best-bits +ℤ to_z w64 (of_z w64 a.s.rise))) ≡ to_z w64 c.before.loop-i.best-bits +ℤ a.s.rise
 carried-is c = let o = c.before.before.before.before.before.before in rw (plain-fall o) (plain (fallen c) (lit< tt))
 
 -- what is held after a turn
-next-held : (c : tie.After-either2 invariant-loop decreases-loop) →
+next-held : (c : tie.After-either-mark invariant-loop decreases-loop) →
     let at-loop = c.before.before.before.before.before in
     let a = at-loop.before.before.before.before.before.args in
-    Held a.cells.now a.w a.s (suc at-loop.loop.i) (to_z w64 (of_z w64 c.before.before.either.result))
-    (to_z w64 (of_z w64 c.either2.result))
+    Held a.cells.now a.w a.s (suc at-loop.loop-i.i) (to_z w64 (of_z w64 c.before.before.either-best.result))
+    (to_z w64 (of_z w64 c.either-mark.result))
 next-held c =
     let arg = c.before in
     let first = arg.before in
@@ -138,31 +138,31 @@ next-held c =
     let turn = number.before in
     let at-loop = turn.before in
     let a = at-loop.before.before.before.before.before.args in
-    let l = at-loop.loop in
-    let best = rw (number_is number, carried-is turn) at first.either.ensures in
-    let mark = rw (number_is number, carried-is turn, plain_fits (record { sfits = arg.either-arg.given })) at c.either2.ensures in
-    rw (plain_fits (record { sfits = first.either.type-inv }), plain_fits (record { sfits = c.either2.type-inv }), best, mark)
-    (held_next a.cells.now a.w a.s l.i (to_z w64 l.best) (to_z w64 l.mark) (held at-loop))
+    let l = at-loop.loop-i in
+    let best = rw (number_is number, carried-is turn) at first.either-best.ensures in
+    let mark = rw (number_is number, carried-is turn, plain_fits (record { sfits = arg.either-arg-1.given })) at c.either-mark.ensures in
+    rw (plain_fits (record { sfits = first.either-best.type_inv }), plain_fits (record { sfits = c.either-mark.type_inv }), best, mark)
+    (held_next a.cells.now a.w a.s l.i (to_z w64 l.best-bits) (to_z w64 l.mark-bits) (held at-loop))
 
 -- with what is gained
-gained : (c : tie.After-either2 invariant-loop decreases-loop) →
+gained : (c : tie.After-either-mark invariant-loop decreases-loop) →
     let a = c.before.before.before.before.before.before.before.before.before.before.args in
-    Within (held_most a.cells.now a.w a.s + most_brought) (to_z w64 (of_z w64 c.before.before.either.result) +ℤ a.s.gain)
+    Within (held_most a.cells.now a.w a.s + most_brought) (to_z w64 (of_z w64 c.before.before.either-best.result) +ℤ a.s.gain)
 gained c =
     let turn = c.before.before.before.before in
     let at-loop = turn.before in
     let o = at-loop.before.before.before.before.before in
     let a = o.args in
-    held-gained a.cells.now a.w a.s (sources o) (suc at-loop.loop.i)
-    (to_z w64 (of_z w64 c.before.before.either.result)) (to_z w64 (of_z w64 c.either2.result)) (omega (arith, turn.loop-test.true)) (next-held c)
+    held-gained a.cells.now a.w a.s (sources o) (suc at-loop.loop-i.i)
+    (to_z w64 (of_z w64 c.before.before.either-best.result)) (to_z w64 (of_z w64 c.either-mark.result)) (omega (arith, turn.loop-i-test.true)) (next-held c)
 
 join-requires : tie.Need-join-requires invariant-loop decreases-loop
 join-requires c κs =
     let turn = c.before.before.before.before.before in
     let o = turn.before.before.before.before.before.before in
-    ((inside turn).1, omega (arith, turn.before.loop.invariant.2.apart.same, o.requires.2))
+    ((inside turn).1, omega (arith, turn.before.loop-i.invariant.2.apart.same, o.requires.2))
 
-loop-again : tie.Need-loop-preserved invariant-loop decreases-loop
+loop-again : tie.Need-loop-i-preserved invariant-loop decreases-loop
 loop-again c =
     let put = c.before in
     let second = put.before.before in
@@ -170,30 +170,30 @@ loop-again c =
     let at-loop = turn.before in
     let o = at-loop.before.before.before.before.before in
     let a = o.args in
-    let l = at-loop.loop in
+    let l = at-loop.loop-i in
     let stored = rw (plain-gain o, plain (gained second) (lit< tt)) at put.join.ensures in
     let held = next-held second in
     rw (plain-gain o, plain-fall o) (
-      omega (arith, turn.loop-test.true),
+      omega (arith, turn.loop-i-test.true),
       rw (add-one l.i) held,
       rw stored
-          (descended-next a.cells.now a.w a.s a.out.now a.to l.out l.i _ _ turn.loop-test.true
+          (descended-next a.cells.now a.w a.s a.out.now a.to l.out l.i _ _ turn.loop-i-test.true
           o.requires.1 o.requires.2 (rw (plain-gain o, plain-fall o) at l.invariant.2) held),
     )
 
 returns : tie.Need-returns invariant-loop decreases-loop
 returns c =
     let o = c.before.before.before.before.before.before in
-    let l = c.before.loop in
-    let e : l.i ≡ o.args.s.count = omega (arith, l.invariant.0, c.loop-test.false) in
+    let l = c.before.loop-i in
+    let e : l.i ≡ o.args.s.count = omega (arith, l.invariant.0, c.loop-i-test.false) in
     rw (plain-gain o, plain-fall o, e) at l.invariant.2
 
 -- the sources' room
 reads : (c : tie.Start invariant-loop decreases-loop) → c.args.w + (c.args.s.from + (c.args.s.count - 1)) < length c.args.cells.now
 reads c = omega (arith, (sources c).values, (sources c).marks, (sources c).some)
 
-pub descend-spec : {M : Type 1} → statement M
-descend-spec =
+pub descend_spec : {M : Type 1} → statement M
+descend_spec =
     tie.close
     (tie.spec invariant-loop decreases-loop (λ c. (sources c.before.before).some) (λ c. omega (arith, reads c.before.before))
     (λ c. omega (arith, reads c.before.before))
@@ -210,5 +210,5 @@ descend-spec =
     rw (plain-gain c.before.before.before.before.before.before.before.before.before.before.before) (within-fits (gained c.before) (lit< tt)))
     join-requires
     (λ c. omega (arith, inside c.before.before.before.before.before.before.before))
-    (λ c. omega (arith, c.before.before.before.before.before.before.before.loop-test.true)) loop-again
-    (λ c. c.before.loop.invariant.2.apart.same) returns)
+    (λ c. omega (arith, c.before.before.before.before.before.before.before.loop-i-test.true)) loop-again
+    (λ c. c.before.loop-i.invariant.2.apart.same) returns)

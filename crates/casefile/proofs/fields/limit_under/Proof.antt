@@ -6,7 +6,7 @@ use Rattle.casefile.proofs.fields.limit_under.Statement.{statement}
 use Rattle.casefile.proofs.fields.limit_under.Tie as tie
 
 returns : tie.Need-returns
-returns c = c.limit.ensures ∙ ap limit_of c.before.value-under.ensures
+returns c = c.limit.ensures ∙ ap limit_of c.before.value_under.ensures
 
-pub limit-under-spec : {M : Type 1} → statement M
-limit-under-spec = tie.close (tie.spec (λ c κs. search rules) (λ c κs. search rules) returns)
+pub limit_under_spec : {M : Type 1} → statement M
+limit_under_spec = tie.close (tie.spec (λ c κs. search rules) (λ c κs. search rules) returns)

@@ -20,21 +20,21 @@ high : (n : ℤ) → lt_z n (pos 0) ≡ false → T (non_neg n) × (nat_abs n �
 high (pos n) t = (tt, refl)
 high (negsuc n) t = absurd (true≢false t)
 
-returns : tie.Need-returns
-returns c = low c.before.args.n (rw (plain_fits c.before.ranges.n) at c.if1.true)
+returns : tie.Need-returns-then-n-lt0
+returns c = low c.before.args.n (rw (plain_fits c.before.ranges.n) at c.if-n-lt0.true)
 
-cast-result : tie.Need-overflow-cast-result
+cast-result : tie.Need-overflow_cast-result
 cast-result c =
     let n = c.before.args.n in
     let f = c.before.ranges.n in
     let e = plain_fits f in
-    rw e ((high n (rw e at c.if1.false)).0, record { fits = omega (arith, abs-within (fits-within f)) })
+    rw e ((high n (rw e at c.if-n-lt0.false)).0, record { fits = omega (arith, abs-within (fits-within f)) })
 
-returns-2 : tie.Need-returns-2
+returns-2 : tie.Need-returns
 returns-2 c =
     let n = c.before.args.n in
     let e = plain_fits c.before.ranges.n in
-    rw e (high n (rw e at c.if1.false)).1
+    rw e (high n (rw e at c.if-n-lt0.false)).1
 
-pub natural-spec : {M : Type 1} → statement M
-natural-spec = tie.close (tie.spec returns cast-result returns-2)
+pub natural_spec : {M : Type 1} → statement M
+natural_spec = tie.close (tie.spec returns cast-result returns-2)

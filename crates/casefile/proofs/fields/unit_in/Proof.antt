@@ -11,8 +11,8 @@ use Rattle.casefile.proofs.fields.unit_in.Tie as tie
 returns : tie.Need-returns
 unfolding unit_in
 returns c =
-    c.unit-under.ensures
-    ∙ ap₂ (λ (names values : List ℕ). unit_of (fields_of names) (fields_of values)) c.before.before.line.ensures c.before.line2.ensures
+    c.unit_under.ensures
+    ∙ ap₂ (λ (names values : List ℕ). unit_of (fields_of names) (fields_of values)) c.before.before.line-head.ensures c.before.line-row.ensures
 
-pub unit-in-spec : {M : Type 1} → statement M
-unit-in-spec = tie.close (tie.spec (λ c κs. search rules) (λ c κs. search rules) (λ c κs. search rules) returns)
+pub unit_in_spec : {M : Type 1} → statement M
+unit_in_spec = tie.close (tie.spec (λ c κs. search rules) (λ c κs. search rules) (λ c κs. search rules) returns)

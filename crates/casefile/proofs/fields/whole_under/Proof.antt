@@ -6,7 +6,7 @@ use Rattle.casefile.proofs.fields.whole_under.Statement.{statement}
 use Rattle.casefile.proofs.fields.whole_under.Tie as tie
 
 returns : tie.Need-returns
-returns c = c.whole.ensures ∙ ap whole_of c.before.value-under.ensures
+returns c = c.whole.ensures ∙ ap whole_of c.before.value_under.ensures
 
-pub whole-under-spec : {M : Type 1} → statement M
-whole-under-spec = tie.close (tie.spec (λ c κs. search rules) (λ c κs. search rules) returns)
+pub whole_under_spec : {M : Type 1} → statement M
+whole_under_spec = tie.close (tie.spec (λ c κs. search rules) (λ c κs. search rules) returns)

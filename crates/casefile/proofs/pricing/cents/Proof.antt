@@ -6,17 +6,17 @@ use borrow.Author.Rules.{rules}
 use Rattle.casefile.proofs.pricing.cents.Statement.{statement}
 use Rattle.casefile.proofs.pricing.cents.Tie as tie
 
-returns : tie.Need-returns
-returns c = ap cents_of (sym c.enum_told.given.1)
+returns : tie.Need-returns-in-Malformed
+returns c = ap cents_of (sym c.in-Malformed.is)
 
-returns-2 : tie.Need-returns-2
-returns-2 c = ap cents_of (sym c.enum-told2.given.1)
+returns-2 : tie.Need-returns-in-WordNone
+returns-2 c = ap cents_of (sym c.in-WordNone.is)
 
-returns-3 : tie.Need-returns-3
-returns-3 c = plain_fits (record { sfits = c.known-told.given.0.1 }) ∙ ap cents_of (sym c.before.value.given.1)
+returns-3 : tie.Need-returns-in-Number
+returns-3 c = plain_fits (record { sfits = c.in-Number.known_told-1-own.given.0.1 }) ∙ ap cents_of (sym c.in-Number.is)
 
-pub cents-spec : {M : Type 1} → statement M
-cents-spec =
+pub cents_spec : {M : Type 1} → statement M
+cents_spec =
     tie.close
     (tie.spec
     (λ c. search rules) (λ c. search rules) (λ c. search rules)

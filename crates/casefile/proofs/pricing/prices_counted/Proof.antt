@@ -14,7 +14,7 @@ unfolding prices_in
 returns c =
     let r = c.before in
     let text = r.before.before.args.text.now in
-    c.lines-in.ensures ∙ ap (λ (ls : List (List ℕ)). length ls) r.lines_from.ensures ∙ sym (length-map (price_rows text) (price_of (price_head text)))
+    c.lines_in.ensures ∙ ap (λ (ls : List (List ℕ)). length ls) r.lines_from-rows.ensures ∙ sym (length-map (price_rows text) (price_of (price_head text)))
 
-pub prices-counted-spec : {M : Type 1} → statement M
-prices-counted-spec = tie.close (tie.spec (λ c κs. search rules) (λ c κs. search rules) returns)
+pub prices_counted_spec : {M : Type 1} → statement M
+prices_counted_spec = tie.close (tie.spec (λ c κs. search rules) (λ c κs. search rules) returns)

@@ -17,12 +17,12 @@ returns c =
     let r = c.before in
     let h = r.before in
     let text = h.before.before.args.text.now in
-    c.rows-kept.ensures
-    ∙ ap₂ (λ (head : List ℕ) (ls : List (List ℕ)). every (λ row. price_kept (price_of head row)) ls) h.line.ensures r.lines_from.ensures
+    c.rows_kept.ensures
+    ∙ ap₂ (λ (head : List ℕ) (ls : List (List ℕ)). every (λ row. price_kept (price_of head row)) ls) h.line-head.ensures r.lines_from-price_rows.ensures
     ∙ every_map price_kept (price_of (price_head text)) (price_rows text)
 
-pub prices-kept-spec : {M : Type 1} → statement M
-prices-kept-spec =
+pub prices_kept_spec : {M : Type 1} → statement M
+prices_kept_spec =
     tie.close
     (tie.spec
     (λ c κs. search rules) (λ c κs. search rules) (λ c κs. search rules)

@@ -10,14 +10,14 @@ use native.Mathlib.Omega.{arith}
 use Rattle.casefile.proofs.pricing.rows_kept.Statement.{statement}
 use Rattle.casefile.proofs.pricing.rows_kept.Tie as tie
 
-abbrev invariant-loop : tie.invariant-loop
+abbrev invariant-loop : tie.invariant-loop-at
 invariant-loop head rows at₀ at = Testing Lines (λ row. price_kept (price_of head row)) rows at
 
-abbrev decreases-loop : tie.decreases-loop
+abbrev decreases-loop : tie.decreases-loop-at
 decreases-loop head rows at₀ at = length rows + 1 - at
 
-pub rows-kept-spec : {M : Type 1} → statement M
-rows-kept-spec =
+pub rows_kept_spec : {M : Type 1} → statement M
+rows_kept_spec =
     tie.close
     (tie.spec
     invariant-loop
@@ -25,8 +25,8 @@ rows-kept-spec =
     (λ c. test-start _ _ _)
     (λ c κs. omega arith) (λ c. search rules) (λ c. search rules) (λ c. search rules) (λ c κs. search rules)
     (λ c. let cut = c.before.before.before in
-    test-fails cut.before.before.loop.invariant cut.piece-end.ensures c.before.row_kept.ensures c.if1.true)
+    test-fails cut.before.before.loop-at.invariant cut.piece_end-end.ensures c.before.row_kept.ensures c.if-not-row_kept.true-raw)
     (λ c. omega arith) (λ c. omega arith)
     (λ c. let cut = c.before.before.before in
-    test_on cut.before.before.loop.invariant cut.piece-end.ensures c.before.row_kept.ensures c.if1.false)
-    (λ c. test-end c.before.loop.invariant (omega arith)))
+    test_on cut.before.before.loop-at.invariant cut.piece_end-end.ensures c.before.row_kept.ensures c.if-not-row_kept.false-raw)
+    (λ c. test-end c.before.loop-at.invariant (omega arith)))

@@ -14,13 +14,13 @@ use Rattle.casefile.proofs.pricing.store.Tie as tie
 counted : (f : List ℕ → ℤ) (rows ls : List (List ℕ)) → rows ≡ ls → length rows ≡ length (map f ls)
 counted f rows ls e = ap (λ (l : List (List ℕ)). length l) e ∙ sym (length-map ls f)
 
-store-rows-requires : tie.Need-store-rows-requires
+store-rows-requires : tie.Need-store_rows-requires
 unfolding prices_in
 store-rows-requires c κs =
     let r = c.before in
     let s = r.before.before.before in
     let text = s.args.text.now in
-    omega (arith, counted (price_of (price_head text)) _ (price_rows text) r.lines_from.ensures, s.requires)
+    omega (arith, counted (price_of (price_head text)) _ (price_rows text) r.lines_from-rows.ensures, s.requires)
 
 returns : tie.Need-returns
 unfolding prices_in
@@ -30,10 +30,10 @@ returns c =
     let h = r.before in
     let s = h.before.before in
     let text = s.args.text.now in
-    w.store-rows.ensures
+    w.store_rows.ensures
     ∙ ap₂ (λ (l : List ℤ) (n : ℕ). l ++ drop n s.args.prices.now)
-    (ap₂ (λ (head : List ℕ) (ls : List (List ℕ)). map (price_of head) ls) h.line.ensures r.lines_from.ensures)
-    (counted (price_of (price_head text)) _ (price_rows text) r.lines_from.ensures)
+    (ap₂ (λ (head : List ℕ) (ls : List (List ℕ)). map (price_of head) ls) h.line-head.ensures r.lines_from-rows.ensures)
+    (counted (price_of (price_head text)) _ (price_rows text) r.lines_from-rows.ensures)
 
 pub store_spec : {M : Type 1} → statement M
 store_spec =

@@ -18,10 +18,10 @@ too_long text h = rw (lt-leb (length text) most_bytes h)
 five : {a a' b b' c c' d d' e e' : Bool} → a ≡ a' → b ≡ b' → c ≡ c' → d ≡ d' → e ≡ e' → (a && b && c && d && e) ≡ (a' && b' && c' && d' && e')
 five p q r s t = cc
 
-returns : tie.Need-returns
-returns c = too_long c.before.before.args.text.now c.if1.true
+returns : tie.Need-returns-then-text-gt-MOST_BYTES
+returns c = too_long c.before.before.args.text.now c.if-text-gt-MOST_BYTES.true
 
-returns-2 : tie.Need-returns-2
+returns-2 : tie.Need-returns
 unfolding form_kept
 returns-2 c =
     let u = c.before in
@@ -29,11 +29,11 @@ returns-2 c =
     let l = g.before in
     let k = l.before in
     let text = k.before.before.before.args.text.now in
-    five k.is-closed.ensures (ap (leb 4) l.lines-in.ensures) g.third-empty.ensures u.unit-formed.ensures c.prices-formed.ensures
-    ∙ rw (le-leb (length text) most_bytes k.before.if1.false)
+    five k.is_closed.ensures (ap (leb 4) l.lines_in.ensures) g.third_empty.ensures u.unit_formed.ensures c.prices_formed.ensures
+    ∙ rw (le-leb (length text) most_bytes k.before.if-text-gt-MOST_BYTES.false)
 
-pub form-kept-spec : {M : Type 1} → statement M
-form-kept-spec =
+pub form_kept_spec : {M : Type 1} → statement M
+form_kept_spec =
     tie.close
     (tie.spec
     returns

@@ -23,17 +23,17 @@ last (b ∷ []) (suc k) e = absurd (omega arith)
 last (b ∷ d ∷ bs) zero e = absurd (omega arith)
 last (b ∷ d ∷ bs) (suc k) e = last (d ∷ bs) k (omega arith)
 
-returns : tie.Need-returns
-returns c = none c.before.before.args.text.now c.if1.true
+returns : tie.Need-returns-then-n-eq0
+returns c = none c.before.before.args.text.now c.if-n-eq0.true
 
-returns-2 : tie.Need-returns-2
+returns-2 : tie.Need-returns
 returns-2 c =
     let m = c.before.before in
     let text = m.before.before.args.text.now in
-    c.is-of.ensures ∙ last text (length text - 1) (omega (arith, m.if1.false))
+    c.is_of.ensures ∙ last text (length text - 1) (omega (arith, m.if-n-eq0.false))
 
-pub is-closed-spec : {M : Type 1} → statement M
-is-closed-spec =
+pub is_closed_spec : {M : Type 1} → statement M
+is_closed_spec =
     tie.close
     (tie.spec
     returns

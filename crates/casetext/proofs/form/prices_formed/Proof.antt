@@ -17,13 +17,13 @@ returns c =
     let n = f.before in
     let r = n.before in
     let h = r.before in
-    ap₂ ◌&&◌ (n.name-line.ensures ∙ ap name_line h.line.ensures)
-    (c.value-lines.ensures
+    ap₂ ◌&&◌ (n.name_line.ensures ∙ ap name_line h.line-head.ensures)
+    (c.value_lines.ensures
     ∙ ap₂ (λ (k : ℕ) (ls : List (List ℕ)). every (value_line k) ls)
-    (f.fields_in.ensures ∙ ap (λ (l : List ℕ). length (fields_of l)) h.line.ensures) r.lines_from.ensures)
+    (f.fields_in.ensures ∙ ap (λ (l : List ℕ). length (fields_of l)) h.line-head.ensures) r.lines_from-rows.ensures)
 
-pub prices-formed-spec : {M : Type 1} → statement M
-prices-formed-spec =
+pub prices_formed_spec : {M : Type 1} → statement M
+prices_formed_spec =
     tie.close
     (tie.spec
     (λ c κs. search rules) (λ c κs. search rules) (λ c κs. search rules) (λ c κs. search rules) (λ c κs. search rules)

@@ -16,7 +16,7 @@ measured [] = refl
 measured (b ∷ bs) = ne_eqb (suc (length bs)) 0 (λ e. omega arith)
 
 returns : tie.Need-returns
-returns c = ap (λ (s : List ℕ). eqb (length s) 0) c.line.ensures ∙ measured (empty_line c.before.before.args.text.now)
+returns c = ap (λ (s : List ℕ). eqb (length s) 0) c.line-third.ensures ∙ measured (empty_line c.before.before.args.text.now)
 
-pub third-empty-spec : {M : Type 1} → statement M
-third-empty-spec = tie.close (tie.spec (λ c κs. search rules) returns)
+pub third_empty_spec : {M : Type 1} → statement M
+third_empty_spec = tie.close (tie.spec (λ c κs. search rules) returns)

@@ -25,12 +25,12 @@ returns c =
     let v = n.before in
     let h = v.before in
     let text = h.before.before.args.text.now in
-    one-row (unit_head text) (unit_row text) n.name-line.result c.Value-line.result (n.name-line.ensures ∙ ap name_line h.line.ensures)
-    (c.Value-line.ensures
-    ∙ ap₂ value_line (f.fields_in.ensures ∙ ap (λ (l : List ℕ). length (fields_of l)) h.line.ensures) v.line2.ensures)
+    one-row (unit_head text) (unit_row text) n.name_line.result c.value_line.result (n.name_line.ensures ∙ ap name_line h.line-head.ensures)
+    (c.value_line.ensures
+    ∙ ap₂ value_line (f.fields_in.ensures ∙ ap (λ (l : List ℕ). length (fields_of l)) h.line-head.ensures) v.line-row.ensures)
 
-pub unit-formed-spec : {M : Type 1} → statement M
-unit-formed-spec =
+pub unit_formed_spec : {M : Type 1} → statement M
+unit_formed_spec =
     tie.close
     (tie.spec
     (λ c κs. search rules) (λ c κs. search rules) (λ c κs. search rules) (λ c κs. search rules) (λ c κs. search rules)

@@ -8,5 +8,5 @@ returns : tie.Need-returns
 unfolding is_of
 returns c = c.names_in.ensures
 
-pub unit-names-spec : {M : Type 1} → statement M
-unit-names-spec = tie.close (tie.spec (λ c κs. search rules) returns)
+pub unit_names_spec : {M : Type 1} → statement M
+unit_names_spec = tie.close (tie.spec (λ c κs. search rules) returns)

@@ -13,10 +13,10 @@ use native.Mathlib.Omega.{arith}
 use Rattle.casetext.proofs.parts.line.Statement.{statement}
 use Rattle.casetext.proofs.parts.line.Tie as tie
 
-part-result-end : tie.Need-slice-bounds-result-end
+part-result-end : tie.Need-slice_bounds-result-end
 part-result-end c =
     let s = c.before.before.before.args in
-    (end-between LineEnd s.text.now c.before.start_of_lem.result c.end-from.result c.before.start_of_lem.ensures.0 c.end-from.ensures).1
+    (end-between LineEnd s.text.now c.before.start_of-at.result c.end_from-end.result c.before.start_of-at.ensures.0 c.end_from-end.ensures).1
 
 returns : tie.Need-returns
 returns c =
@@ -24,13 +24,13 @@ returns c =
     let p = e.before in
     let a = p.before.before.args in
     let same_place : a.number + 0 ≡ a.number = omega arith in
-    line-here a.text.now p.start_of_lem.result e.end-from.result p.start_of_lem.ensures.0 e.end-from.ensures
-    ∙ ap (λ (ls : List (List ℕ)). get_or ls 0 []) p.start_of_lem.ensures.1
+    line-here a.text.now p.start_of-at.result e.end_from-end.result p.start_of-at.ensures.0 e.end_from-end.ensures
+    ∙ ap (λ (ls : List (List ℕ)). get_or ls 0 []) p.start_of-at.ensures.1
     ∙ get_or-drop a.number (lines_of a.text.now) 0 []
     ∙ ap (λ (k : ℕ). get_or (lines_of a.text.now) k []) same_place
 
-pub line-spec : {M : Type 1} → statement M
-line-spec =
+pub line_spec : {M : Type 1} → statement M
+line_spec =
     tie.close
     (tie.spec
     (λ c κs. search rules) (λ c κs. search rules) (λ c. search rules) (λ c. search rules)

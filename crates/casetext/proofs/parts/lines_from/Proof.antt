@@ -9,10 +9,10 @@ use Rattle.casetext.proofs.parts.lines_from.Tie as tie
 returns : tie.Need-returns
 returns c =
     let p = c.before in
-    ap lines_of (tail-part p.start_of_lem.result p.before.before.args.text.now) ∙ p.start_of_lem.ensures.1
+    ap lines_of (tail-part p.start_of-at.result p.before.before.args.text.now) ∙ p.start_of-at.ensures.1
 
-pub lines-from-spec : {M : Type 1} → statement M
-lines-from-spec =
+pub lines_from_spec : {M : Type 1} → statement M
+lines_from_spec =
     tie.close
     (tie.spec
     (λ c κs. search rules) (λ c. search rules) (λ c. search rules) (λ c. search rules)

@@ -10,22 +10,22 @@ use native.Mathlib.Omega.{arith}
 use Rattle.casetext.proofs.parts.next_from.Statement.{statement}
 use Rattle.casetext.proofs.parts.next_from.Tie as tie
 
-returns : tie.Need-returns
+returns : tie.Need-returns-then-end-text
 returns c =
     let e = c.before in
     let s = e.before.before in
-    (omega arith, next_start s.args.text.now s.args.at e.end-from.result s.requires e.end-from.ensures)
+    (omega arith, next_start s.args.text.now s.args.at e.end_from-end.result s.requires e.end_from-end.ensures)
 
-returns-2 : tie.Need-returns-2
+returns-2 : tie.Need-returns
 returns-2 c =
     let e = c.before in
     let s = e.before.before in
     let text = s.args.text.now in
-    let end = e.end-from.result in (
-      (end-between LineEnd text s.args.at end s.requires e.end-from.ensures).1,
+    let end = e.end_from-end.result in (
+      (end-between LineEnd text s.args.at end s.requires e.end_from-end.ensures).1,
       pieces_end Lines text end (omega arith) ∙ sym (pieces_end Lines text (end + 1) (omega arith))
-          ∙ next_start text s.args.at end s.requires e.end-from.ensures,
+          ∙ next_start text s.args.at end s.requires e.end_from-end.ensures,
     )
 
-pub next-from-spec : {M : Type 1} → statement M
-next-from-spec = tie.close (tie.spec (λ c κs. search rules) (λ c. search rules) returns returns-2)
+pub next_from_spec : {M : Type 1} → statement M
+next_from_spec = tie.close (tie.spec (λ c κs. search rules) (λ c. search rules) returns returns-2)

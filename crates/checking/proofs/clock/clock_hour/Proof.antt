@@ -7,17 +7,17 @@ use Rattle.checking.specs.Clock.{clock_checked}
 use Rattle.checking.proofs.clock.clock_hour.Statement.{statement}
 use Rattle.checking.proofs.clock.clock_hour.Tie as tie
 
-passed : (c : tie.After-enum-told) → let a = c.before.before.before.args in clock_checked a.date a.interval ≡ Passed
-passed c = sym c.before.before.check-clock.ensures ∙ c.enum_told.given.1
+passed : (c : tie.In-Passed) → let a = c.before.before.args in clock_checked a.date a.interval ≡ Passed
+passed c = sym c.before.check_clock.ensures ∙ c.in-Passed.is
 
-returns : tie.Need-returns
+returns : tie.Need-returns-in-Refused
 returns c =
-    let told = c.before.before.before in
-    simp (sym told.check-clock.ensures ∙ c.before.cause.given.1)
+    let told = c.before in
+    simp (sym told.check_clock.ensures ∙ c.in-Refused.is)
 
-returns-2 : tie.Need-returns-2
-returns-2 c = simp (passed c.before) (ap Hour c.hour-of.ensures)
+returns-2 : tie.Need-returns-in-Passed
+returns-2 c = simp (passed c.before) (ap Hour c.hour_of.ensures)
 
-pub clock-hour-spec : {M : Type 1} → statement M
-clock-hour-spec =
+pub clock_hour_spec : {M : Type 1} → statement M
+clock_hour_spec =
     tie.close (tie.spec (λ c κs. search rules) (λ c. search rules) (λ c. search rules) (λ c κs. passed c) returns returns-2)

@@ -16,10 +16,10 @@ use Rattle.checking.proofs.clock.fill.Tie as tie
 abbrev hours_by : Clock → ℕ → List ℕ
 hours_by clock count = each_from (λ i. shown clock (i / 4)) 0 count
 
-abbrev invariant-loop : tie.invariant-loop
+abbrev invariant-loop : tie.invariant-loop-i
 invariant-loop clock hours₀ i₀ hours i = (length hours ≡ length hours₀) × (i ≤ length hours) × (hours ≡ hours_by clock i ++ drop i hours₀)
 
-abbrev decreases-loop : tie.decreases-loop
+abbrev decreases-loop : tie.decreases-loop-i
 decreases-loop clock hours₀ i₀ hours i = length hours - i
 
 one_more : (clock : Clock) (s₀ : List ℕ) (i : ℕ) → i < length s₀
@@ -28,25 +28,25 @@ one_more clock s₀ i h =
     let hour : ℕ → ℕ = λ i. shown clock (i / 4) in
     fill-next (hours_by clock i) s₀ i (each-count hour 0 i) (hour i) h ∙ ap (λ (l : List ℕ). l ++ drop (i + 1) s₀) (sym (each_next hour i))
 
-hour-after-requires : tie.Need-hour-after-requires invariant-loop decreases-loop
+hour-after-requires : tie.Need-hour_after-requires invariant-loop decreases-loop
 hour-after-requires c κs =
     let loop = c.before in
     let o = loop.before.before in
-    (omega (arith, o.requires.1, loop.loop.invariant, c.loop-test.true), o.requires.0)
+    (omega (arith, o.requires.1, loop.loop-i.invariant, c.loop-i-test.true), o.requires.0)
 
-loop-again : tie.Need-loop-preserved invariant-loop decreases-loop
+loop-again : tie.Need-loop-i-preserved invariant-loop decreases-loop
 loop-again c =
     let at = c.before.before in
-    let l = at.loop in
+    let l = at.loop-i in
     let a = at.before.before.args in (
       simp length-set (omega arith),
       simp length-set (omega arith),
-      rw (c.hour-after.ensures, l.invariant.2) (one_more a.clock a.hours.now l.i (omega arith)),
+      rw (c.hour_after.ensures, l.invariant.2) (one_more a.clock a.hours.now l.i (omega arith)),
     )
 
 returns : tie.Need-returns invariant-loop decreases-loop
 returns c =
-    let l = c.before.loop in
+    let l = c.before.loop-i in
     let a = c.before.before.before.args in
     let s₀ = a.hours.now in
     let all : l.i ≡ length s₀ = omega arith in

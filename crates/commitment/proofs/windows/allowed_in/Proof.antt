@@ -8,10 +8,10 @@ use Rattle.commitment.proofs.windows.allowed_in.Statement.{statement}
 use Rattle.commitment.proofs.windows.allowed_in.Tie as tie
 
 allows-requires : tie.Need-allows-requires
-allows-requires c κs = let a = c.before.before.args in rw c.hour-after.ensures (shown-hour a.allowed.clock (a.interval / 4))
+allows-requires c κs = let a = c.before.before.args in rw c.hour_after-hour.ensures (shown-hour a.allowed.clock (a.interval / 4))
 
 returns : tie.Need-returns
-returns c = c.allows.ensures ∙ ap (allows _) c.before.hour-after.ensures
+returns c = c.allows.ensures ∙ ap (allows _) c.before.hour_after-hour.ensures
 
-pub allowed-in-spec : {M : Type 1} → statement M
-allowed-in-spec = tie.close (tie.spec (λ c κs. search rules) allows-requires returns)
+pub allowed_in_spec : {M : Type 1} → statement M
+allowed_in_spec = tie.close (tie.spec (λ c κs. search rules) allows-requires returns)

@@ -9,18 +9,18 @@ use borrow.Author.Rules.{rules}
 use Rattle.commitment.proofs.windows.hours_of.Statement.{statement}
 use Rattle.commitment.proofs.windows.hours_of.Tie as tie
 
-hours-within-requires : tie.Need-hours-within-requires
+hours-within-requires : tie.Need-hours_within-requires
 hours-within-requires c κs =
-    let o = c.before.before.before in
-    let is = c.before.permit.given.1 in
+    let o = c.before in
+    let is = c.in-Within.is in
     (ap permit_kept (sym is) ∙ o.requires.0, ap date_kept (sym is) ∙ o.requires.1)
 
-returns : tie.Need-returns
-returns c = subst (λ (p : Permit). HoursOf p All) (sym c.enum_told.given.1) (record { clocked = tt; same = λ i h. refl })
+returns : tie.Need-returns-in-AnyHour
+returns c = subst (λ (p : Permit). HoursOf p All) (sym c.in-AnyHour.is) (record { clocked = tt; same = λ i h. refl })
 
-returns-2 : tie.Need-returns-2
-returns-2 c = subst (λ (p : Permit). HoursOf p c.hours-within.result) (sym c.before.before.permit.given.1) c.hours-within.ensures
+returns-2 : tie.Need-returns-in-Within
+returns-2 c = subst (λ (p : Permit). HoursOf p c.hours_within.result) (sym c.before.in-Within.is) c.hours_within.ensures
 
-pub hours-of-spec : {M : Type 1} → statement M
-hours-of-spec =
+pub hours_of_spec : {M : Type 1} → statement M
+hours_of_spec =
     tie.close (tie.spec (λ c. search rules) (λ c. search rules) hours-within-requires returns returns-2)

@@ -6,13 +6,13 @@ use borrow.Author.Rules.{rules}
 use Rattle.commitment.proofs.windows.opens_in.Statement.{statement}
 use Rattle.commitment.proofs.windows.opens_in.Tie as tie
 
-allowed-in-requires : tie.Need-allowed-in-requires
-allowed-in-requires c κs = let o = c.before.before.before in (o.requires.0, subst Clocked c.before.hours.given.1 o.requires.1)
+allowed-in-requires : tie.Need-allowed_in-requires
+allowed-in-requires c κs = let o = c.before in (o.requires.0, subst Clocked c.in-Of.is o.requires.1)
 
-returns-2 : tie.Need-returns-2
+returns-2 : tie.Need-returns-in-Of
 returns-2 c =
-    let told = c.before.before in
-    c.allowed-in.ensures ∙ ap (λ (h : Hours). opens h told.before.before.args.interval) (sym told.hours.given.1)
+    let told = c.before in
+    c.allowed_in.ensures ∙ ap (λ (h : Hours). opens h c.before.before.args.interval) (sym c.before.in-Of.is)
 
-pub opens-in-spec : {M : Type 1} → statement M
-opens-in-spec = tie.close (tie.spec (λ c. search rules) (λ c. search rules) allowed-in-requires (λ c. search rules) returns-2)
+pub opens_in_spec : {M : Type 1} → statement M
+opens_in_spec = tie.close (tie.spec (λ c. search rules) (λ c. search rules) allowed-in-requires (λ c. search rules) returns-2)

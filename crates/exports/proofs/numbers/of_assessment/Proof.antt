@@ -6,7 +6,7 @@ use mathlib.Core.Path.{refl}
 use Rattle.integers.proofs.Ranges.{plain_fits}
 
 returns : tie.Need-returns
-returns c = rw (plain_fits (record { sfits = c.profit-of.type-inv }), c.before.number_of_lem.ensures, c.profit-of.ensures) refl
+returns c = rw (plain_fits (record { sfits = c.profit_of.type_inv }), c.before.number_of.ensures, c.profit_of.ensures) refl
 
-pub of-assessment-spec : {M : Type 1} → statement M
-of-assessment-spec = tie.close (tie.spec (λ c κs. search rules) (λ c κs. search rules) returns)
+pub of_assessment_spec : {M : Type 1} → statement M
+of_assessment_spec = tie.close (tie.spec (λ c κs. search rules) (λ c κs. search rules) returns)

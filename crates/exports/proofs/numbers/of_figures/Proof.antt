@@ -5,12 +5,12 @@ use Rattle.exports.proofs.numbers.of_figures.Tie as tie
 use mathlib.Core.Path.{sym, ap}
 use Rattle.exports.specs.Answers.{figures_numbers}
 
-returns : tie.Need-returns
-returns c = ap figures_numbers (sym c.before.answer.given.1)
+returns : tie.Need-returns-in-Figures
+returns c = ap figures_numbers (sym c.in-Figures.is)
 
-returns-2 : tie.Need-returns-2
-returns-2 c = rw c.number_of_lem.ensures (ap figures_numbers (sym c.before.before.answer2.given.1))
+returns-2 : tie.Need-returns-in-Refused
+returns-2 c = rw c.number_of.ensures (ap figures_numbers (sym c.before.in-Refused.is))
 
-pub of-figures-spec : {M : Type 1} → statement M
-of-figures-spec =
+pub of_figures_spec : {M : Type 1} → statement M
+of_figures_spec =
     tie.close (tie.spec (λ c. search rules) (λ c. search rules) (λ c κs. search rules) returns returns-2)

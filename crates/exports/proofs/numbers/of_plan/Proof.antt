@@ -8,14 +8,14 @@ use Rattle.integers.proofs.Ranges.{plain_fits}
 returns : tie.Need-returns
 returns c =
     rw (
-      plain_fits (record { sfits = c.planned-profit.type-inv }),
-      c.before.before.planned-number.ensures,
-      c.before.planned-count.ensures,
-      c.planned-profit.ensures,
+      plain_fits (record { sfits = c.planned_profit.type_inv }),
+      c.before.before.planned_number.ensures,
+      c.before.planned_count.ensures,
+      c.planned_profit.ensures,
     )
     refl
 
-pub of-plan-spec : {M : Type 1} → statement M
-of-plan-spec =
+pub of_plan_spec : {M : Type 1} → statement M
+of_plan_spec =
     tie.close
     (tie.spec (λ c κs. search rules) (λ c κs. search rules) (λ c κs. search rules) returns)

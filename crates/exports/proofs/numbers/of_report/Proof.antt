@@ -5,8 +5,8 @@ use borrow.Author.Rules.{rules}
 use Rattle.exports.proofs.numbers.of_report.Statement.{statement}
 use Rattle.exports.proofs.numbers.of_report.Tie as tie
 
-pub of-report-spec : {M : Type 1} → statement M
-of-report-spec =
+pub of_report_spec : {M : Type 1} → statement M
+of_report_spec =
     tie.close
     (tie.spec
     (λ c κs. search rules) (λ c κs. search rules) (λ c κs. search rules) (λ c κs. search rules) (λ c κs. search rules)
@@ -15,11 +15,11 @@ of-report-spec =
     let profit = outcomes.before in
     let count = profit.before in
     rw (
-      plain_fits (record { sfits = profit.reported-profit.type-inv }),
-      count.before.reported-number.ensures,
-      count.reported-count.ensures,
-      profit.reported-profit.ensures,
-      c.outcomes-numbers.ensures,
-      outcomes.reported-outcomes.ensures,
+      plain_fits (record { sfits = profit.reported_profit.type_inv }),
+      count.before.reported_number.ensures,
+      count.reported_count.ensures,
+      profit.reported_profit.ensures,
+      c.outcomes_numbers.ensures,
+      outcomes.reported_outcomes.ensures,
     )
     refl))

@@ -4,9 +4,9 @@ use borrow.Author.Rules.{rules}
 use Rattle.exports.proofs.numbers.of_value.Statement.{statement}
 use Rattle.exports.proofs.numbers.of_value.Tie as tie
 
-pub of-value-spec : {M : Type 1} → statement M
-of-value-spec =
+pub of_value_spec : {M : Type 1} → statement M
+of_value_spec =
     tie.close
     (tie.spec
     (λ c κs. search rules) (λ c κs. search rules) (λ c κs. search rules)
-    (λ c. rw (c.before.before.Valued-number.ensures, c.outcomes-numbers.ensures, c.before.valued-outcomes.ensures) refl))
+    (λ c. rw (c.before.before.valued_number.ensures, c.outcomes_numbers.ensures, c.before.valued_outcomes.ensures) refl))

@@ -5,7 +5,7 @@ use Rattle.exports.proofs.numbers.of_written.Tie as tie
 use mathlib.Core.Path.{refl}
 
 returns : tie.Need-returns
-returns c = rw (c.before.number_in.ensures, c.bytes-in.ensures) refl
+returns c = rw (c.before.number_in.ensures, c.bytes_in.ensures) refl
 
-pub of-written-spec : {M : Type 1} → statement M
-of-written-spec = tie.close (tie.spec (λ c κs. search rules) (λ c κs. search rules) returns)
+pub of_written_spec : {M : Type 1} → statement M
+of_written_spec = tie.close (tie.spec (λ c κs. search rules) (λ c κs. search rules) returns)

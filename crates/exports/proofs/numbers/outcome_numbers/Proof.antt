@@ -6,22 +6,21 @@ use mathlib.Core.Path.{sym, ap}
 use Rattle.integers.proofs.Ranges.{plain_fits}
 use Rattle.exports.specs.Records.{outcome_numbers}
 
-returns : tie.Need-returns
-returns c = ap outcome_numbers (sym c.enum_told.given.1)
+returns : tie.Need-returns-in-None
+returns c = ap outcome_numbers (sym c.in-None.is)
 
-returns-2 : tie.Need-returns-2
-returns-2 c = ap outcome_numbers (sym c.enum-told2.given.1)
+returns-2 : tie.Need-returns-in-Empty
+returns-2 c = ap outcome_numbers (sym c.in-Empty.is)
 
-returns-3 : tie.Need-returns-3
-returns-3 c = ap outcome_numbers (sym c.enum-told3.given.1)
+returns-3 : tie.Need-returns-in-Never
+returns-3 c = ap outcome_numbers (sym c.in-Never.is)
 
-returns-4 : tie.Need-returns-4
+returns-4 : tie.Need-returns-in-Gap
 returns-4 c =
-    let z = c.before.outcome.given in
-    rw (plain_fits {x = z.0.0} (record { sfits = c.known-told.given.0.1 })) (ap outcome_numbers (sym z.1))
+    rw (plain_fits {x = c.in-Gap.gap} (record { sfits = c.in-Gap.known_told-1-own.given.0.1 })) (ap outcome_numbers (sym c.in-Gap.is))
 
-pub outcome-numbers-spec : {M : Type 1} → statement M
-outcome-numbers-spec =
+pub outcome_numbers_spec : {M : Type 1} → statement M
+outcome_numbers_spec =
     tie.close
     (tie.spec
     (λ c. search rules)

@@ -10,16 +10,16 @@ returns c =
     let a = c.before.before.before.before in
     let b = c.before.before in
     rw (
-      a.outcome-from.ensures,
-      b.outcome-from2.ensures,
-      c.outcome-from3.ensures,
-      plain_fits (record { sfits = a.before.struct_told.given.1.0.1 }),
-      plain_fits (record { sfits = b.before.struct-told2.given.1.0.1 }),
-      plain_fits (record { sfits = c.before.struct-told3.given.1.0.1 }),
+      a.outcome_from.ensures,
+      b.outcome_from-2.ensures,
+      c.outcome_from-3.ensures,
+      plain_fits (record { sfits = a.before.struct_told-1.given.1.0.1 }),
+      plain_fits (record { sfits = b.before.struct_told-2-1.given.1.0.1 }),
+      plain_fits (record { sfits = c.before.struct_told-3-1.given.1.0.1 }),
     )
     refl
 
-pub outcomes-from-spec : {M : Type 1} → statement M
-outcomes-from-spec =
+pub outcomes_from_spec : {M : Type 1} → statement M
+outcomes_from_spec =
     tie.close
     (tie.spec (λ c κs. search rules) (λ c κs. search rules) (λ c κs. search rules) returns)

@@ -5,10 +5,10 @@ use Rattle.exports.proofs.numbers.outcomes_numbers.Tie as tie
 use mathlib.Core.Path.{refl}
 
 returns : tie.Need-returns
-returns c = rw (c.before.before.outcome-numbers.ensures, c.before.outcome-numbers2.ensures, c.outcome-numbers3.ensures) refl
+returns c = rw (c.before.before.outcome_numbers.ensures, c.before.outcome_numbers-2.ensures, c.outcome_numbers-3.ensures) refl
 
-pub outcomes-numbers-spec : {M : Type 1} → statement M
-outcomes-numbers-spec =
+pub outcomes_numbers_spec : {M : Type 1} → statement M
+outcomes_numbers_spec =
     tie.close
     (tie.spec
     (λ c κs. search rules)

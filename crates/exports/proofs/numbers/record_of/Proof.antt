@@ -8,9 +8,9 @@ returns : tie.Need-returns
 returns c =
     let third = c.before in
     let second = third.before in
-    rw (second.before.limit-from.ensures, second.limit-from2.ensures, third.limit-from3.ensures, c.permit-from.ensures) refl
+    rw (second.before.limit_from.ensures, second.limit_from-2.ensures, third.limit_from-3.ensures, c.permit_from.ensures) refl
 
-pub record-of-spec : {M : Type 1} → statement M
-record-of-spec =
+pub record_of_spec : {M : Type 1} → statement M
+record_of_spec =
     tie.close
     (tie.spec (λ c κs. search rules) (λ c κs. search rules) (λ c κs. search rules) (λ c κs. search rules) returns)

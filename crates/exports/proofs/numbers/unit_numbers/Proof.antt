@@ -8,9 +8,9 @@ returns : tie.Need-returns
 returns c =
     let second = c.before in
     let first = second.before in
-    rw (first.before.before.window-numbers.ensures, first.limit-number.ensures, second.limit-number2.ensures, c.limit-number3.ensures) refl
+    rw (first.before.before.window_numbers-window.ensures, first.limit_number.ensures, second.limit_number-2.ensures, c.limit_number-3.ensures) refl
 
-pub unit-numbers-spec : {M : Type 1} → statement M
-unit-numbers-spec =
+pub unit_numbers_spec : {M : Type 1} → statement M
+unit_numbers_spec =
     tie.close
     (tie.spec (λ c κs. search rules) (λ c κs. search rules) (λ c κs. search rules) (λ c κs. search rules) returns)

@@ -16,53 +16,53 @@ use borrow.Author.Rules.{rules}
 use Rattle.halving.proofs.ahead.plan_to.Statement.{statement}
 use Rattle.halving.proofs.ahead.plan_to.Tie as tie
 
-abbrev start : tie.After-mark-ends → tie.Start
+abbrev start : tie.After-mark_ends → tie.Start
 start c = c.before.before.before.before.before
 
-abbrev passed : tie.After-marked → tie.After-mark-ends
-passed c = c.before.before.before
+abbrev passed : tie.After-marked-at → tie.After-mark_ends
+passed c = c.before.before
 
 asked : (c : tie.Start) → let a = c.args in LegAsked a.g a.cells.now a.prices.now a.room a.l (length a.schedule.now)
 asked c = c.requires
 
-mark-ends-requires : tie.Need-mark-ends-requires
+mark-ends-requires : tie.Need-mark_ends-requires
 mark-ends-requires c κs =
     let o = c.before.before.before.before in
     let a = o.args in
     sweep-asked a.g a.cells.now a.prices.now a.room a.l (length a.schedule.now) (asked o)
 
-marked-requires : tie.Need-marked-requires
+marked-requires : tie.Need-marked-at-requires
 marked-requires c κs =
-    let m = c.before.before in
+    let m = c.before in
     let o = start m in
     let a = o.args in
     let k = asked o in (
       k.sound,
       k.here,
-      omega (arith, k.wide, k.two, k.fits, m.mark-ends.auto.0),
-      mark-kept a.g a.cells.now a.prices.now a.room a.l (length a.schedule.now) k m.mark-ends.new.0 m.mark-ends.ensures
+      omega (arith, k.wide, k.two, k.fits, m.mark_ends.auto.cells),
+      mark-kept a.g a.cells.now a.prices.now a.room a.l (length a.schedule.now) k m.mark_ends.new.cells m.mark_ends.ensures
           k.worth k.ahead k.few k.layer k.some,
     )
 
 -- the cell where the plan ends, whatever the layer said that stood there
-at-end : (c : tie.After-marked) →
+at-end : (c : tie.After-marked-at) →
     let m = passed c in
     let o = start m in
     let a = o.args in
     (worth : Cell → BestProfit) (n : ℕ) (few : n + (a.l.to - a.l.from) ≤ most_intervals)
     (layer : LayerAt a.g.figures n worth (value_of a.g.figures a.g.width a.cells.now))
     (some : value_at a.g.figures worth (quarters_over a.g a.prices.now a.l) a.l.cell ≡ Nothing → ⊥)
-    → c.marked.result
-    ≡ (mark a.g a.cells.now a.prices.now a.room a.l (length a.schedule.now) (asked o) m.mark-ends.last.0 m.mark-ends.ensures worth n few
+    → c.marked-at.result
+    ≡ (mark a.g a.cells.now a.prices.now a.room a.l (length a.schedule.now) (asked o) m.mark_ends.new.cells m.mark_ends.ensures worth n few
     layer some).at
 at-end c worth n few layer some =
     let m = passed c in
     let o = start m in
     let a = o.args in
     let e =
-    mark a.g a.cells.now a.prices.now a.room a.l (length a.schedule.now) (asked o) m.mark-ends.last.0 m.mark-ends.ensures worth n few
+    mark a.g a.cells.now a.prices.now a.room a.l (length a.schedule.now) (asked o) m.mark_ends.new.cells m.mark_ends.ensures worth n few
     layer some in
-    c.marked.ensures e.at e.stands.inside e.is
+    c.marked-at.ensures e.at e.stands.inside e.is
 
 spent-requires : tie.Need-spent-requires
 spent-requires c κs =
@@ -70,10 +70,10 @@ spent-requires c κs =
     let o = start m in
     let a = o.args in
     let k = asked o in
-    spends-all a.g a.cells.now a.prices.now a.room a.l (length a.schedule.now) k m.mark-ends.last.0 m.mark-ends.ensures k.worth
-    k.ahead k.few k.layer k.some c.marked.result (at-end c k.worth k.ahead k.few k.layer k.some)
+    spends-all a.g a.cells.now a.prices.now a.room a.l (length a.schedule.now) k m.mark_ends.new.cells m.mark_ends.ensures k.worth
+    k.ahead k.few k.layer k.some c.marked-at.result (at-end c k.worth k.ahead k.few k.layer k.some)
 
-solve-requires : tie.Need-solve-requires
+solve-requires : tie.Need-solve-tries-requires
 solve-requires c κs =
     let s = c.before.before in
     let n = s.before in
@@ -82,8 +82,8 @@ solve-requires c κs =
     let a = o.args in
     let k = asked o in
     rw s.spent.ensures
-    (task-asked a.g a.cells.now a.prices.now a.room a.l (length a.schedule.now) k m.mark-ends.last.0 m.mark-ends.ensures k.worth
-    k.ahead k.few k.layer k.some n.marked.result (at-end n k.worth k.ahead k.few k.layer k.some) _ (omega (arith, m.mark-ends.kept.0, k.fits)))
+    (task-asked a.g a.cells.now a.prices.now a.room a.l (length a.schedule.now) k m.mark_ends.new.cells m.mark_ends.ensures k.worth
+    k.ahead k.few k.layer k.some n.marked-at.result (at-end n k.worth k.ahead k.few k.layer k.some) _ (omega (arith, m.mark_ends.auto.cells, k.fits)))
 
 returns : tie.Need-returns
 returns c =
@@ -94,14 +94,14 @@ returns c =
     let o = start m in
     let a = o.args in
     let k = asked o in
-    let solved = rw s.spent.ensures at done.solve.ensures.0 in (
+    let solved = rw s.spent.ensures at done.solve-tries.ensures.0 in (
       λ worth ahead few layer some.
-          reached a.g a.cells.now a.prices.now a.room a.l (length a.schedule.now) k m.mark-ends.last.0 m.mark-ends.ensures worth ahead
-          few layer some n.marked.result (at-end n worth ahead few layer some) _ _ _ solved,
-      λ j h. done.solve.ensures.1 j h ∙ m.mark-ends.ensures.beyond j (omega (arith, h, k.two)),
+          reached a.g a.cells.now a.prices.now a.room a.l (length a.schedule.now) k m.mark_ends.new.cells m.mark_ends.ensures worth ahead
+          few layer some n.marked-at.result (at-end n worth ahead few layer some) _ _ _ solved,
+      λ j h. done.solve-tries.ensures.1 j h ∙ m.mark_ends.ensures.beyond j (omega (arith, h, k.two)),
     )
 
-pub plan-to-spec : {M : Type 1} → statement M
-plan-to-spec =
+pub plan_to_spec : {M : Type 1} → statement M
+plan_to_spec =
     tie.close
     (tie.spec mark-ends-requires marked-requires spent-requires solve-requires (λ c. search rules) (λ c. search rules) returns)

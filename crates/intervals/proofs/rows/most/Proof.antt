@@ -12,16 +12,16 @@ use Rattle.intervals.proofs.rows.most.Statement.{statement}
 use Rattle.intervals.proofs.rows.most.Tie as tie
 
 steps : (c : tie.After-signed) → to_z w64 (of_z w64 c.signed.result) ≡ c.signed.result
-steps c = plain_fits (record { sfits = c.signed.type-inv })
+steps c = plain_fits (record { sfits = c.signed.type_inv })
 
-mul-result : tie.Need-overflow-mul-result
+mul-result : tie.Need-overflow_mul-result
 mul-result c =
     let signed = c.before.before in
     let o = signed.before.before in
     let l = o.args.l in
     rw (rise-plain l o.requires, steps signed, signed.signed.ensures) (within-fits (steps-within l o.requires l.high (omega arith)) (lit< tt))
 
-add-result : tie.Need-overflow-add-result
+add-result : tie.Need-overflow_add-result
 unfolding brings
 add-result c =
     let signed = c.before.before.before.before in
@@ -39,5 +39,5 @@ returns c =
     rw (least-plain l o.requires, rise-plain l o.requires, steps signed, signed.signed.ensures, plain (steps-within l o.requires l.high (omega arith)) (lit< tt))
     (plain (brings-within l o.requires l.high (omega arith)) (lit< tt))
 
-pub most-spec : {M : Type 1} → statement M
-most-spec = tie.close (tie.spec (λ c. search rules) (λ c κs. search rules) mul-result add-result returns)
+pub most_spec : {M : Type 1} → statement M
+most_spec = tie.close (tie.spec (λ c. search rules) (λ c κs. search rules) mul-result add-result returns)

@@ -22,28 +22,28 @@ use Rattle.intervals.proofs.rows.pass.Tie as tie
 risen : (o : tie.Start) → Within (carried_most + swing) (o.args.best +ℤ o.args.rise)
 risen o = within-sum (within-weaken o.requires.carried (within-abs o.args.best)) (within-weaken o.requires.rises (within-abs o.args.rise))
 
-next : (c : tie.After-larger) →
-    let a = c.before.before.args in c.larger.result ≡ maxℤ (get_or a.scratch.now a.from (pos 0)) (a.best +ℤ a.rise)
+next : (c : tie.After-larger-next) →
+    let a = c.before.before.args in c.larger-next.result ≡ maxℤ (get_or a.scratch.now a.from (pos 0)) (a.best +ℤ a.rise)
 next c =
     let o = c.before.before in
-    rw (plain_fits (record { sfits = c.before.larger-arg.given }), plain_fits o.ranges.best, plain_fits o.ranges.rise, plain (risen o) (lit< tt)) at
-    c.larger.ensures
+    rw (plain_fits (record { sfits = c.before.larger-arg-1.given }), plain_fits o.ranges.best, plain_fits o.ranges.rise, plain (risen o) (lit< tt)) at
+    c.larger-next.ensures
 
-gained : (c : tie.After-larger) → Within (carried_most + swing + most_brought) (to_z w64 (of_z w64 c.larger.result) +ℤ c.before.before.args.gain)
+gained : (c : tie.After-larger-next) → Within (carried_most + swing + most_brought) (to_z w64 (of_z w64 c.larger-next.result) +ℤ c.before.before.args.gain)
 gained c =
     let o = c.before.before in
     let a = o.args in
     let number = get_or a.scratch.now a.from (pos 0) in
-    let carried : Within (carried_most + swing) c.larger.result =
+    let carried : Within (carried_most + swing) c.larger-next.result =
     rw (next c)
     (⊎_elim (λ e. rw e (within-weaken (omega (arith, o.requires.number)) (within-abs number))) (λ e. rw e (risen o))
     (max-is number (a.best +ℤ a.rise)).one_of) in
-    rw (plain_fits {x = c.larger.result} (record { sfits = c.larger.type-inv })) (within-sum carried (within-weaken o.requires.gains (within-abs a.gain)))
+    rw (plain_fits {x = c.larger-next.result} (record { sfits = c.larger-next.type_inv })) (within-sum carried (within-weaken o.requires.gains (within-abs a.gain)))
 
-add-larger : tie.Need-overflow-add-larger
+add-larger : tie.Need-overflow_add-best
 add-larger c = let o = c.before in rw (plain_fits o.ranges.best, plain_fits o.ranges.rise) (within-fits (risen o) (lit< tt))
 
-add-larger-2 : tie.Need-overflow-add-larger-2
+add-larger-2 : tie.Need-overflow_add-next
 add-larger-2 c =
     rw (plain_fits c.before.before.before.ranges.gain) (within-fits (gained c.before) (lit< tt))
 
@@ -53,11 +53,11 @@ returns c =
     let o = after.before.before in
     let a = o.args in
     let off : to_z w64 (of_z w64 (get_or a.scratch.now a.to (pos 0))) ≡ get_or a.scratch.now a.to (pos 0) =
-    plain_fits (record { sfits = c.before.larger-arg2.given }) in
-    let stored = rw (off, plain_fits o.ranges.gain, plain (gained after) (lit< tt)) at c.larger2.ensures in
+    plain_fits (record { sfits = c.before.larger-arg-2-1.given }) in
+    let stored = rw (off, plain_fits o.ranges.gain, plain (gained after) (lit< tt)) at c.larger.ensures in
     record {
-      carried = plain_fits (record { sfits = after.larger.type-inv }) ∙ next after;
-      stored = ap (set a.scratch.now a.to) (plain_fits (record { sfits = c.larger2.type-inv }) ∙ stored);
+      carried = plain_fits (record { sfits = after.larger-next.type_inv }) ∙ next after;
+      stored = ap (set a.scratch.now a.to) (plain_fits (record { sfits = c.larger.type_inv }) ∙ stored);
     }
 
 pub pass_spec : {M : Type 1} → statement M

@@ -14,67 +14,67 @@ use Rattle.intervals.proofs.Stretches.{Made, made_none, made-next, made-apart}
 use Rattle.intervals.proofs.rows.raise.Statement.{statement}
 use Rattle.intervals.proofs.rows.raise.Tie as tie
 
-abbrev invariant-loop : tie.invariant-loop
+abbrev invariant-loop : tie.invariant-loop-i
 invariant-loop scratch₀ to from count gain i₀ scratch i =
     (i ≤ count)
     × Made (λ j. j) scratch₀ scratch to i (λ j. maxℤ (get_or scratch₀ (to + j) (pos 0)) (get_or scratch₀ (from + j) (pos 0) +ℤ to_z w64 gain))
 
-abbrev decreases-loop : tie.decreases-loop
+abbrev decreases-loop : tie.decreases-loop-i
 decreases-loop scratch₀ to from count gain i₀ scratch i = count - i
 
 -- the number behind, and that with the gain
-abbrev behind : tie.In-loop invariant-loop decreases-loop → ℤ
-behind c = let a = c.before.before.args in get_or a.scratch.now (a.from + c.before.loop.i) (pos 0)
+abbrev behind : tie.In-loop-i invariant-loop decreases-loop → ℤ
+behind c = let a = c.before.before.args in get_or a.scratch.now (a.from + c.before.loop-i.i) (pos 0)
 
-read : (c : tie.After-on invariant-loop decreases-loop) →
+read : (c : tie.After-on-1 invariant-loop decreases-loop) →
     let turn = c.before in
-    let l = turn.before.loop in
+    let l = turn.before.loop-i in
     to_z w64 (of_z w64 (get_or l.scratch (turn.before.before.args.from + l.i) (pos 0))) ≡ behind turn
 read c =
     let turn = c.before in
     let o = turn.before.before in
-    let l = turn.before.loop in
-    plain_fits (record { sfits = c.on.given }) ∙ l.invariant.1.apart (o.args.from + l.i) (λ m k e. omega (arith, o.requires.0.before))
+    let l = turn.before.loop-i in
+    plain_fits (record { sfits = c.on-1.given }) ∙ l.invariant.1.apart (o.args.from + l.i) (λ m k e. omega (arith, o.requires.0.before))
 
-gained : (c : tie.In-loop invariant-loop decreases-loop) → Within (2 ^ 62 + most_brought) (behind c +ℤ to_z w64 (of_z w64 c.before.before.args.gain))
+gained : (c : tie.In-loop-i invariant-loop decreases-loop) → Within (2 ^ 62 + most_brought) (behind c +ℤ to_z w64 (of_z w64 c.before.before.args.gain))
 gained c =
     let o = c.before.before in
     rw (plain_fits o.ranges.gain)
-    (within-sum (within-weaken (o.requires.0.small c.before.loop.i c.loop-test.true) (within-abs (behind c)))
+    (within-sum (within-weaken (o.requires.0.small c.before.loop-i.i c.loop-i-test.true) (within-abs (behind c)))
     (within-weaken o.requires.1 (within-abs o.args.gain)))
 
-loop-again : tie.Need-loop-preserved invariant-loop decreases-loop
+loop-again : tie.Need-loop-i-preserved invariant-loop decreases-loop
 loop-again c =
     let turn = c.before.before.before in
     let o = turn.before.before in
     let a = o.args in
-    let l = turn.before.loop in
-    let off = plain_fits (record { sfits = c.before.larger-arg.given }) ∙ l.invariant.1.apart (a.to + l.i) (λ m k e. omega arith) in
+    let l = turn.before.loop-i in
+    let off = plain_fits (record { sfits = c.before.larger-arg-1.given }) ∙ l.invariant.1.apart (a.to + l.i) (λ m k e. omega arith) in
     let new = rw (off, read c.before.before, plain (gained turn) (lit< tt)) at c.larger.ensures in (
       omega arith,
       made-next (λ j. j) a.scratch.now a.to _ l.scratch l.i _ (omega (arith, o.requires.0)) (λ m k e. omega arith) l.invariant.1
-          (plain_fits (record { sfits = c.larger.type-inv }) ∙ new),
+          (plain_fits (record { sfits = c.larger.type_inv }) ∙ new),
     )
 
 returns : tie.Need-returns invariant-loop decreases-loop
 returns c =
     let o = c.before.before in
     let a = o.args in
-    let l = c.before.loop in
+    let l = c.before.loop-i in
     let e : l.i ≡ a.count = omega arith in
     let all = rw (e, plain_fits o.ranges.gain) at l.invariant.1 in
     record { inside = all.inside; apart = made-apart (λ j. j) a.scratch.now a.to _ l.scratch a.count (λ m h. h) all }
 
-pub raise-spec : {M : Type 1} → statement M
-raise-spec =
+pub raise_spec : {M : Type 1} → statement M
+raise_spec =
     tie.close
     (tie.spec invariant-loop decreases-loop (λ c. (omega arith, made_none (λ j. j) c.args.scratch.now c.args.to _))
-    (λ c. omega (arith, c.before.before.requires.0)) (λ c. omega (arith, c.before.before.requires.0, c.before.loop.invariant.1.same))
-    (λ c. omega (arith, c.before.before.requires.0, c.before.loop.invariant.1.same))
+    (λ c. omega (arith, c.before.before.requires.0)) (λ c. omega (arith, c.before.before.requires.0, c.before.loop-i.invariant.1.same))
+    (λ c. omega (arith, c.before.before.requires.0, c.before.loop-i.invariant.1.same))
     (λ c. rw (read c) (within-fits (gained c.before) (lit< tt))) (λ c. omega (arith, c.before.before.before.requires.0))
-    (λ c. omega (arith, c.before.before.before.requires.0, c.before.before.loop.invariant.1.same))
-    (λ c. omega (arith, c.before.before.before.requires.0, c.before.before.loop.invariant.1.same)) (λ c κs. tt)
+    (λ c. omega (arith, c.before.before.before.requires.0, c.before.before.loop-i.invariant.1.same))
+    (λ c. omega (arith, c.before.before.before.requires.0, c.before.before.loop-i.invariant.1.same)) (λ c κs. tt)
     (λ c. let o = c.before.before.before.before.before in omega (arith, o.requires.0))
-    (λ c. let l = c.before.before.before.before in omega (arith, l.before.requires.0, l.loop.invariant.1.same))
-    (λ c. let l = c.before.before.before.before in omega (arith, l.before.requires.0, l.loop.invariant.1.same)) (λ c. omega arith)
-    (λ c. omega arith) loop-again (λ c. c.before.loop.invariant.1.same) returns)
+    (λ c. let l = c.before.before.before.before in omega (arith, l.before.requires.0, l.loop-i.invariant.1.same))
+    (λ c. let l = c.before.before.before.before in omega (arith, l.before.requires.0, l.loop-i.invariant.1.same)) (λ c. omega arith)
+    (λ c. omega arith) loop-again (λ c. c.before.loop-i.invariant.1.same) returns)

@@ -21,9 +21,9 @@ sweep-requires c κs =
     let l = a.l in
     let m = taken.before.smaller.ensures in
     let first = a.cells - taken.before.smaller.result in
-    let some : 1 ≤ a.cells - (first + l.low) = omega (arith, taken.if1.true) in
-    let few : a.cells - (first + l.low) ≤ l.high = omega (arith, m, taken.if1.true) in
-    let all : first + l.low + (a.cells - (first + l.low)) ≡ a.cells = omega (arith, taken.if1.true) in (
+    let some : 1 ≤ a.cells - (first + l.low) = omega (arith, taken.if-first-cells.true) in
+    let few : a.cells - (first + l.low) ≤ l.high = omega (arith, m, taken.if-first-cells.true) in
+    let all : first + l.low + (a.cells - (first + l.low)) ≡ a.cells = omega (arith, taken.if-first-cells.true) in (
       behind-within a.scratch.now a.scratch.now a.to a.from a.cells (a.to + (first + l.low)) (a.from + first)
           (a.cells - (first + l.low)) o.requires.1
           (omega (arith, all, o.requires.1.before))
@@ -35,24 +35,24 @@ sweep-requires c κs =
           (up-stepping l o.requires.0 (a.cells - (first + l.low)) some (omega (arith, few, o.requires.0.few))),
     )
 
-returns : tie.Need-returns
+returns : tie.Need-returns-then-first-cells
 returns c =
     let taken = c.before.before.before.before.before in
     let o = taken.before.before in
     let a = o.args in
     let l = a.l in
-    row_last l a.cells a.to a.from a.scratch.now (a.cells - taken.before.smaller.result) (first taken.before) c.before.sweep.new.0
-    taken.if1.true
+    row_last l a.cells a.to a.from a.scratch.now (a.cells - taken.before.smaller.result) (first taken.before) c.before.sweep.new.scratch
+    taken.if-first-cells.true
     o.requires.0.some
     (rw (least-plain l o.requires.0, rise-plain l o.requires.0) at c.before.sweep.ensures)
 
-returns-2 : tie.Need-returns-2
+returns-2 : tie.Need-returns-else-first-cells
 returns-2 c =
     let a = c.before.before.args in
-    row-no-last a.l a.cells a.to a.from a.scratch.now (a.cells - c.before.smaller.result) (first c.before) c.if1.false
+    row-no-last a.l a.cells a.to a.from a.scratch.now (a.cells - c.before.smaller.result) (first c.before) c.if-first-cells.false
 
-pub raise-last-spec : {M : Type 1} → statement M
-raise-last-spec =
+pub raise_last_spec : {M : Type 1} → statement M
+raise_last_spec =
     tie.close
     (tie.spec (λ c κs. search rules) (λ c. search rules) (λ c. search rules) (λ c. search rules) (λ c. search rules) (λ c. search rules)
     sweep-requires (λ c. search rules) returns returns-2)

@@ -21,16 +21,16 @@ output c = output-most c.args.f c.requires.0.sound c.args.price c.requires.0.pri
 least : (c : tie.Start) → c.args.f.pmin * c.args.f.block ≤ 500
 least c = output-most c.args.f c.requires.0.sound c.args.price c.requires.0.priced c.args.f.pmin c.requires.0.sound.pmax
 
-brings : (c : tie.After-margin) → let a = c.before.before.before.args in to_z w64 (of_z w64 c.margin.result) ≡ gain a.f a.price a.k
-brings c = plain_fits (record { sfits = c.margin.type-inv }) ∙ (rw (plain_fits c.before.before.before.ranges.price) at c.margin.ensures)
+brings : (c : tie.After-margin-brings) → let a = c.before.before.before.args in to_z w64 (of_z w64 c.margin-brings.result) ≡ gain a.f a.price a.k
+brings c = plain_fits (record { sfits = c.margin-brings.type_inv }) ∙ (rw (plain_fits c.before.before.before.ranges.price) at c.margin-brings.ensures)
 
 paid : (c : tie.After-signed) → to_z w64 (of_z w64 c.signed.result) ≡ pos c.before.before.before.before.args.pays
-paid c = plain_fits (record { sfits = c.signed.type-inv }) ∙ c.signed.ensures
+paid c = plain_fits (record { sfits = c.signed.type_inv }) ∙ c.signed.ensures
 
 within : (c : tie.Start) → Within swing (net c.args.f c.args.price c.args.pays c.args.k)
 within c = net-within c.args.f c.requires.0.sound c.args.price c.requires.0.priced c.args.pays c.args.k c.requires.1 c.requires.2
 
-margin-requires : tie.Need-margin-requires
+margin-requires : tie.Need-margin-brings-requires
 margin-requires c κs =
     let s = c.before.before in
     rw (plain_fits s.ranges.price) (s.requires.0.priced, output s, s.requires.0.sound.vec, least s, s.requires.0.sound.mlc)
@@ -38,8 +38,8 @@ margin-requires c κs =
 returns : tie.Need-returns
 returns c = rw (brings c.before, paid c) (plain (within c.before.before.before.before) (lit< tt))
 
-pub net-spec : {M : Type 1} → statement M
-net-spec =
+pub net_spec : {M : Type 1} → statement M
+net_spec =
     tie.close
     (tie.spec (λ c. omega (arith, output c.before)) (λ c. omega (arith, least c.before.before)) margin-requires
     (λ c κs. search rules) (λ c. rw (brings c.before, paid c) (within-fits (within c.before.before.before.before) (lit< tt)))

@@ -12,11 +12,11 @@ returns c =
     let on = takes.before in
     let a = on.before.args in
     ap₂ (λ (s t : ℕ). cell s (a.c.left.starts - t) (a.c.left.ons - a.f.takes.ons) (a.c.left.blocks - a.k * a.f.takes.blocks))
-    on.After-on.ensures
-    takes.start-takes.ensures
+    on.after_on-state.ensures
+    takes.start_takes.ensures
 
-pub on-cell-spec : {M : Type 1} → statement M
-on-cell-spec =
+pub on_cell_spec : {M : Type 1} → statement M
+on_cell_spec =
     tie.close
     (tie.spec
     (λ c κs. search rules) (λ c κs. search rules) (λ c. search rules) (λ c. search rules) (λ c. search rules) (λ c. search rules)

@@ -11,7 +11,7 @@ margin-requires c κs =
     rw (plain_fits c.ranges.price) (c.requires.priced, block-most c.args.f c.requires.sound, c.requires.sound.vec, omega arith, omega arith)
 
 returns : tie.Need-returns
-returns c = plain_fits (record { sfits = c.margin.type-inv }) ∙ (rw (plain_fits c.before.ranges.price) at c.margin.ensures)
+returns c = plain_fits (record { sfits = c.margin.type_inv }) ∙ (rw (plain_fits c.before.ranges.price) at c.margin.ensures)
 
-pub slope-spec : {M : Type 1} → statement M
-slope-spec = tie.close (tie.spec margin-requires returns)
+pub slope_spec : {M : Type 1} → statement M
+slope_spec = tie.close (tie.spec margin-requires returns)

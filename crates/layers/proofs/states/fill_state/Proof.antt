@@ -24,49 +24,49 @@ interval : (c : tie.Start) → Interval c.args.f c.args.price
 interval c = record { sound = c.requires.0.sound; priced = c.requires.1 }
 
 -- the state that on leads to
-there : (c : tie.Then1) →
+there : (c : tie.Then-on-f) →
     let led = c.before.before in
     let a = led.before.before.before.before.args in
-    led.After-on.result * a.cells + a.cells ≤ a.w
+    led.after_on-on.result * a.cells + a.cells ≤ a.w
 there c =
     let led = c.before.before in
     let o = led.before.before.before.before in
-    section-place-fits o.args.f led.After-on.result o.args.cells o.args.w c.if1.true o.requires.0.wide o.requires.0.many
+    section-place-fits o.args.f led.after_on-on.result o.args.cells o.args.w c.if-on-f.true o.requires.0.wide o.requires.0.many
 
 -- what the start costs, and the outputs
-paid : (c : tie.After-start-pays) → c.start-pays.result ≤ most_pays
+paid : (c : tie.After-start_pays) → c.start_pays.result ≤ most_pays
 paid c =
     let o = c.before.before.before.before.before.before.before in
-    rw c.start-pays.ensures (pays-most o.args.f o.requires.0.sound o.args.s)
+    rw c.start_pays.ensures (pays-most o.args.f o.requires.0.sound o.args.s)
 
-outputs : (c : tie.After-ladder) →
+outputs : (c : tie.After-ladder-l) →
     let a = c.before.before.before.before.before.before.before.before.args in
-    c.ladder.result ≡ ladder_of a.f a.price (start_pays a.f a.s)
+    c.ladder-l.result ≡ ladder_of a.f a.price (start_pays a.f a.s)
 outputs c =
     let o = c.before.before.before.before.before.before.before.before in
-    rw (plain_fits o.ranges.price, c.before.start-pays.ensures) at c.ladder.ensures
+    rw (plain_fits o.ranges.price, c.before.start_pays.ensures) at c.ladder-l.ensures
 
-raise-section-requires : tie.Need-raise-section-requires
+raise-section-requires : tie.Need-raise_section-requires
 raise-section-requires c κs =
     let laddered = c.before.before in
     let taken = laddered.before.before in
     let made = taken.before.before.before.before in
     let o = made.before.before in
     let a = o.args in
-    let on = taken.before.before.After-on.result in (
+    let on = taken.before.before.after_on-on.result in (
       o.requires.0.sound,
-      rw c.start-takes.ensures (takes-most a.f o.requires.0.sound a.s),
+      rw c.start_takes.ensures (takes-most a.f o.requires.0.sound a.s),
       rw (outputs laddered) (ladder-steady a.f a.price (start_pays a.f a.s) (interval o) (pays-most a.f o.requires.0.sound a.s)),
       rw (← o.requires.0.many)
-          (behind-within a.scratch.now made.fill-off.new.0 0 a.w a.w (a.s * a.cells) (a.w + on * a.cells) a.cells o.requires.2
+          (behind-within a.scratch.now made.fill_off.new.scratch 0 a.w a.w (a.s * a.cells) (a.w + on * a.cells) a.cells o.requires.2
           (omega (arith, here o))
           (omega arith)
           (omega (arith, there taken))
-          made.fill-off.auto.0
-          (λ j h. made.fill-off.ensures.apart j (inr (rw (← o.requires.0.many) (omega (arith, here o)))))),
+          made.fill_off.auto.scratch
+          (λ j h. made.fill_off.ensures.apart j (inr (rw (← o.requires.0.many) (omega (arith, here o)))))),
     )
 
-returns : tie.Need-returns
+returns : tie.Need-returns-then-on-f
 returns c =
     let takes = c.before.before in
     let laddered = takes.before.before in
@@ -75,20 +75,20 @@ returns c =
     let off = led.before.before in
     let o = off.before.before in
     let a = o.args in
-    state-raised a.f a.price a.s a.scratch.now off.fill-off.new.0 off.fill-off.ensures o.requires.0.state
-    (omega (arith, led.After-on.ensures, taken.if1.true))
-    c.before.raise-section.new.0
-    (rw (outputs laddered, takes.start-takes.ensures, o.requires.0.wide, o.requires.0.many, led.After-on.ensures) at c.before.raise-section.ensures)
+    state-raised a.f a.price a.s a.scratch.now off.fill_off.new.scratch off.fill_off.ensures o.requires.0.state
+    (omega (arith, led.after_on-on.ensures, taken.if-on-f.true))
+    c.before.raise_section.new.scratch
+    (rw (outputs laddered, takes.start_takes.ensures, o.requires.0.wide, o.requires.0.many, led.after_on-on.ensures) at c.before.raise_section.ensures)
 
-returns-2 : tie.Need-returns-2
+returns-2 : tie.Need-returns-else-on-f
 returns-2 c =
     let led = c.before.before in
     let off = led.before.before in
     let a = off.before.before.args in
-    state-off a.f a.price a.s a.scratch.now off.fill-off.new.0 off.fill-off.ensures (omega (arith, led.After-on.ensures, c.if1.false))
+    state-off a.f a.price a.s a.scratch.now off.fill_off.new.scratch off.fill_off.ensures (omega (arith, led.after_on-on.ensures, c.if-on-f.false))
 
-pub fill-state-spec : {M : Type 1} → statement M
-fill-state-spec =
+pub fill_state_spec : {M : Type 1} → statement M
+fill_state_spec =
     tie.close
     (tie.spec (λ c κs. search rules) (λ c κs. search rules) (λ c. search rules) (λ c κs. search rules)
     (λ c κs. let o = c.before.before.before.before.before.before.before in rw (plain_fits o.ranges.price) (interval o, paid c))

@@ -18,10 +18,10 @@ use Rattle.marks.proofs.lines.flat.Statement.{statement}
 use Rattle.marks.proofs.lines.flat.Tie as tie
 
 -- the places that have none, and the first that has one
-led : (c : tie.After-smaller2) →
+led : (c : tie.After-smaller-lead) →
     let a = c.before.before.before.args in
-    c.smaller2.result ≡ min a.p.count (a.b.skipped - min a.b.skipped a.p.place)
-led c = rw c.before.before.smaller.ensures at c.smaller2.ensures
+    c.smaller-lead.result ≡ min a.p.count (a.b.skipped - min a.b.skipped a.p.place)
+led c = rw c.before.before.smaller.ensures at c.smaller-lead.ensures
 
 asked : (c : tie.Start) → let a = c.args in FlatLine a.cells.now a.w a.b a.p
 asked c = c.requires.0
@@ -33,11 +33,11 @@ nothing-requires : tie.Need-nothing-requires
 nothing-requires c κs = let o = c.before.before.before.before in (omega (arith, led c.before, (asked o).few), o.requires.1)
 
 -- where the others are shifted from
-from : (c : tie.Then1) →
+from : (c : tie.Then-lead-count) →
     let lead = c.before.before.before.before in
     let a = lead.before.before.before.args in
-    (a.b.skipped ≤ a.p.place + lead.smaller2.result) × (lead.smaller2.result ≤ a.p.count)
-from c = let lead = c.before.before.before.before in (omega (arith, led lead, c.if1.true), omega (arith, c.if1.true))
+    (a.b.skipped ≤ a.p.place + lead.smaller-lead.result) × (lead.smaller-lead.result ≤ a.p.count)
+from c = let lead = c.before.before.before.before in (omega (arith, led lead, c.if-lead-count.true), omega (arith, c.if-lead-count.true))
 
 shifted-requires : tie.Need-shifted-requires
 shifted-requires c κs =
@@ -46,7 +46,7 @@ shifted-requires c κs =
     let lead = none.before.before in
     let o = lead.before.before.before in
     let a = o.args in
-    let n = lead.smaller2.result in
+    let n = lead.smaller-lead.result in
     let k = asked o in (
       rw (gain-plain o)
           (record {
@@ -61,7 +61,7 @@ shifted-requires c κs =
       omega (arith, none.nothing.ensures.same, o.requires.1),
     )
 
-returns : tie.Need-returns
+returns : tie.Need-returns-then-lead-count
 returns c =
     let shift = c.before in
     let then = shift.before.before.before.before.before.before in
@@ -69,7 +69,7 @@ returns c =
     let lead = none.before.before in
     let o = lead.before.before.before in
     let a = o.args in
-    let n = lead.smaller2.result in
+    let n = lead.smaller-lead.result in
     let first = none.nothing.ensures in
     let rest = rw (gain-plain o) at shift.shifted.ensures in
     record {
@@ -77,13 +77,13 @@ returns c =
       same = rest.apart.same ∙ first.same;
     }
   where
-    by : (c : tie.After-out2) →
+    by : (c : tie.After-out-then-lead-count-1) →
         let shift = c.before in
         let then = shift.before.before.before.before.before.before in
         let lead = then.before.before.before.before in
         let a = lead.before.before.before.args in
-        let now = shift.shifted.new.1.1.1.1.1.0 in
-        (i : ℕ) → i < a.p.count → (t : Bool) → ltb i lead.smaller2.result ≡ t
+        let now = shift.shifted.new.out in
+        (i : ℕ) → i < a.p.count → (t : Bool) → ltb i lead.smaller-lead.result ≡ t
         → FlatAt a.cells.now a.w a.b a.p.place i (get_or now i (pos 0)) (get_or now (piece + i) (pos 0))
     by c i h true e =
         let shift = c.before in
@@ -92,7 +92,7 @@ returns c =
         let lead = none.before.before in
         let o = lead.before.before.before in
         let a = o.args in
-        let l = ltb-true i lead.smaller2.result e in
+        let l = ltb-true i lead.smaller-lead.result e in
         let rest = rw (gain-plain o) at shift.shifted.ensures in
         let small : i < piece = omega (arith, l, led lead, (asked o).few) in
         let v = rest.apart.values i small (inl l) ∙ none.nothing.ensures.inside i l in
@@ -108,7 +108,7 @@ returns c =
         let lead = none.before.before in
         let o = lead.before.before.before in
         let a = o.args in
-        let n = lead.smaller2.result in
+        let n = lead.smaller-lead.result in
         let l = ltb-false i n e in
         let rest = rw (gain-plain o) at shift.shifted.ensures in
         let at : n + (i - n) ≡ i = omega (arith, l) in
@@ -120,12 +120,12 @@ returns c =
           mark = λ g. r.1;
         }
 
-returns-2 : tie.Need-returns-2
+returns-2 : tie.Need-returns-else-lead-count
 returns-2 c =
     let none = c.before.before in
     let lead = none.before.before in
     let o = lead.before.before.before in
-    let e : lead.smaller2.result ≡ o.args.p.count = omega (arith, c.if1.false, led lead) in
+    let e : lead.smaller-lead.result ≡ o.args.p.count = omega (arith, c.if-lead-count.false, led lead) in
     let first = none.nothing.ensures in
     record {
       inside = λ i h.
@@ -138,8 +138,8 @@ returns-2 c =
       same = first.same;
     }
 
-pub flat-spec : {M : Type 1} → statement M
-flat-spec =
+pub flat_spec : {M : Type 1} → statement M
+flat_spec =
     tie.close
     (tie.spec (λ c κs. search rules) (λ c. omega (arith, c.before.smaller.ensures)) (λ c κs. search rules) nothing-requires
     (λ c. search rules) (λ c. (from c.before.before).0)

@@ -15,8 +15,8 @@ the-steady : (c : tie.Start) → Steady c.args.l
 the-steady c = let a = c.args in rw c.requires.1 (steady a.t a.cells.now a.s a.p (asked c))
 
 -- what is gained
-gain-is : (c : tie.After-better-end) → let a = c.before.before.before.args in c.better-end.result ≡ better_end (laddered a.t a.s)
-gain-is c = let o = c.before.before.before in c.better-end.ensures ∙ ap better_end o.requires.1
+gain-is : (c : tie.After-better_end) → let a = c.before.before.before.args in c.better_end.result ≡ better_end (laddered a.t a.s)
+gain-is c = let o = c.before.before.before in c.better_end.ensures ∙ ap better_end o.requires.1
 
 flat-requires : tie.Need-flat-requires
 flat-requires c κs =
@@ -25,7 +25,7 @@ flat-requires c κs =
     let lined = skips.before in
     let o = lined.before in
     let a = o.args in (
-      rw (plain_fits (record { sfits = ended.better-end.type-inv }), gain-is ended, lined.line-behind.ensures, skips.skipped-before.ensures)
+      rw (plain_fits (record { sfits = ended.better_end.type_inv }), gain-is ended, lined.line_behind.ensures, skips.skipped_before.ensures)
           (flat_line a.t a.cells.now a.s a.p (asked o) o.requires.0.1),
       o.requires.0.2,
     )
@@ -40,7 +40,7 @@ returns c =
     let a = o.args in
     let k = asked o in
     let flat =
-    rw (plain_fits (record { sfits = ended.better-end.type-inv }), gain-is ended, lined.line-behind.ensures, skips.skipped-before.ensures) at
+    rw (plain_fits (record { sfits = ended.better_end.type_inv }), gain-is ended, lined.line_behind.ensures, skips.skipped_before.ensures) at
     made.flat.ensures in
     record {
       inside = λ i h cell here.
@@ -50,8 +50,8 @@ returns c =
       same = flat.same;
     }
 
-pub flat-image-spec : {M : Type 1} → statement M
-flat-image-spec =
+pub flat_image_spec : {M : Type 1} → statement M
+flat_image_spec =
     tie.close
     (tie.spec (λ c κs. let k = asked c in (k.over, k.state, k.leads, k.piece-of.starts)) (λ c κs. (asked c.before).over)
     (λ c κs. the-steady c.before.before) flat-requires (λ c. search rules) returns)

@@ -17,30 +17,30 @@ asked c = c.requires.0
 price-plain : (c : tie.Start) → let x = c.args.t.price in to_z w64 (of_z w64 x) ≡ x
 price-plain c = plain (within-weaken (asked c).over.interval.priced (within-abs c.args.t.price)) (lit< tt)
 
-ladder-requires : tie.Need-ladder-requires
+ladder-requires : tie.Need-ladder-l-requires
 ladder-requires c κs =
     let pays = c.before in
     let o = pays.before.before in
     let k = (asked o).over.interval in
-    (rw (price-plain o) k, rw pays.start-pays.ensures (pays-most o.args.t.figures k.sound o.args.s))
+    (rw (price-plain o) k, rw pays.start_pays.ensures (pays-most o.args.t.figures k.sound o.args.s))
 
-ladder-is : (c : tie.After-ladder) → let a = c.before.before.before.before.args in c.ladder.result ≡ laddered a.t a.s
+ladder-is : (c : tie.After-ladder-l) → let a = c.before.before.before.before.args in c.ladder-l.result ≡ laddered a.t a.s
 ladder-is c =
     let pays = c.before.before in
-    rw (price-plain pays.before.before, pays.start-pays.ensures) at c.ladder.ensures
+    rw (price-plain pays.before.before, pays.start_pays.ensures) at c.ladder-l.ensures
 
-pub image-spec : {M : Type 1} → statement M
-image-spec =
+pub image_spec : {M : Type 1} → statement M
+image_spec =
     tie.close
     (tie.spec (λ c κs. (asked c.before).over.interval.sound) ladder-requires
     (λ c κs.
     let then = c.before in
     let lad = then.before.before in
     let o = lad.before.before.before.before in
-    ((asked o, then.if1.true, o.requires.1), ladder-is lad))
+    ((asked o, then.if-f-eq0.true, o.requires.1), ladder-is lad))
     (λ c κs.
     let else = c.before in
     let lad = else.before.before in
     let o = lad.before.before.before.before in
-    ((asked o, omega (arith, else.if1.false, (asked o).over.interval.sound.takes.blocks), o.requires.1), ladder-is lad))
-    (λ c. search rules) (λ c. c.before.flat-image.ensures) (λ c. search rules) (λ c. c.before.lined-image.ensures))
+    ((asked o, omega (arith, else.if-f-eq0.false, (asked o).over.interval.sound.takes.blocks), o.requires.1), ladder-is lad))
+    (λ c. search rules) (λ c. c.before.flat_image.ensures) (λ c. search rules) (λ c. c.before.lined_image.ensures))

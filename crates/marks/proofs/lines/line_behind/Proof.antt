@@ -20,14 +20,14 @@ small c =
     omega (arith, wide, line-fits f c.args.s c.args.x c.requires.2 c.requires.3)
 
 -- what is added, by its parts
-parts : (c : tie.After-struct-known) →
+parts : (c : tie.After-struct_known-1) →
     let led = c.before in
     let had = led.before in
     let spanned = had.before.before in
     let a = spanned.before.before.args in
     let f = a.t.figures in
-    (led.After-on.result * a.t.section ≡ after_on f a.s * section f)
-    × ((a.x - had.smaller.result) * spanned.span-cells.result ≡ (a.x - start_takes f a.s) * span f)
+    (led.after_on.result * a.t.section ≡ after_on f a.s * section f)
+    × ((a.x - had.smaller.result) * spanned.span_cells-span.result ≡ (a.x - start_takes f a.s) * span f)
 parts c =
     let led = c.before in
     let had = led.before in
@@ -36,14 +36,14 @@ parts c =
     let o = spanned.before.before in
     let a = o.args in
     let less : a.x - had.smaller.result ≡ a.x - start_takes a.t.figures a.s =
-    omega (arith, had.smaller.ensures, taken.start-takes.ensures) in
-    (ap₂ ◌*◌ led.After-on.ensures o.requires.0.sections, ap₂ ◌*◌ less spanned.span-cells.ensures)
+    omega (arith, had.smaller.ensures, taken.start_takes.ensures) in
+    (ap₂ ◌*◌ led.after_on.ensures o.requires.0.sections, ap₂ ◌*◌ less spanned.span_cells-span.ensures)
 
-abbrev start : tie.After-struct-known → tie.Start
+abbrev start : tie.After-struct_known-1 → tie.Start
 start c = c.before.before.before.before.before.before
 
-pub line-behind-spec : {M : Type 1} → statement M
-line-behind-spec =
+pub line_behind_spec : {M : Type 1} → statement M
+line_behind_spec =
     tie.close
     (tie.spec (λ c κs. c.before.requires.0.interval.sound) (λ c κs. search rules) (λ c κs. search rules) (λ c. omega (arith, c.smaller.ensures))
     (λ c κs. let o = c.before.before.before.before in (o.requires.0.interval.sound, o.requires.1))

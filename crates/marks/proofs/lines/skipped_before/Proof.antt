@@ -26,32 +26,32 @@ small c =
     omega (arith, spans, rows, one-mul (span f), one-mul (row f), few, least)
 
 -- what is added, by its parts
-first : (c : tie.After-span-cells) →
+first : (c : tie.After-span_cells) →
     let had = c.before in
     let taken = had.before in
     let a = taken.before.before.args in
     let f = a.t.figures in
-    (taken.start-takes.result - had.smaller.result) * c.span-cells.result ≡ (start_takes f a.s - a.x) * span f
+    (taken.start_takes-takes.result - had.smaller.result) * c.span_cells.result ≡ (start_takes f a.s - a.x) * span f
 first c =
     let had = c.before in
     let taken = had.before in
     let a = taken.before.before.args in
-    let lacks : taken.start-takes.result - had.smaller.result ≡ start_takes a.t.figures a.s - a.x =
-    omega (arith, had.smaller.ensures, taken.start-takes.ensures) in
-    ap₂ ◌*◌ lacks c.span-cells.ensures
+    let lacks : taken.start_takes-takes.result - had.smaller.result ≡ start_takes a.t.figures a.s - a.x =
+    omega (arith, had.smaller.ensures, taken.start_takes-takes.ensures) in
+    ap₂ ◌*◌ lacks c.span_cells.ensures
 
-second : (c : tie.After-struct-known) →
+second : (c : tie.After-struct_known-1) →
     let f = c.before.before.before.before.before.before.args.t.figures in
-    f.takes.ons * c.before.row-cells.result ≡ f.takes.ons * row f
+    f.takes.ons * c.before.row_cells.result ≡ f.takes.ons * row f
 second c =
     let f = c.before.before.before.before.before.before.args.t.figures in
-    ap (λ (n : ℕ). f.takes.ons * n) c.before.row-cells.ensures
+    ap (λ (n : ℕ). f.takes.ons * n) c.before.row_cells.ensures
 
-abbrev start : tie.After-span-cells → tie.Start
+abbrev start : tie.After-span_cells → tie.Start
 start c = c.before.before.before.before
 
-pub skipped-before-spec : {M : Type 1} → statement M
-skipped-before-spec =
+pub skipped_before_spec : {M : Type 1} → statement M
+skipped_before_spec =
     tie.close
     (tie.spec (λ c κs. search rules) (λ c κs. search rules) (λ c. omega (arith, c.smaller.ensures))
     (λ c κs. c.before.before.before.requires.interval.sound)

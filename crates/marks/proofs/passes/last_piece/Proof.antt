@@ -12,8 +12,8 @@ wholes : (c : tie.Start) →
     (n / a.most * a.most ≤ n) × (n < n / a.most * a.most + a.most)
 wholes c = whole (c.args.end - 1 - c.args.first) c.args.most c.requires.1
 
-pub last-piece-spec : {M : Type 1} → statement M
-last-piece-spec =
+pub last_piece_spec : {M : Type 1} → statement M
+last_piece_spec =
     tie.close
     (tie.spec (λ c. omega (arith, c.requires.0)) (λ c. omega (arith, c.requires.0)) (λ c. c.requires.1) (λ c. omega (arith, wholes c))
     (λ c. omega (arith, wholes c, c.requires.0))

@@ -9,7 +9,7 @@ use Rattle.marks.proofs.passes.mark.Tie as tie
 asked : (c : tie.Start) → let a = c.args in SweepAsked a.g a.cells.now a.prices.now a.from a.to
 asked c = c.requires.0
 
-mark-own-requires : tie.Need-mark-own-requires
+mark-own-requires : tie.Need-mark_own-requires
 mark-own-requires c κs = let o = c.before in ((asked o).marks, o.requires.1.2)
 
 sweep-requires : tie.Need-sweep-requires
@@ -21,7 +21,7 @@ sweep-requires c κs =
       record {
         sound = k.sound;
         wide = k.wide;
-        marks = omega (arith, numbered.mark-own.ensures.same, k.marks);
+        marks = omega (arith, numbered.mark_own.ensures.same, k.marks);
         priced = k.priced;
         clocked = k.clocked;
         ordered = k.ordered;
@@ -31,7 +31,7 @@ sweep-requires c κs =
         later = k.later;
         ahead = k.ahead;
         layer =
-            value-kept a.g.figures a.g.width k.wide a.cells.now numbered.mark-own.new.0 numbered.mark-own.ensures k.layer;
+            value-kept a.g.figures a.g.width k.wide a.cells.now numbered.mark_own.new.cells numbered.mark_own.ensures k.layer;
         few = k.few;
       },
       (o.requires.1.0, o.requires.1.1),
@@ -43,8 +43,8 @@ returns c =
     let numbered = swept.before.before.before.before.before in
     let o = numbered.before.before in
     let a = o.args in
-    numbered-swept a.g.figures a.g.width (asked o).wide a.cells.now numbered.mark-own.new.0 numbered.mark-own.ensures
-    swept.sweep.new.0 _ swept.sweep.ensures
+    numbered-swept a.g.figures a.g.width (asked o).wide a.cells.now numbered.mark_own.new.cells numbered.mark_own.ensures
+    swept.sweep.new.cells _ swept.sweep.ensures
 
 pub mark_spec : {M : Type 1} → statement M
 mark_spec = tie.close (tie.spec mark-own-requires sweep-requires (λ c. search rules) (λ c. search rules) (λ c. search rules) returns)

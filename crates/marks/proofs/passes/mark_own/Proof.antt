@@ -13,10 +13,10 @@ use Rattle.marks.specs.Passing.{OwnNumbers}
 use Rattle.marks.proofs.passes.mark_own.Statement.{statement}
 use Rattle.marks.proofs.passes.mark_own.Tie as tie
 
-abbrev invariant-loop : tie.invariant-loop
+abbrev invariant-loop : tie.invariant-loop-i
 invariant-loop cells₀ w i₀ cells i = (i ≤ w) × OwnNumbers w cells₀ cells i
 
-abbrev decreases-loop : tie.decreases-loop
+abbrev decreases-loop : tie.decreases-loop-i
 decreases-loop cells₀ w i₀ cells i = w - i
 
 own-next : (w : ℕ) (was cells : List ℤ) (i : ℕ) → w + i < length cells → OwnNumbers w was cells i → OwnNumbers w was (set cells (w + i) (pos i)) (i + 1)
@@ -31,30 +31,30 @@ own-next w was cells i room n =
           ∙ n.apart j (⊎_elim (λ (l : j < w). inl l) (λ (l : w + (i + 1) ≤ j). inr (omega arith)) o);
     }
 
-room : (c : tie.In-loop invariant-loop decreases-loop) → c.before.before.args.w + c.before.loop.i < length c.before.loop.cells
-room c = omega (arith, c.loop-test.true, c.before.loop.invariant.1.same, c.before.before.requires.0)
+room : (c : tie.In-loop-i invariant-loop decreases-loop) → c.before.before.args.w + c.before.loop-i.i < length c.before.loop-i.cells
+room c = omega (arith, c.loop-i-test.true, c.before.loop-i.invariant.1.same, c.before.before.requires.0)
 
-loop-again : tie.Need-loop-preserved invariant-loop decreases-loop
+loop-again : tie.Need-loop-i-preserved invariant-loop decreases-loop
 loop-again c =
     let turn = c.before in
     let l = turn.before in
     let o = l.before in (
-      omega (arith, turn.loop-test.true),
-      rw (plain_fits (record { sfits = c.signed.type-inv }), c.signed.ensures)
-          (own-next o.args.w o.args.cells.now l.loop.cells l.loop.i (room turn) l.loop.invariant.1),
+      omega (arith, turn.loop-i-test.true),
+      rw (plain_fits (record { sfits = c.signed.type_inv }), c.signed.ensures)
+          (own-next o.args.w o.args.cells.now l.loop-i.cells l.loop-i.i (room turn) l.loop-i.invariant.1),
     )
 
 returns : tie.Need-returns invariant-loop decreases-loop
 returns c =
     let l = c.before in
-    let e : l.loop.i ≡ l.before.args.w = omega (arith, l.loop.invariant.0, c.loop-test.false) in
-    rw e at l.loop.invariant.1
+    let e : l.loop-i.i ≡ l.before.args.w = omega (arith, l.loop-i.invariant.0, c.loop-i-test.false) in
+    rw e at l.loop-i.invariant.1
 
-pub mark-own-spec : {M : Type 1} → statement M
-mark-own-spec =
+pub mark_own_spec : {M : Type 1} → statement M
+mark_own_spec =
     tie.close
     (tie.spec invariant-loop decreases-loop
     (λ c. (omega arith, record { same = refl; own = λ i h. absurd (omega arith); apart = λ j o. refl }))
-    (λ c κs. omega (arith, c.loop-test.true, c.before.before.requires.1)) (λ c. omega (arith, room c.before))
-    (λ c. omega (arith, room c.before)) (λ c. room c.before) (λ c. omega (arith, c.before.loop-test.true, c.before.before.before.requires.1))
-    (λ c. omega (arith, c.before.loop-test.true)) loop-again (λ c. c.before.loop.invariant.1.same) returns)
+    (λ c κs. omega (arith, c.loop-i-test.true, c.before.before.requires.1)) (λ c. omega (arith, room c.before))
+    (λ c. omega (arith, room c.before)) (λ c. room c.before) (λ c. omega (arith, c.before.loop-i-test.true, c.before.before.before.requires.1))
+    (λ c. omega (arith, c.before.loop-i-test.true)) loop-again (λ c. c.before.loop-i.invariant.1.same) returns)

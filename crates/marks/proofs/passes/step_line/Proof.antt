@@ -33,23 +33,23 @@ lowest c =
 few : (c : tie.Start) → let f = c.args.t.figures in f.pmax ≤ 500
 few c = omega (arith, pmax-most c.args.t.figures (before c).over.interval.sound)
 
-abbrev first : tie.After-upper-pieces → tie.After-smaller
+abbrev first : tie.After-upper_pieces → tie.After-smaller-first
 first c = c.before.before.before.before
 
-abbrev start : tie.After-upper-pieces → tie.Start
+abbrev start : tie.After-upper_pieces → tie.Start
 start c = (first c).before.before
 
-asked : (c : tie.Then1) →
+asked : (c : tie.Then-first-gt0) →
     let upper = c.before.before.before.before in
     let a = (start upper).args in
-    PieceAsked a.t upper.upper-pieces.new.0 (piece_of a.l 0 (first upper).smaller.result)
+    PieceAsked a.t upper.upper_pieces.new.cells (piece_of a.l 0 (first upper).smaller-first.result)
 asked c =
     let upper = c.before.before.before.before in
     let o = start upper in
     let a = o.args in
-    let e = (first upper).smaller.ensures in
-    piece-asked a.t a.cells.now upper.upper-pieces.new.0 a.l 0 (first upper).smaller.result (before o) (line o) c.if1.true
-    (omega (arith, e)) (omega (arith, e, lowest o, few o)) upper.upper-pieces.ensures (λ one. inl (omega (arith, e, lowest o)))
+    let e = (first upper).smaller-first.ensures in
+    piece-asked a.t a.cells.now upper.upper_pieces.new.cells a.l 0 (first upper).smaller-first.result (before o) (line o) c.if-first-gt0.true
+    (omega (arith, e)) (omega (arith, e, lowest o, few o)) upper.upper_pieces.ensures (λ one. inl (omega (arith, e, lowest o)))
 
 -- its last column is a number
 room : (c : tie.Start) → c.args.l.start + c.args.l.long < 2 ^ 64
@@ -58,50 +58,50 @@ room c =
     let most : section f < 2 ^ 64 = lt_of_le_of_lt (section-most f (before c).over.interval.sound) (lit< tt) in
     omega (arith, most, (line c).ends)
 
-step-piece-requires : tie.Need-step-piece-requires
+step-piece-requires : tie.Need-step_piece-requires
 step-piece-requires c κs =
     let cut = c.before.before in
     let then = cut.before.before in
     let upper = then.before.before.before.before in
     let o = start upper in
-    let k = upper.upper-pieces.auto.1.1.1.1 in
-    (rw cut.piece-of.ensures (asked then), omega (arith, k.0, o.pre.1.0), omega (arith, k.1.0, o.pre.1.1))
+    let k = upper.upper_pieces.auto in
+    (rw cut.piece_of.ensures (asked then), omega (arith, k.begun, o.requires.1.0), omega (arith, k.ran, o.requires.1.1))
 
-returns : tie.Need-returns
+returns : tie.Need-returns-then-first-gt0
 returns c =
     let made = c.before.before.before in
     let cut = made.before.before.before in
     let then = cut.before.before in
     let upper = then.before.before.before.before in
     let a = (start upper).args in
-    let end = (first upper).smaller.result in
-    let turned = piece-columns a.t upper.upper-pieces.new.0 made.step-piece.new.0 (piece_of a.l 0 end)
-    (rw cut.piece-of.ensures at made.step-piece.ensures) in
+    let end = (first upper).smaller-first.result in
+    let turned = piece-columns a.t upper.upper_pieces.new.cells made.step_piece.new.cells (piece_of a.l 0 end)
+    (rw cut.piece_of.ensures at made.step_piece.ensures) in
     let z : a.l.start + 0 ≡ a.l.start = omega arith in
     let n : end - 0 ≡ end = omega arith in
-    columns-join a.t.figures (quarter_of a.t) a.t.width a.cells.now upper.upper-pieces.new.0 made.step-piece.new.0 a.l.start
-    (a.l.start + end) (a.l.start + a.l.long) (omega arith) (omega (arith, (first upper).smaller.ensures)) upper.upper-pieces.ensures
+    columns-join a.t.figures (quarter_of a.t) a.t.width a.cells.now upper.upper_pieces.new.cells made.step_piece.new.cells a.l.start
+    (a.l.start + end) (a.l.start + a.l.long) (omega arith) (omega (arith, (first upper).smaller-first.ensures)) upper.upper_pieces.ensures
     (rw (z, n) at turned)
 
-returns-2 : tie.Need-returns-2
+returns-2 : tie.Need-returns-else-first-gt0
 returns-2 c =
     let upper = c.before.before.before.before in
     let a = (start upper).args in
-    let z : a.l.start + (first upper).smaller.result ≡ a.l.start = omega (arith, c.if1.false) in
-    rw z at upper.upper-pieces.ensures
+    let z : a.l.start + (first upper).smaller-first.result ≡ a.l.start = omega (arith, c.if-first-gt0.false) in
+    rw z at upper.upper_pieces.ensures
 
-pub step-line-spec : {M : Type 1} → statement M
-step-line-spec =
+pub step_line_spec : {M : Type 1} → statement M
+step_line_spec =
     tie.close
     (tie.spec (λ c. let o = c.before in omega (arith, lowest o, few o))
     (λ c κs. search rules)
     (λ c κs.
     let small = c.before.before.before in
     let o = small.before.before in
-    ((before o, line o, small.smaller.ensures), o.requires.1))
+    ((before o, line o, small.smaller-first.ensures), o.requires.1))
     (λ c κs.
     let upper = c.before.before.before.before.before in
     let o = start upper in
-    (omega arith, omega (arith, room o, (first upper).smaller.ensures)))
+    (omega arith, omega (arith, room o, (first upper).smaller-first.ensures)))
     step-piece-requires (λ c. search rules) (λ c. search rules) (λ c. search rules) returns
     (λ c. search rules) (λ c. search rules) (λ c. search rules) returns-2)

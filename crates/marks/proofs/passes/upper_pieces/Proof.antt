@@ -18,12 +18,12 @@ use Rattle.marks.proofs.Columns.{columns-none, columns-join, piece-columns, piec
 use Rattle.marks.proofs.passes.upper_pieces.Statement.{statement}
 use Rattle.marks.proofs.passes.upper_pieces.Tie as tie
 
-abbrev invariant-loop : tie.invariant-loop
+abbrev invariant-loop : tie.invariant-loop-end
 invariant-loop cells₀ t l first begun₀ ran₀ size most end₀ cells begun ran end =
     (first ≤ end) × (end ≤ l.long) × (length begun ≡ length begun₀) × (length ran ≡ length ran₀)
     × Columns t.figures (quarter_of t) t.width cells₀ cells (l.start + end) (l.start + l.long)
 
-abbrev decreases-loop : tie.decreases-loop
+abbrev decreases-loop : tie.decreases-loop-end
 decreases-loop cells₀ t l first begun₀ ran₀ size most end₀ cells begun ran end = end
 
 before : (c : tie.Start invariant-loop decreases-loop) → let a = c.args in Before a.t a.cells.now (a.l.start + a.l.long)
@@ -47,14 +47,14 @@ most-room : (c : tie.Start invariant-loop decreases-loop) →
     (most ≤ piece) × (1 ≤ most)
 most-room c = let m = most-fits c.args.t.figures (sound c) in (omega (arith, most-is c, m.0), omega (arith, most-is c, m.1))
 
-last : (c : tie.After-last-piece invariant-loop decreases-loop) →
+last : (c : tie.After-last_piece-at invariant-loop decreases-loop) →
     let l = c.before.before in
     let a = l.before.before.args in
-    LastPiece a.first l.loop.end (piece / rungs a.t.figures * rungs a.t.figures) c.last-piece.result
-last c = rw (most-is c.before.before.before.before) at c.last-piece.ensures
+    LastPiece a.first l.loop-end.end (piece / rungs a.t.figures * rungs a.t.figures) c.last_piece-at.result
+last c = rw (most-is c.before.before.before.before) at c.last_piece-at.ensures
 
 -- where MWh is limited, a place with blocks enough
-first-is : (c : tie.After-last-piece invariant-loop decreases-loop) →
+first-is : (c : tie.After-last_piece-at invariant-loop decreases-loop) →
     let a = c.before.before.before.before.args in
     a.t.figures.takes.blocks ≡ 1 → a.first ≡ a.t.figures.pmin
 first-is c one =
@@ -63,20 +63,20 @@ first-is c one =
     let o = l.before.before in
     let f = o.args.t.figures in
     let m : f.takes.blocks * f.pmin ≡ f.pmin = rw one (one-mul f.pmin) in
-    omega (arith, m, o.requires.0.2, turn.loop-test.true, l.loop.invariant.1)
+    omega (arith, m, o.requires.0.2, turn.loop-end-test.true, l.loop-end.invariant.1)
 
-asked : (c : tie.After-last-piece invariant-loop decreases-loop) →
+asked : (c : tie.After-last_piece-at invariant-loop decreases-loop) →
     let l = c.before.before in
     let a = l.before.before.args in
-    PieceAsked a.t l.loop.cells (piece_of a.l c.last-piece.result l.loop.end)
+    PieceAsked a.t l.loop-end.cells (piece_of a.l c.last_piece-at.result l.loop-end.end)
 asked c =
     let l = c.before.before in
     let o = l.before.before in
     let a = o.args in
     let p = last c in
-    piece-asked a.t a.cells.now l.loop.cells a.l c.last-piece.result l.loop.end (before o) (line o) p.some l.loop.invariant.1
-    (omega (arith, p.few, (most-fits a.t.figures (sound o)).0)) l.loop.invariant.4
-    (λ one. inr (last-chunks a.t.figures (sound o) l.loop.end c.last-piece.result (rw (first-is c one) at p)))
+    piece-asked a.t a.cells.now l.loop-end.cells a.l c.last_piece-at.result l.loop-end.end (before o) (line o) p.some l.loop-end.invariant.1
+    (omega (arith, p.few, (most-fits a.t.figures (sound o)).0)) l.loop-end.invariant.4
+    (λ one. inr (last-chunks a.t.figures (sound o) l.loop-end.end c.last_piece-at.result (rw (first-is c one) at p)))
 
 -- its last column is a number
 room : (c : tie.Start invariant-loop decreases-loop) → c.args.l.start + c.args.l.long < 2 ^ 64
@@ -85,15 +85,15 @@ room c =
     let few : section f < 2 ^ 64 = lt_of_le_of_lt (section-most f (sound c)) (lit< tt) in
     omega (arith, few, (line c).ends)
 
-step-piece-requires : tie.Need-step-piece-requires invariant-loop decreases-loop
+step-piece-requires : tie.Need-step_piece-requires invariant-loop decreases-loop
 step-piece-requires c κs =
     let made = c.before.before in
     let got = made.before.before in
     let l = got.before.before in
     let o = l.before.before in
-    (rw made.piece-of.ensures (asked got), omega (arith, l.loop.invariant.2, o.requires.1.0), omega (arith, l.loop.invariant.3, o.requires.1.1))
+    (rw made.piece_of.ensures (asked got), omega (arith, l.loop-end.invariant.2, o.requires.1.0), omega (arith, l.loop-end.invariant.3, o.requires.1.1))
 
-loop-again : tie.Need-loop-preserved invariant-loop decreases-loop
+loop-again : tie.Need-loop-end-preserved invariant-loop decreases-loop
 loop-again c =
     let made = c.before.before.before in
     let cut = made.before.before.before in
@@ -101,17 +101,17 @@ loop-again c =
     let l = got.before.before in
     let o = l.before.before in
     let a = o.args in
-    let at = got.last-piece.result in
+    let at = got.last_piece-at.result in
     let p = last got in
-    let up : a.l.start + at + (l.loop.end - at) ≡ a.l.start + l.loop.end = omega (arith, p.some) in
-    let turned = piece-columns a.t l.loop.cells made.step-piece.new.0 (piece_of a.l at l.loop.end)
-    (rw cut.piece-of.ensures at made.step-piece.ensures) in (
+    let up : a.l.start + at + (l.loop-end.end - at) ≡ a.l.start + l.loop-end.end = omega (arith, p.some) in
+    let turned = piece-columns a.t l.loop-end.cells made.step_piece.new.cells (piece_of a.l at l.loop-end.end)
+    (rw cut.piece_of.ensures at made.step_piece.ensures) in (
       omega (arith, p.begins),
-      omega (arith, p.some, l.loop.invariant.1),
-      made.step-piece.auto.1.1.1.0 ∙ l.loop.invariant.2,
-      made.step-piece.auto.1.1.1.1.0 ∙ l.loop.invariant.3,
-      columns-join a.t.figures (quarter_of a.t) a.t.width a.cells.now l.loop.cells made.step-piece.new.0 (a.l.start + at)
-          (a.l.start + l.loop.end) (a.l.start + a.l.long) (omega (arith, p.some)) (omega (arith, l.loop.invariant.1)) l.loop.invariant.4
+      omega (arith, p.some, l.loop-end.invariant.1),
+      made.step_piece.auto.begun ∙ l.loop-end.invariant.2,
+      made.step_piece.auto.ran ∙ l.loop-end.invariant.3,
+      columns-join a.t.figures (quarter_of a.t) a.t.width a.cells.now l.loop-end.cells made.step_piece.new.cells (a.l.start + at)
+          (a.l.start + l.loop-end.end) (a.l.start + a.l.long) (omega (arith, p.some)) (omega (arith, l.loop-end.invariant.1)) l.loop-end.invariant.4
           (rw up at turned),
     )
 
@@ -119,11 +119,11 @@ returns : tie.Need-returns invariant-loop decreases-loop
 returns c =
     let l = c.before in
     let o = l.before.before in
-    let e : l.loop.end ≡ o.args.first = omega (arith, c.loop-test.false, l.loop.invariant.0) in
-    rw e at l.loop.invariant.4
+    let e : l.loop-end.end ≡ o.args.first = omega (arith, c.loop-end-test.false, l.loop-end.invariant.0) in
+    rw e at l.loop-end.invariant.4
 
-pub upper-pieces-spec : {M : Type 1} → statement M
-upper-pieces-spec =
+pub upper_pieces_spec : {M : Type 1} → statement M
+upper_pieces_spec =
     tie.close
     (tie.spec invariant-loop decreases-loop (λ c. omega (arith, (sound c.before).pmax))
     (λ c. let ok = sound c.before in omega (arith, pmax-most c.before.args.t.figures ok)) (λ c. omega (arith, (sound c.before).pmax))
@@ -132,10 +132,10 @@ upper-pieces-spec =
     let o = c.before in
     let a = o.args in
     (omega (arith, o.requires.0.2), omega arith, refl, refl, columns-none a.t.figures _ a.t.width a.cells.now (a.l.start + a.l.long)))
-    (λ c κs. let o = c.before.before.before in (c.loop-test.true, (most-room o).1))
+    (λ c κs. let o = c.before.before.before in (c.loop-end-test.true, (most-room o).1))
     (λ c κs.
     let l = c.before.before.before in
-    (omega (arith, c.before.last-piece.ensures.some), omega (arith, room l.before.before, l.loop.invariant.1)))
+    (omega (arith, c.before.last_piece-at.ensures.some), omega (arith, room l.before.before, l.loop-end.invariant.1)))
     step-piece-requires
-    (λ c. omega (arith, c.before.before.before.before.before.before.before.before.last-piece.ensures.some)) loop-again
-    (λ c. c.before.loop.invariant.4.same) (λ c. c.before.loop.invariant.2) (λ c. c.before.loop.invariant.3) returns)
+    (λ c. omega (arith, c.before.before.before.before.before.before.before.before.last_piece-at.ensures.some)) loop-again
+    (λ c. c.before.loop-end.invariant.4.same) (λ c. c.before.loop-end.invariant.2) (λ c. c.before.loop-end.invariant.3) returns)

@@ -16,7 +16,7 @@ copy-requires-2 : tie.Need-copy-requires-2
 copy-requires-2 c κs =
     let o = c.before.before.before.before in
     let p = o.requires in
-    let same = c.before.before.copy.auto.0 in
+    let same = c.before.before.copy.auto.scratch in
     record { beside = inl (omega (arith, p.0)); fits = omega (arith, p, same); room = omega (arith, p, same) }
 
 returns : tie.Need-returns
@@ -25,11 +25,11 @@ returns c =
     let first = second.before.before.before in
     let o = first.before.before in
     let a = o.args in
-    moved a.cells.now first.copy.new.0 second.copy2.new.0 a.w a.to a.from a.count o.requires.0 o.requires.1
-    (second.copy2.auto.0 ∙ first.copy.auto.0) first.copy.ensures second.copy2.ensures
+    moved a.cells.now first.copy.new.scratch second.copy-2.new.scratch a.w a.to a.from a.count o.requires.0 o.requires.1
+    (second.copy-2.auto.scratch ∙ first.copy.auto.scratch) first.copy.ensures second.copy-2.ensures
 
-pub move-plane-spec : {M : Type 1} → statement M
-move-plane-spec =
+pub move_plane_spec : {M : Type 1} → statement M
+move_plane_spec =
     tie.close
     (tie.spec copy-requires (λ c. let p = c.before.before.before.before.requires in omega (arith, p))
     (λ c. let p = c.before.before.before.before.requires in omega (arith, p)) copy-requires-2 (λ c. search rules) returns)

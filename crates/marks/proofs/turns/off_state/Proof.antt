@@ -32,40 +32,40 @@ fits c =
       omega (arith, k.sections, p),
     )
 
-abbrev start : tie.After-struct-known3 → tie.Start
+abbrev start : tie.After-struct_known-3-1 → tie.Start
 start c = c.before.before.before
 
-returns : tie.Need-returns
+returns : tie.Need-returns-then-s-t
 returns c =
     let made = c.before in
     let then = made.before.before in
     let o = start then.before in
     let a = o.args in
-    let e = o.pre.0.sections in
+    let e = o.requires.0.sections in
     let at = a.s * section a.t.figures + a.p.column in
-    let room : at + a.p.count ≤ length a.cells.now = rw (← e) (omega (arith, (fits o).0, o.pre.3)) in
+    let room : at + a.p.count ≤ length a.cells.now = rw (← e) (omega (arith, (fits o).0, o.requires.3)) in
     let put = rw e at made.put.ensures in
     rw e
-    (off-barred a.t a.cells.now made.put.new.0 a.s a.p then.if1.true made.put.auto.0 (rw (← e) (fits o).0)
+    (off-barred a.t a.cells.now made.put.new.scratch a.s a.p then.if-s-t.true made.put.auto.scratch (rw (← e) (fits o).0)
     (λ i h. rw put (put-inside a.cells.now at a.p.count infeasible room i h)) (rw put (put-apart a.cells.now at a.p.count infeasible room)))
 
-returns-2 : tie.Need-returns-2
+returns-2 : tie.Need-returns-else-s-t
 returns-2 c =
     let made = c.before in
     let else = made.before.before.before in
     let o = start else.before in
     let a = o.args in
-    let e = o.pre.0.sections in
+    let e = o.requires.0.sections in
     rw e
-    (off-moved a.t a.cells.now made.move-plane.new.0 a.s a.p (omega (arith, else.if1.false)) o.pre.2
-    (rw e at made.move-plane.ensures))
+    (off-moved a.t a.cells.now made.move_plane.new.cells a.s a.p (omega (arith, else.if-s-t.false)) o.requires.2
+    (rw e at made.move_plane.ensures))
 
-pub off-state-spec : {M : Type 1} → statement M
-off-state-spec =
+pub off_state_spec : {M : Type 1} → statement M
+off_state_spec =
     tie.close
     (tie.spec (λ c. omega (arith, fits c.before, c.before.requires.3)) (λ c. omega (arith, fits c.before.before, c.before.before.requires.3))
     (λ c. let o = c.before.before in let ok = o.requires.0.interval.sound in omega (arith, o.requires.2, ok.mot-most, ok.mdt-most))
-    (λ c κs. let o = start c.before.before in omega (arith, fits o, o.pre.3))
-    (λ c. let o = start c.before.before.before in omega (arith, fits o, o.pre.3))
-    (λ c κs. let o = start c.before.before.before in (omega (arith, (fits o).2), omega (arith, (fits o).1), o.pre.3))
+    (λ c κs. let o = start c.before.before in omega (arith, fits o, o.requires.3))
+    (λ c. let o = start c.before.before.before in omega (arith, fits o, o.requires.3))
+    (λ c κs. let o = start c.before.before.before in (omega (arith, (fits o).2), omega (arith, (fits o).1), o.requires.3))
     (λ c. search rules) returns (λ c. search rules) returns-2)

@@ -28,37 +28,37 @@ fits c =
     let e : a.s * a.t.section ≡ a.s * section f = ap (λ (n : ℕ). a.s * n) k.over.sections in
     omega (arith, here, e, k.piece-of.fits, k.over.wide)
 
-abbrev start : tie.After-off-state → tie.Start
-start c = c.before.before.before.before.before.before
+abbrev start : tie.After-off_state → tie.Start
+start c = c.before.before.before.before.before
 
-join-all-requires : tie.Need-join-all-requires
+join-all-requires : tie.Need-join_all-requires
 join-all-requires c κs =
-    let off = c.before.before.before.before.before in
+    let off = c.before.before.before.before in
     let o = start off in
     let k = asked o in (
       fits o,
-      omega (arith, off.off-state.auto.0, k.marks),
+      omega (arith, off.off_state.auto.cells, k.marks),
       k.piece-of.few,
-      omega (arith, off.before.before.before.own-image.ensures.same, o.pre.0.2),
+      omega (arith, off.before.before.before.own_image.ensures.same, o.requires.0.2),
     )
 
 returns : tie.Need-returns
 returns c =
     let joined = c.before in
-    let off = joined.before.before.before.before.before.before in
+    let off = joined.before.before.before.before.before in
     let imaged = off.before.before.before in
     let a = (start off).args in
-    let on = imaged.own-image.ensures in (
+    let on = imaged.own_image.ensures in (
       on,
-      turned-here a.t a.cells.now off.off-state.new.0 joined.join-all.new.0 a.ran.now imaged.own-image.new.1.1.1.1.0
-          a.s a.p (a.s * a.t.section + a.p.column) on off.off-state.ensures joined.join-all.ensures,
+      turned-here a.t a.cells.now off.off_state.new.cells joined.join_all.new.cells a.ran.now imaged.own_image.new.out
+          a.s a.p (a.s * a.t.section + a.p.column) on off.off_state.ensures joined.join_all.ensures,
     )
 
-pub on-state-spec : {M : Type 1} → statement M
-on-state-spec =
+pub on_state_spec : {M : Type 1} → statement M
+on_state_spec =
     tie.close
-    (tie.spec (λ c κs. let o = c.before.before in ((asked o, o.requires.0.1, o.requires.0.2), o.requires.1))
-    (λ c κs. let o = c.before.before.before.before.before in let k = asked o in (k.over, k.piece-of, not_last o, k.marks))
+    (tie.spec (λ c κs. let o = c.before in ((asked o, o.requires.0.1, o.requires.0.2), o.requires.1))
+    (λ c κs. let o = c.before.before.before.before in let k = asked o in (k.over, k.piece-of, not_last o, k.marks))
     (λ c. let o = start c.before.before.before in omega (arith, fits o, (asked o).marks))
     (λ c. let o = start c.before.before.before.before in omega (arith, fits o, (asked o).marks)) join-all-requires
     (λ c. search rules) (λ c. search rules) returns)

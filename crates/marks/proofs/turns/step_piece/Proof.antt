@@ -24,40 +24,40 @@ fits c =
     let e : (states f - 1) * a.t.section ≡ (states f - 1) * section f = ap (λ (n : ℕ). (states f - 1) * n) k.over.sections in
     omega (arith, here, e, k.piece-of.fits, k.over.wide)
 
-abbrev start : tie.After-on-image → tie.Start
-start c = c.before.before.before.before
+abbrev start : tie.After-on_image → tie.Start
+start c = c.before.before.before
 
-join-all-requires : tie.Need-join-all-requires
+join-all-requires : tie.Need-join_all-requires
 join-all-requires c κs =
-    let inner = c.before.before.before.before.before.before in
+    let inner = c.before.before.before.before.before in
     let imaged = inner.before.before.before.before in
     let o = start imaged in
     let k = asked o in (
       fits o,
-      omega (arith, inner.inner-states.ensures.same, k.marks),
+      omega (arith, inner.inner_states.ensures.same, k.marks),
       k.piece-of.few,
-      omega (arith, imaged.on-image.ensures.same, o.pre.1),
+      omega (arith, imaged.on_image.ensures.same, o.requires.1),
     )
 
 returns : tie.Need-returns
 returns c =
     let joined = c.before in
-    let inner = joined.before.before.before.before.before.before.before in
+    let inner = joined.before.before.before.before.before.before in
     let imaged = inner.before.before.before.before in
     let o = start imaged in
     let a = o.args in
     let k = asked o in
-    last-next a.t a.cells.now a.p k inner.inner-states.new.0 joined.join-all.new.0 a.begun.now
-    imaged.on-image.new.1.1.1.1.0 inner.inner-states.ensures imaged.on-image.ensures
-    (rw k.over.sections at joined.join-all.ensures)
+    last-next a.t a.cells.now a.p k inner.inner_states.new.cells joined.join_all.new.cells a.begun.now
+    imaged.on_image.new.out inner.inner_states.ensures imaged.on_image.ensures
+    (rw k.over.sections at joined.join_all.ensures)
 
-pub step-piece-spec : {M : Type 1} → statement M
-step-piece-spec =
+pub step_piece_spec : {M : Type 1} → statement M
+step_piece_spec =
     tie.close
     (tie.spec (λ c. let ok = (asked c.before).over.interval.sound in omega (arith, ok.mot-most, ok.mdt-most))
     (λ c. let ok = (asked c.before).over.interval.sound in omega (arith, ok.mot))
-    (λ c κs. let o = c.before.before.before in let a = o.args in (last-asked a.t a.cells.now a.p (asked o), o.requires.1))
-    (λ c κs. let o = start c.before.before.before in (asked o, o.pre.2))
+    (λ c κs. let o = c.before.before in let a = o.args in (last-asked a.t a.cells.now a.p (asked o), o.requires.1))
+    (λ c κs. let o = start c.before.before.before in (asked o, o.requires.2))
     (λ c. let o = start c.before.before.before.before.before.before.before.before in omega (arith, fits o, (asked o).marks))
     (λ c. let o = start c.before.before.before.before.before.before.before.before.before in omega (arith, fits o, (asked o).marks))
     join-all-requires (λ c. search rules) (λ c. search rules) (λ c. search rules) returns)

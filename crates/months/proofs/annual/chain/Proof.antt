@@ -14,7 +14,7 @@ use borrow.Author.Rules.{rules}
 use Rattle.months.proofs.annual.chain.Statement.{statement}
 use Rattle.months.proofs.annual.chain.Tie as tie
 
-abbrev start : tie.After-place-of → tie.Start
+abbrev start : tie.After-place_of-at → tie.Start
 start c = c.before.before
 
 fits : (c : tie.Start) →
@@ -28,20 +28,20 @@ fits c =
 -- what is put
 put_is : (c : tie.After-put) →
     let a = (start c.before.before).args in
-    c.put.new.0 ≡ put_in a.cells.now (place_of a.y (length a.cuts.now - 1)) (width a.y.figures) (pos 0)
+    c.put.new.scratch ≡ put_in a.cells.now (place_of a.y (length a.cuts.now - 1)) (width a.y.figures) (pos 0)
 put_is c =
     let placed = c.before.before in
     let o = start placed in
-    c.put.ensures ∙ ap₂ (λ (at w : ℕ). put_in o.args.cells.now at w (pos 0)) placed.place_of.ensures o.pre.0.year.wide
+    c.put.ensures ∙ ap₂ (λ (at w : ℕ). put_in o.args.cells.now at w (pos 0)) placed.place_of-at.ensures o.requires.0.year.wide
 
 back-requires : tie.Need-back-requires
 back-requires c κs =
     let put = c.before.before in
     let o = start put.before.before in
     let a = o.args in (
-      (subst (λ (n : ℕ). ChainAsked a.y n a.prices.now a.cuts.now) (sym put.put.auto.0) o.pre.0, o.pre.1),
+      (subst (λ (n : ℕ). ChainAsked a.y n a.prices.now a.cuts.now) (sym put.put.auto.scratch) o.requires.0, o.requires.1),
       subst (λ (cells : List ℤ). Stands a.y a.prices.now a.cuts.now cells (length a.cuts.now - 1)) (sym (put_is put))
-          (last-stands a.y (length a.cells.now) a.prices.now a.cuts.now o.pre.0.year a.cells.now refl),
+          (last-stands a.y (length a.cells.now) a.prices.now a.cuts.now o.requires.0.year a.cells.now refl),
     )
 
 returns : tie.Need-returns
@@ -55,13 +55,13 @@ returns c =
       beyond = λ j out.
           done.back.ensures.beyond j out
           ∙ subst (λ (cells : List ℤ). get_or cells j (pos 0) ≡ get_or a.cells.now j (pos 0)) (sym (put_is put))
-          (last-beyond a.y (length a.cells.now) a.prices.now a.cuts.now o.pre.0.year a.cells.now refl j out);
+          (last-beyond a.y (length a.cells.now) a.prices.now a.cuts.now o.requires.0.year a.cells.now refl j out);
     }
 
-pub chain-spec : {M : Type 1} → statement M
-chain-spec =
+pub chain_spec : {M : Type 1} → statement M
+chain_spec =
     tie.close
     (tie.spec (λ c. let o = c.before in omega (arith, o.requires.0.year.months.some))
     (λ c κs. let o = c.before in omega (arith, fits o, o.requires.0.year.fits))
-    (λ c κs. let placed = c.before in let o = start placed in omega (arith, placed.place_of.ensures, fits o, o.pre.0.year.fits))
+    (λ c κs. let placed = c.before in let o = start placed in omega (arith, placed.place_of-at.ensures, fits o, o.requires.0.year.fits))
     back-requires (λ c. search rules) returns)

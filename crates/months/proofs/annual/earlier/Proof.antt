@@ -8,7 +8,7 @@ use borrow.Author.Rules.{rules}
 use Rattle.months.proofs.annual.earlier.Statement.{statement}
 use Rattle.months.proofs.annual.earlier.Tie as tie
 
-places-at-requires : tie.Need-places-at-requires
+places-at-requires : tie.Need-places_at-at-requires
 places-at-requires c κs =
     let o = c.before.before in
     let a = o.args in
@@ -17,21 +17,21 @@ places-at-requires c κs =
     let after = place-fits a.y (length a.cells.now) a.prices.now a.cuts.now e.chain.year (a.k + 1) e.month in
     (omega (arith, here, e.chain.year.fits), omega (arith, after, e.chain.year.fits), omega (arith, e.month))
 
-before-month-requires : tie.Need-before-month-requires
+before-month-requires : tie.Need-before_month-requires
 before-month-requires c κs =
     let placed = c.before.before in
     let month = placed.before in
     let o = month.before.before in
     let a = o.args in
-    rw (month.month-at.ensures, placed.places-at.ensures) (month-asked a.y a.cells.now a.prices.now a.cuts.now a.k o.requires)
+    rw (month.month_at-m.ensures, placed.places_at-at.ensures) (month-asked a.y a.cells.now a.prices.now a.cuts.now a.k o.requires)
 
 returns : tie.Need-returns
 returns c =
     let made = c.before in
     let placed = made.before.before.before in
-    rw (placed.before.month-at.ensures, placed.places-at.ensures) at made.before-month.ensures
+    rw (placed.before.month_at-m.ensures, placed.places_at-at.ensures) at made.before_month.ensures
 
-pub earlier-spec : {M : Type 1} → statement M
-earlier-spec =
+pub earlier_spec : {M : Type 1} → statement M
+earlier_spec =
     tie.close
     (tie.spec (λ c κs. search rules) places-at-requires before-month-requires (λ c. search rules) returns)

@@ -2,5 +2,5 @@
 use Rattle.months.proofs.annual.slot_of.Statement.{statement}
 use Rattle.months.proofs.annual.slot_of.Tie as tie
 
-pub slot-of-spec : {M : Type 1} → statement M
-slot-of-spec = tie.close (tie.spec (λ c. rw c.if1.true) (λ c. rw c.if1.false))
+pub slot_of_spec : {M : Type 1} → statement M
+slot_of_spec = tie.close (tie.spec (λ c. rw c.if-all.true) (λ c. rw c.if-all.false))

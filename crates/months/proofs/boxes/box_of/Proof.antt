@@ -3,5 +3,5 @@ use borrow.Author.Rules.{rules}
 use Rattle.months.proofs.boxes.box_of.Statement.{statement}
 use Rattle.months.proofs.boxes.box_of.Tie as tie
 
-pub box-of-spec : {M : Type 1} → statement M
-box-of-spec = tie.close (tie.spec (λ c κs. search rules) (λ c. rw c.least.ensures))
+pub box_of_spec : {M : Type 1} → statement M
+box_of_spec = tie.close (tie.spec (λ c κs. search rules) (λ c. rw c.least-left.ensures))

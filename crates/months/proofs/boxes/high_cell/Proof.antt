@@ -9,11 +9,11 @@ use borrow.Author.Rules.{rules}
 use Rattle.months.proofs.boxes.high_cell.Statement.{statement}
 use Rattle.months.proofs.boxes.high_cell.Tie as tie
 
-cell-is : (c : tie.After-cell-of) → let a = c.before.before.args in c.cell-of.result ≡ cell_of (with_most a.f a.cap) a.i
-cell-is c = c.cell-of.ensures ∙ ap (λ (g : Figures). cell_of g c.before.before.args.i) c.before.with-most.ensures
+cell-is : (c : tie.After-cell_of-c) → let a = c.before.before.args in c.cell_of-c.result ≡ cell_of (with_most a.f a.cap) a.i
+cell-is c = c.cell_of-c.ensures ∙ ap (λ (g : Figures). cell_of g c.before.before.args.i) c.before.with_most-g.ensures
 
-cell-of-requires : tie.Need-cell-of-requires
-cell-of-requires c κs = let o = c.before in rw c.with-most.ensures (box-sound o.args.f o.args.cap o.args.above o.requires.0)
+cell-of-requires : tie.Need-cell_of-c-requires
+cell-of-requires c κs = let o = c.before in rw c.with_most-g.ensures (box-sound o.args.f o.args.cap o.args.above o.requires.0)
 
 raised-requires : tie.Need-raised-requires
 raised-requires c κs =
@@ -27,5 +27,5 @@ raised-requires c κs =
 returns : tie.Need-returns
 returns c = c.raised.ensures ∙ ap (raised c.before.before.before.args.above) (cell-is c.before)
 
-pub high-cell-spec : {M : Type 1} → statement M
-high-cell-spec = tie.close (tie.spec (λ c κs. search rules) cell-of-requires raised-requires returns)
+pub high_cell_spec : {M : Type 1} → statement M
+high_cell_spec = tie.close (tie.spec (λ c κs. search rules) cell-of-requires raised-requires returns)

@@ -13,5 +13,5 @@ smaller-within a b = record { starts = omega arith; ons = omega arith; blocks = 
 less-requires : tie.Need-less-requires
 less-requires c κs = let a = c.before.before.args in rw c.least.ensures (smaller-within a.z.left a.cap)
 
-pub over-of-spec : {M : Type 1} → statement M
-over-of-spec = tie.close (tie.spec (λ c κs. search rules) less-requires (λ c. rw (c.less.ensures, c.before.least.ensures)))
+pub over_of_spec : {M : Type 1} → statement M
+over_of_spec = tie.close (tie.spec (λ c κs. search rules) less-requires (λ c. rw (c.less.ensures, c.before.least.ensures)))

@@ -13,35 +13,35 @@ use borrow.Author.Rules.{rules}
 use Rattle.months.proofs.boxes.store.Statement.{statement}
 use Rattle.months.proofs.boxes.store.Tie as tie
 
-abbrev invariant-loop : tie.invariant-loop
+abbrev invariant-loop : tie.invariant-loop-i
 invariant-loop cells₀ f cap above from to w i₀ cells i =
     (i ≤ w) × (w ≡ width (with_most f cap))
     × ((asked : StoreAsked f cap above (length cells₀) from to) → Storing f cap above asked.fits cells₀ cells from to i)
 
-abbrev decreases-loop : tie.decreases-loop
+abbrev decreases-loop : tie.decreases-loop-i
 decreases-loop cells₀ f cap above from to w i₀ cells i = w - i
 
-layer-cells-requires : tie.Need-layer-cells-requires invariant-loop decreases-loop
-layer-cells-requires c κs = let o = c.before in rw c.with-most.ensures (box-sound o.args.f o.args.cap o.args.above o.requires.fits)
+layer-cells-requires : tie.Need-layer_cells-w-requires invariant-loop decreases-loop
+layer-cells-requires c κs = let o = c.before in rw c.with_most.ensures (box-sound o.args.f o.args.cap o.args.above o.requires.fits)
 
-loop-holds : tie.Need-loop-init invariant-loop decreases-loop
+loop-holds : tie.Need-loop-i-init invariant-loop decreases-loop
 loop-holds c =
     let o = c.before.before in
     let a = o.args in (
       omega arith,
-      c.layer-cells.ensures ∙ ap width c.before.with-most.ensures,
+      c.layer_cells-w.ensures ∙ ap width c.before.with_most.ensures,
       λ asked. storing-none a.f a.cap a.above asked.fits a.cells.now a.from a.to,
     )
 
-in-box : (c : tie.In-loop invariant-loop decreases-loop) → let a = c.before.before.before.before.args in c.before.loop.i < width (with_most a.f a.cap)
-in-box c = omega (arith, c.loop-test.true, c.before.loop.invariant.1)
+in-box : (c : tie.In-loop-i invariant-loop decreases-loop) → let a = c.before.before.before.before.args in c.before.loop-i.i < width (with_most a.f a.cap)
+in-box c = omega (arith, c.loop-i-test.true, c.before.loop-i.invariant.1)
 
-store-one-requires : tie.Need-store-one-requires invariant-loop decreases-loop
+store-one-requires : tie.Need-store_one-requires invariant-loop decreases-loop
 store-one-requires c κs =
     let turn = c.before in
     let l = turn.before in
     let o = l.before.before.before in
-    let same = (l.loop.invariant.2 o.requires).same in (
+    let same = (l.loop-i.invariant.2 o.requires).same in (
       record {
         fits = o.requires.fits;
         apart = o.requires.apart;
@@ -51,19 +51,19 @@ store-one-requires c κs =
       in-box turn,
     )
 
-loop-again : tie.Need-loop-preserved invariant-loop decreases-loop
+loop-again : tie.Need-loop-i-preserved invariant-loop decreases-loop
 loop-again c =
     let called = c.before in
     let turn = called.before.before in
     let l = turn.before in
     let o = l.before.before.before in
     let a = o.args in (
-      omega (arith, turn.loop-test.true),
-      l.loop.invariant.1,
+      omega (arith, turn.loop-i-test.true),
+      l.loop-i.invariant.1,
       λ asked.
-          rw called.store-one.ensures
-          (storing-next a.f a.cap a.above asked.fits a.cells.now l.loop.cells a.from a.to l.loop.i asked (in-box turn)
-          (l.loop.invariant.2 asked)),
+          rw called.store_one.ensures
+          (storing-next a.f a.cap a.above asked.fits a.cells.now l.loop-i.cells a.from a.to l.loop-i.i asked (in-box turn)
+          (l.loop-i.invariant.2 asked)),
     )
 
 returns : tie.Need-returns invariant-loop decreases-loop
@@ -71,8 +71,8 @@ returns c =
     let l = c.before in
     let o = l.before.before.before in
     let a = o.args in
-    let done : l.loop.i ≡ width (with_most a.f a.cap) = omega (arith, c.loop-test.false, l.loop.invariant.0, l.loop.invariant.1) in
-    let s = rw done at (l.loop.invariant.2 o.requires) in
+    let done : l.loop-i.i ≡ width (with_most a.f a.cap) = omega (arith, c.loop-i-test.false, l.loop-i.invariant.0, l.loop-i.invariant.1) in
+    let s = rw done at (l.loop-i.invariant.2 o.requires) in
     record {
       inside = λ z i e. s.inside z i e (index-lt (with_most a.f a.cap) (box_of a.cap z) (box-inside a.f a.cap a.above o.requires.fits z i));
       others = s.others;
@@ -83,4 +83,4 @@ pub store_spec : {M : Type 1} → statement M
 store_spec =
     tie.close
     (tie.spec invariant-loop decreases-loop (λ c κs. search rules) layer-cells-requires loop-holds store-one-requires (λ c. omega arith) (λ c. omega arith) loop-again
-    (λ c. (c.before.loop.invariant.2 c.before.before.before.before.requires).same) returns)
+    (λ c. (c.before.loop-i.invariant.2 c.before.before.before.before.requires).same) returns)

@@ -18,8 +18,8 @@ roll-requires c κs =
     let o = sized.before in
     let a = o.args in
     rw (tail-part a.at a.cells.now)
-    (part-asked a.g a.cells.now a.at (fits o) a.prices.now a.hours a.m.from a.m.to sized.layer-cells.result
-    sized.layer-cells.ensures
+    (part-asked a.g a.cells.now a.at (fits o) a.prices.now a.hours a.m.from a.m.to sized.layer_cells-w.result
+    sized.layer_cells-w.ensures
     o.requires)
 
 returns : tie.Need-returns
@@ -28,13 +28,13 @@ returns c =
     let sized = rolled.before.before in
     let o = sized.before in
     let a = o.args in
-    let part = rolled.roll.new.0 in
+    let part = rolled.roll.new.scratch in
     let quarters = between (quarters_in a.hours a.prices.now) a.m.from a.m.to in
-    let made = rw (tail-part a.at a.cells.now, sized.layer-cells.ensures) at rolled.roll.ensures in
-    let long = rw (tail-part a.at a.cells.now) at rolled.roll.auto.0 in
+    let made = rw (tail-part a.at a.cells.now, sized.layer_cells-w.ensures) at rolled.roll.ensures in
+    let long = rw (tail-part a.at a.cells.now) at rolled.roll.auto.scratch in
     rw (tail-back a.at a.cells.now part (fits o)) (part-rolled a.g a.cells.now a.at (fits o) part quarters long made.0 made.1)
 
-pub roll-box-spec : {M : Type 1} → statement M
-roll-box-spec =
+pub roll_box_spec : {M : Type 1} → statement M
+roll_box_spec =
     tie.close
     (tie.spec (λ c κs. search rules) (λ c. search rules) (λ c. search rules) (λ c. search rules) (λ c. search rules) roll-requires (λ c. search rules) returns)

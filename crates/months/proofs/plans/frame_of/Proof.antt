@@ -3,5 +3,5 @@ use borrow.Author.Rules.{rules}
 use Rattle.months.proofs.plans.frame_of.Statement.{statement}
 use Rattle.months.proofs.plans.frame_of.Tie as tie
 
-pub frame-of-spec : {M : Type 1} → statement M
-frame-of-spec = tie.close (tie.spec (λ c κs. search rules) (λ c. rw c.layer-cells.ensures))
+pub frame_of_spec : {M : Type 1} → statement M
+frame_of_spec = tie.close (tie.spec (λ c κs. search rules) (λ c. rw c.layer_cells-width.ensures))

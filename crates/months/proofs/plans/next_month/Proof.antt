@@ -15,23 +15,23 @@ abbrev start : tie.After-stand → tie.Start
 start c = c.before.before.before.before
 
 -- what the chain asks is asked of as many cells
-chain-asked : (c : tie.After-stand) → let a = (start c).args in ChainAsked a.y (length c.stand.new.0) a.prices.now a.cuts.now
+chain-asked : (c : tie.After-stand) → let a = (start c).args in ChainAsked a.y (length c.stand.new.cells) a.prices.now a.cuts.now
 chain-asked c =
     let o = start c in
     let a = o.args in
-    subst (λ (n : ℕ). ChainAsked a.y n a.prices.now a.cuts.now) (sym c.stand.auto.0) o.pre.chain
+    subst (λ (n : ℕ). ChainAsked a.y n a.prices.now a.cuts.now) (sym c.stand.auto.cells) o.requires.chain
 
-plan-month-requires : tie.Need-plan-month-requires
+plan-month-requires : tie.Need-plan_month-requires
 plan-month-requires c κs =
     let stood = c.before.before.before in
     let o = start stood in
     record {
-      chain = record { year = (chain-asked stood).year; worth = o.pre.chain.worth; worths = o.pre.chain.worths };
-      month = o.pre.month;
+      chain = record { year = (chain-asked stood).year; worth = o.requires.chain.worth; worths = o.requires.chain.worths };
+      month = o.requires.month;
       next = stood.stand.ensures.0;
-      here = o.pre.here;
-      some = o.pre.some;
-      long = o.pre.long;
+      here = o.requires.here;
+      some = o.requires.some;
+      long = o.requires.long;
     }
 
 returns : tie.Need-returns
@@ -40,16 +40,16 @@ returns c =
     let stood = done.before.before.before.before in
     let o = start stood in
     let a = o.args in (
-      done.plan-month.ensures.0,
+      done.plan_month.ensures.0,
       record {
         stood = λ was all j low high.
-            unworked a.y (length stood.stand.new.0) a.prices.now a.cuts.now (chain-asked stood).year stood.stand.new.0
-            done.plan-month.new.0 done.plan-month.ensures.1 j high (stood.stand.ensures.1.stood was all j low high);
-        beyond = λ j out. done.plan-month.ensures.1 j (inr out) ∙ stood.stand.ensures.1.beyond j out;
+            unworked a.y (length stood.stand.new.cells) a.prices.now a.cuts.now (chain-asked stood).year stood.stand.new.cells
+            done.plan_month.new.cells done.plan_month.ensures.1 j high (stood.stand.ensures.1.stood was all j low high);
+        beyond = λ j out. done.plan_month.ensures.1 j (inr out) ∙ stood.stand.ensures.1.beyond j out;
       },
     )
 
-pub next-month-spec : {M : Type 1} → statement M
-next-month-spec =
+pub next_month_spec : {M : Type 1} → statement M
+next_month_spec =
     tie.close
     (tie.spec (λ c κs. search rules) plan-month-requires (λ c. search rules) (λ c. search rules) returns)

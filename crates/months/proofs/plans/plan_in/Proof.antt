@@ -32,7 +32,7 @@ part_apart cells part at room fits same j out = by (ltb j at) refl
         ∙ get_or-drop at cells (j - at) (pos 0)
         ∙ ap (λ (k : ℕ). get_or cells k (pos 0)) place
 
-plan-to-requires : tie.Need-plan-to-requires
+plan-to-requires : tie.Need-plan_to-requires
 plan-to-requires c κs =
     let o = c.before.before.before in
     let a = o.args in
@@ -43,11 +43,11 @@ returns c =
     let done = c.before.before.before in
     let o = done.before.before.before.before in
     let a = o.args in
-    let made = rw (tail-part a.work a.cells.now) at done.plan-to.ensures in
-    let part = done.plan-to.new.0 in
+    let made = rw (tail-part a.work a.cells.now) at done.plan_to.ensures in
+    let part = done.plan_to.new.cells in
     (made.0, rw (tail-back a.work a.cells.now part o.requires.1) (part_apart a.cells.now part a.work a.room o.requires.1 made.1))
 
-pub plan-in-spec : {M : Type 1} → statement M
-plan-in-spec =
+pub plan_in_spec : {M : Type 1} → statement M
+plan_in_spec =
     tie.close
     (tie.spec (λ c. search rules) (λ c. search rules) (λ c. search rules) (λ c. search rules) plan-to-requires (λ c. search rules) (λ c. search rules) returns)

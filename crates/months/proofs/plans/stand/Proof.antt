@@ -16,22 +16,22 @@ has_all : (b : Bool) → not b ≡ false → b ≡ true
 has_all true e = refl
 has_all false e = absurd (true≢false e)
 
-returns : tie.Need-returns
+returns : tie.Need-returns-then-not-y
 returns c =
     let made = c.before in
     let two = made.before.before in
     let o = two.before.before.before in
     let h = made.chain.ensures in (
       h.stands (o.args.k + 1) (omega arith) o.requires.1 (inr (omega arith)),
-      record { stood = λ stood all. absurd (not-both o.args.y.all two.if1.true all); beyond = h.beyond },
+      record { stood = λ stood all. absurd (not-both o.args.y.all two.if-not-y.true all); beyond = h.beyond },
     )
 
-returns-2 : tie.Need-returns-2
+returns-2 : tie.Need-returns-else-not-y
 returns-2 c =
     let o = c.before.before.before in
-    (o.requires.2 (has_all o.args.y.all c.if1.false) (o.args.k + 1) (omega arith) o.requires.1, record { stood = λ stood. stood; beyond = λ j out. refl })
+    (o.requires.2 (has_all o.args.y.all c.if-not-y.false) (o.args.k + 1) (omega arith) o.requires.1, record { stood = λ stood. stood; beyond = λ j out. refl })
 
-pub stand-spec : {M : Type 1} → statement M
-stand-spec =
+pub stand_spec : {M : Type 1} → statement M
+stand_spec =
     tie.close
     (tie.spec (λ c. search rules) (λ c κs. search rules) (λ c. search rules) returns returns-2)

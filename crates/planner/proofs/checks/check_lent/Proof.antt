@@ -13,10 +13,10 @@ use Rattle.planner.proofs.checks.check_lent.Statement.{statement}
 use Rattle.planner.proofs.checks.check_lent.Tie as tie
 
 -- the check of the case, by the prices themselves
-case-is : (c : tie.After-check-case) →
+case-is : (c : tie.After-check_case) →
     let a = c.before.before.args in
-    c.check-case.result ≡ case_checked a.unit (prices_kept a.prices.now) (length a.prices.now)
-case-is c = rw c.before.prices-kept.ensures at c.check-case.ensures
+    c.check_case.result ≡ case_checked a.unit (prices_kept a.prices.now) (length a.prices.now)
+case-is c = rw c.before.prices_kept-priced.ensures at c.check_case.ensures
 
 -- by what it comes to, the rest of the checks
 found : (c : tie.Start) {r k : Checked} → r ≡ case_checked c.args.unit (prices_kept c.args.prices.now) (length c.args.prices.now) → r ≡ k
@@ -27,24 +27,24 @@ found c e i =
     ap (λ (k : Checked). checked_then k (first_of (slices_checks a.unit (length a.prices.now) a.long a.scratch))) (sym i ∙ e)
     ∙ sym (lent-turn a.unit a.prices.now a.long a.scratch)
 
-check-slices-requires : tie.Need-check-slices-requires
+check-slices-requires : tie.Need-check_slices-requires
 check-slices-requires c κs =
-    let case = c.before.before in
+    let case = c.before in
     let s = case.before.before in
-    (passing s.args.unit (prices_kept s.args.prices.now) (length s.args.prices.now) (sym (case-is case) ∙ c.enum_told.given.1)).order
+    (passing s.args.unit (prices_kept s.args.prices.now) (length s.args.prices.now) (sym (case-is case) ∙ c.in-Passed.is)).order
 
-returns : tie.Need-returns
+returns : tie.Need-returns-in-Refused
 returns c =
-    let case = c.before.before.before in
-    found case.before.before (case-is case) c.before.cause.given.1
+    let case = c.before in
+    found case.before.before (case-is case) c.in-Refused.is
 
-returns-2 : tie.Need-returns-2
+returns-2 : tie.Need-returns-in-Passed
 returns-2 c =
-    let case = c.before.before.before in
-    c.check-slices.ensures ∙ found case.before.before (case-is case) c.before.enum_told.given.1
+    let case = c.before.before in
+    c.check_slices.ensures ∙ found case.before.before (case-is case) c.before.in-Passed.is
 
-pub check-lent-spec : {M : Type 1} → statement M
-check-lent-spec =
+pub check_lent_spec : {M : Type 1} → statement M
+check_lent_spec =
     tie.close
     (tie.spec
     (λ c κs. search rules)

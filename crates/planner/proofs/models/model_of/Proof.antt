@@ -11,12 +11,12 @@ use Rattle.planner.proofs.models.model_of.Tie as tie
 passed : (c : tie.Start) → Lent c.args.unit c.args.prices.now true c.args.lent
 passed c = lent c.args.unit c.args.prices.now true c.args.lent c.requires
 
-layer-cells-requires : tie.Need-layer-cells-requires
+layer-cells-requires : tie.Need-layer_cells-width-requires
 layer-cells-requires c κs =
     let s = c.before in
-    lent-sound s.args.unit s.args.prices.now s.args.lent (passed s) c.figures-of.result c.figures-of.ensures
+    lent-sound s.args.unit s.args.prices.now s.args.lent (passed s) c.figures_of-figures.result c.figures_of-figures.ensures
 
-hours-of-requires : tie.Need-hours-of-requires
+hours-of-requires : tie.Need-hours_of-hours-requires
 hours-of-requires c κs = let s = c.before.before in permitted s.args.unit s.args.prices.now s.args.lent (passed s)
 
 returns : tie.Need-returns
@@ -31,14 +31,14 @@ returns c =
       some = p.case.some;
       priced = prices-small s.args.prices.now p.case.prices;
       needed = p.cells;
-      figures = f.figures-of.ensures;
-      wide = layer.layer-cells.ensures;
-      opened = hours.hours-of.ensures;
-      long = ap (λ (n : ℕ). leb n s.args.lent) c.cells-long.ensures;
+      figures = f.figures_of-figures.ensures;
+      wide = layer.layer_cells-width.ensures;
+      opened = hours.hours_of-hours.ensures;
+      long = ap (λ (n : ℕ). leb n s.args.lent) c.cells_long.ensures;
     }
 
-pub model-of-spec : {M : Type 1} → statement M
-model-of-spec =
+pub model_of_spec : {M : Type 1} → statement M
+model_of_spec =
     tie.close
     (tie.spec
     (λ c κs. (passed c).case.order)

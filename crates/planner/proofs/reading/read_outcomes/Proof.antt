@@ -18,21 +18,20 @@ use Rattle.planner.proofs.reading.read_outcomes.Tie as tie
 abbrev answer : tie.Start → Plan → Valued
 answer c b = valued_by (unless (has_schedule b) NoSchedule Passed) (outcomes_of c.args.unit c.args.prices.now)
 
-returns : tie.Need-returns
+returns : tie.Need-returns-in-Nothing
 returns c =
+    let found = c.before in
+    let s = found.before in
+    ap (answer s) (sym (no-plan (best s.args.unit s.args.prices.now) (sym found.whole_profit.ensures ∙ c.in-Nothing.is)))
+
+returns-2 : tie.Need-returns-in-Profit
+returns-2 c =
     let found = c.before.before in
     let s = found.before in
-    ap (answer s) (sym (no-plan (best s.args.unit s.args.prices.now) (sym found.whole-profit.ensures ∙ c.enum_told.given.1)))
+    ap Outcomes c.outcomes_in.ensures
+    ∙ ap (answer s) (sym (some-plan (best s.args.unit s.args.prices.now) c.before.in-Profit.field-0 (sym found.whole_profit.ensures ∙ c.before.in-Profit.is)).1)
 
-returns-2 : tie.Need-returns-2
-returns-2 c =
-    let found = c.before.before.before in
-    let s = found.before in
-    let told = c.before.enum-told2.given in
-    ap Outcomes c.outcomes-in.ensures
-    ∙ ap (answer s) (sym (some-plan (best s.args.unit s.args.prices.now) told.0.0 (sym found.whole-profit.ensures ∙ told.1)).1)
-
-pub read-outcomes-spec : {M : Type 1} → statement M
-read-outcomes-spec =
+pub read_outcomes_spec : {M : Type 1} → statement M
+read_outcomes_spec =
     tie.close
     (tie.spec (λ c κs. search rules) (λ c. search rules) (λ c. search rules) (λ c κs. search rules) returns returns-2)

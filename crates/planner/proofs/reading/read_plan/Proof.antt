@@ -29,21 +29,21 @@ same-quarters : (c : tie.Start) → let a = c.args in quarters_in a.model.hours 
 same-quarters c = quarters c.args.unit c.args.prices.now (length c.args.scratch.now) c.args.model c.requires.0.0.model
 
 -- the plan from the opening cell
-best-is : (c : tie.After-opening-cell) →
+best-is : (c : tie.After-opening_cell-from) →
     let a = c.before.before.before.args in
-    plan_at a.model.figures anywhere (quarters_of a.unit a.prices.now) c.opening-cell.result ≡ best a.unit a.prices.now
+    plan_at a.model.figures anywhere (quarters_of a.unit a.prices.now) c.opening_cell-from.result ≡ best a.unit a.prices.now
 best-is c =
     let s = c.before.before.before in
     let a = s.args in
-    ap₂ (λ (f : Figures) (x : Cell). plan_at f anywhere (quarters_of a.unit a.prices.now) x) s.requires.0.0.model.figures c.opening-cell.ensures
+    ap₂ (λ (f : Figures) (x : Cell). plan_at f anywhere (quarters_of a.unit a.prices.now) x) s.requires.0.0.model.figures c.opening_cell-from.ensures
     ∙ opening-plan a.unit a.prices.now a.scratch.now (tells s)
 
 -- ---- read off the long table
 
-plans : (c : tie.Then1) →
+plans : (c : tie.Then-model) →
     let cell = c.before in
     let a = cell.before.before.before.args in
-    PlanFrom a.model.figures anywhere a.prices.now a.scratch.now cell.opening-cell.result (quarters_of a.unit a.prices.now)
+    PlanFrom a.model.figures anywhere a.prices.now a.scratch.now cell.opening_cell-from.result (quarters_of a.unit a.prices.now)
 plans c =
     let cell = c.before in
     let s = cell.before.before.before in
@@ -51,27 +51,27 @@ plans c =
     let figures = s.requires.0.0.model.figures in
     record {
       priced = quarters-priced (opens_in a.unit.permit) 0 a.prices.now;
-      filled = rw (same-quarters s) at (s.requires.0.0.begun.filled c.if1.true);
-      some = rw (figures, cell.opening-cell.ensures) (opening-some a.unit a.prices.now a.scratch.now (tells s) s.requires.1);
+      filled = rw (same-quarters s) at (s.requires.0.0.begun.filled c.if-model.true);
+      some = rw (figures, cell.opening_cell-from.ensures) (opening-some a.unit a.prices.now a.scratch.now (tells s) s.requires.1);
     }
 
-read-off-requires : tie.Need-read-off-requires
+read-off-requires : tie.Need-read_off-requires
 read-off-requires c κs =
-    let t = c.before.before in
+    let t = c.before in
     let cell = t.before in
     let s = cell.before.before.before in
     let a = s.args in
     let m = s.requires.0.0.model in
     let inside = opening-inside a.unit a.prices.now a.scratch.now (tells s) in (
-      (long-room a.unit a.prices.now (length a.scratch.now) a.model m t.if1.true, m.wide, m.priced),
-      ((anywhere, quarters_of a.unit a.prices.now, plans t), (rw (m.figures, cell.opening-cell.ensures) inside, s.requires.0.1)),
+      (long-room a.unit a.prices.now (length a.scratch.now) a.model m t.if-model.true, m.wide, m.priced),
+      ((anywhere, quarters_of a.unit a.prices.now, plans t), (rw (m.figures, cell.opening_cell-from.ensures) inside, s.requires.0.1)),
     )
 
-returns : tie.Need-returns
+returns : tie.Need-returns-then-model
 unfolding figures_of
 returns c =
     let read = c.before.before in
-    let t = read.before.before.before in
+    let t = read.before.before in
     let cell = t.before in
     let s = cell.before.before.before in
     let a = s.args in
@@ -88,7 +88,7 @@ returns c =
 
 -- ---- worked out in two layers
 
-plan-from-requires : tie.Need-plan-from-requires
+plan-from-requires : tie.Need-plan_from-requires
 plan-from-requires c κs =
     let e = c.before.before in
     let cell = e.before in
@@ -97,16 +97,16 @@ plan-from-requires c κs =
     let m = s.requires.0.0.model in (
       (
         case-asked a.unit a.prices.now (length a.scratch.now) a.model m,
-        s.requires.0.0.begun.passed e.if1.false refl,
-        rw (m.figures, cell.opening-cell.ensures) (opening-inside a.unit a.prices.now a.scratch.now (tells s)),
+        s.requires.0.0.begun.passed e.if-model.false refl,
+        rw (m.figures, cell.opening_cell-from.ensures) (opening-inside a.unit a.prices.now a.scratch.now (tells s)),
       ),
       (
-        (two-intervals a.unit a.prices.now (length a.scratch.now) a.model m e.if1.false, s.requires.0.1),
-        rw (same-quarters s, m.figures, cell.opening-cell.ensures) (opening-some a.unit a.prices.now a.scratch.now (tells s) s.requires.1),
+        (two-intervals a.unit a.prices.now (length a.scratch.now) a.model m e.if-model.false, s.requires.0.1),
+        rw (same-quarters s, m.figures, cell.opening_cell-from.ensures) (opening-some a.unit a.prices.now a.scratch.now (tells s) s.requires.1),
       ),
     )
 
-returns-2 : tie.Need-returns-2
+returns-2 : tie.Need-returns
 unfolding figures_of
 returns-2 c =
     let made = c.before.before.before in
@@ -115,21 +115,21 @@ returns-2 c =
     let s = cell.before.before.before in
     let a = s.args in
     let m = s.requires.0.0.model in
-    let r = made.plan-from.ensures in
-    let same : plan_at a.model.figures anywhere (quarters_in a.model.hours a.prices.now) cell.opening-cell.result ≡ best a.unit
+    let r = made.plan_from.ensures in
+    let same : plan_at a.model.figures anywhere (quarters_in a.model.hours a.prices.now) cell.opening_cell-from.result ≡ best a.unit
     a.prices.now =
-    ap (λ (qs : List Quarter). plan_at a.model.figures anywhere qs cell.opening-cell.result) (same-quarters s) ∙ best-is cell in (
+    ap (λ (qs : List Quarter). plan_at a.model.figures anywhere qs cell.opening_cell-from.result) (same-quarters s) ∙ best-is cell in (
       r.0 ∙ ap₂ (λ (f : Figures) (b : Plan). tries_over f.block f.pmin (schedule_of b)) m.figures same,
       (
         r.1.0
             ∙ ap (λ (b : Plan). schedule_of b ++ drop (length a.prices.now) a.schedule.now) same
             ∙ plan-in-front a.unit a.prices.now a.scratch.now (tells s) a.schedule.now s.requires.1,
-        rw (layers-used a.unit a.prices.now (length a.scratch.now) a.model m e.if1.false) at r.1.1,
+        rw (layers-used a.unit a.prices.now (length a.scratch.now) a.model m e.if-model.false) at r.1.1,
       ),
     )
 
-pub read-plan-spec : {M : Type 1} → statement M
-read-plan-spec =
+pub read_plan_spec : {M : Type 1} → statement M
+read_plan_spec =
     tie.close
     (tie.spec
     (λ c κs. search rules)

@@ -33,49 +33,47 @@ answer c b = reported_by (unless (has_schedule b) NoSchedule Passed) b (outcomes
 abbrev schedule : tie.Start → Plan → List ℕ
 schedule c b = schedule_after (unless (has_schedule b) NoSchedule Passed) b c.args.schedule.now
 
-whole-profit-requires : tie.Need-whole-profit-requires
-whole-profit-requires c κs = tells c.before.before.before
+whole-profit-requires : tie.Need-whole_profit-requires
+whole-profit-requires c κs = tells c.before.before
 
-outcomes-in-requires : tie.Need-outcomes-in-requires
-outcomes-in-requires c κs = tells c.before.before.before.before.before.before.before.before
+outcomes-in-requires : tie.Need-outcomes_in-outcomes-requires
+outcomes-in-requires c κs = tells c.before.before.before.before
 
-read-plan-requires : tie.Need-read-plan-requires
+read-plan-requires : tie.Need-read_plan-requires
 read-plan-requires c κs =
-    let profit = c.before.before.before.before.before in
-    let found = profit.before.before in
-    let s = found.before.before.before.before in
-    (s.requires, λ none. no-earning (sym none ∙ sym found.whole-profit.ensures ∙ profit.profit.given.1))
+    let profit = c.before.before.before in
+    let found = c.before.before.before.before in
+    let s = found.before.before.before in
+    (s.requires, λ none. no-earning (sym none ∙ sym found.whole_profit.ensures ∙ c.before.before.before.in-Profit.is))
 
-returns : tie.Need-returns
+returns : tie.Need-returns-in-Nothing
 returns c =
-    let found = c.before.before in
-    let s = found.before.before.before.before in
-    let none = no-plan (best s.args.unit s.args.prices.now) (sym found.whole-profit.ensures ∙ c.enum_told.given.1) in
+    let found = c.before in
+    let s = found.before.before.before in
+    let none = no-plan (best s.args.unit s.args.prices.now) (sym found.whole_profit.ensures ∙ c.in-Nothing.is) in
     (ap (answer s) (sym none), (ap (schedule s) (sym none), refl))
 
-returns-2 : tie.Need-returns-2
+returns-2 : tie.Need-returns-in-Profit
 returns-2 c =
     let worked = c.before.before.before in
     let looked = worked.before.before.before in
-    let known = looked.before.before in
-    let profit = known.before in
-    let found = profit.before.before in
-    let s = found.before.before.before.before in
+    let found = looked.before.before in
+    let s = found.before.before.before in
     let a = s.args in
-    let said = profit.profit.given in
-    let some = some-plan (best a.unit a.prices.now) said.0.0 (sym found.whole-profit.ensures ∙ said.1) in
+    let profit = looked.before.in-Profit.profit in
+    let some = some-plan (best a.unit a.prices.now) profit (sym found.whole_profit.ensures ∙ looked.before.in-Profit.is) in
     let order = s.requires.0.model.order in
-    let long = plan-length a.unit order.ranges order.shape a.prices.now some.0 said.0.0 some.1 in
-    let value = plain_fits {x = said.0.0} (record { sfits = known.known-told.given.0.1 }) in (
-      same-report (sym long) value looked.outcomes-in.ensures ∙ ap (answer s) (sym some.1),
+    let long = plan-length a.unit order.ranges order.shape a.prices.now some.0 profit some.1 in
+    let value = plain_fits {x = profit} (record { sfits = looked.before.in-Profit.known_told-1-own.given.0.1 }) in (
+      same-report (sym long) value looked.outcomes_in-outcomes.ensures ∙ ap (answer s) (sym some.1),
       (
-        worked.read-plan.ensures.1.0 ∙ ap (λ (b : Plan). schedule_after Passed b a.schedule.now) some.1 ∙ ap (schedule s) (sym some.1),
-        worked.read-plan.ensures.1.1,
+        worked.read_plan.ensures.1.0 ∙ ap (λ (b : Plan). schedule_after Passed b a.schedule.now) some.1 ∙ ap (schedule s) (sym some.1),
+        worked.read_plan.ensures.1.1,
       ),
     )
 
-pub read-report-spec : {M : Type 1} → statement M
-read-report-spec =
+pub read_report_spec : {M : Type 1} → statement M
+read_report_spec =
     tie.close
     (tie.spec
     whole-profit-requires

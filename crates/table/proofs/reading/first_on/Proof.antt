@@ -23,11 +23,11 @@ use Rattle.table.proofs.Choosing.{first-at}
 use Rattle.table.proofs.reading.first_on.Statement.{statement}
 use Rattle.table.proofs.reading.first_on.Tie as tie
 
-abbrev invariant-loop : tie.invariant-loop
+abbrev invariant-loop : tie.invariant-loop-f
 invariant-loop scratch at f price best pays row above₀ tries₀ above tries =
     (tries ≡ suc above) × ((j : ℕ) → f.pmin ≤ j → j < f.pmin + above → reaches_best f scratch row (to_z w64 price) pays (to_z w64 best) j ≡ false)
 
-abbrev decreases-loop : tie.decreases-loop
+abbrev decreases-loop : tie.decreases-loop-f
 decreases-loop scratch at f price best pays row above₀ tries₀ above tries = suc f.pmax - (f.pmin + above)
 
 -- the cell of the row with i blocks left
@@ -55,12 +55,12 @@ stands c i h =
     (e, omega (arith, e, index-lt a.f _ (in_row c i h)))
 
 -- the test of an output, as `first_on` has it
-met-is : (c : tie.At-loop invariant-loop decreases-loop) (j : ℕ) →
+met-is : (c : tie.At-loop-f invariant-loop decreases-loop) (j : ℕ) →
     let o = c.before.before.before in
     let a = o.args in
     reaches_on a.f (stored_at a.f a.scratch.now a.at) a.c a.price a.best j
     ≡ reaches_best a.f a.scratch.now (record { at = a.at + c.before.on_row.result; blocks = a.c.left.blocks }) (to_z w64 (of_z w64 a.price))
-    c.before.before.start-pays.result
+    c.before.before.start_pays-pays.result
     (to_z w64 (of_z w64 a.best))
     j
 met-is c j =
@@ -68,19 +68,19 @@ met-is c j =
     let a = o.args in
     let i = a.c.left.blocks - j * a.f.takes.blocks in
     let p : a.at + c.before.on_row.result + i ≡ a.at + number o i = omega (arith, c.before.on_row.ensures, (stands o i (omega arith)).0) in
-    rw (plain_fits o.ranges.price, plain_fits o.ranges.best, c.before.before.start-pays.ensures, p)
+    rw (plain_fits o.ranges.price, plain_fits o.ranges.best, c.before.before.start_pays-pays.ensures, p)
 
 -- the output that is tried
-abbrev tried : tie.At-loop invariant-loop decreases-loop → ℕ
-tried c = c.before.before.before.args.f.pmin + c.loop.above
+abbrev tried : tie.At-loop-f invariant-loop decreases-loop → ℕ
+tried c = c.before.before.before.args.f.pmin + c.loop-f.above
 
-passed : (c : tie.At-loop invariant-loop decreases-loop) (j : ℕ) →
+passed : (c : tie.At-loop-f invariant-loop decreases-loop) (j : ℕ) →
     let a = c.before.before.before.args in
     a.f.pmin ≤ j → j < tried c → reaches_on a.f (stored_at a.f a.scratch.now a.at) a.c a.price a.best j ≡ false
-passed c j lo hi = met-is c j ∙ c.loop.invariant.1 j lo hi
+passed c j lo hi = met-is c j ∙ c.loop-f.invariant.1 j lo hi
 
 -- the output known to reach it is not passed
-not-past : (c : tie.At-loop invariant-loop decreases-loop) → tried c ≤ c.before.before.before.requires.1.at
+not-past : (c : tie.At-loop-f invariant-loop decreases-loop) → tried c ≤ c.before.before.before.requires.1.at
 not-past c = by (ltb c.before.before.before.requires.1.at (tried c)) refl
   where
     by : (t : Bool) → ltb c.before.before.before.requires.1.at (tried c) ≡ t → tried c ≤ c.before.before.before.requires.1.at
@@ -90,12 +90,12 @@ not-past c = by (ltb c.before.before.before.requires.1.at (tried c)) refl
     by false e = ltb-false c.before.before.before.requires.1.at (tried c) e
 
 -- and outputs are few
-few : (c : tie.At-loop invariant-loop decreases-loop) → tried c ≤ most_mw
+few : (c : tie.At-loop-f invariant-loop decreases-loop) → tried c ≤ most_mw
 few c =
     let o = c.before.before.before in
     omega (arith, not-past c, o.requires.1.high, pmax-most o.args.f o.requires.0.0.sound)
 
-loop-holds : tie.Need-loop-init invariant-loop decreases-loop
+loop-holds : tie.Need-loop-f-init invariant-loop decreases-loop
 loop-holds c = (refl, λ j l h. absurd (omega arith))
 
 reaches-requires : tie.Need-reaches-requires invariant-loop decreases-loop
@@ -105,7 +105,7 @@ reaches-requires c κs =
     let a = o.args in
     let e = l.before.on_row.ensures in (
       rw (plain_fits o.ranges.price) o.requires.0.0,
-      rw l.before.before.start-pays.ensures (pays-most a.f o.requires.0.0.sound a.c.state),
+      rw l.before.before.start_pays-pays.ensures (pays-most a.f o.requires.0.0.sound a.c.state),
       omega (arith, not-past l, o.requires.1.high),
       record {
         fits = omega (arith, e, (stands o a.c.left.blocks (omega arith)).1, o.requires.0.2.fits);
@@ -116,31 +116,31 @@ reaches-requires c κs =
     )
 
 -- it is the first that reaches the best, and was tried after off and the outputs below it
-returns : tie.Need-returns invariant-loop decreases-loop
+returns : tie.Need-returns-then-reaches invariant-loop decreases-loop
 returns c =
     let l = c.before.before.before in
     let o = l.before.before.before in
     let a = o.args in (
       sym
           (first-at a.f (stored_at a.f a.scratch.now a.at) a.c a.price a.best (tried l) (omega arith)
-          (omega (arith, not-past l, o.requires.1.high)) (passed l) (met-is l (tried l) ∙ sym c.before.reaches.ensures ∙ c.if1.true)),
-      omega (arith, l.loop.invariant.0, tries-on a.f.pmin (tried l) (omega (arith, o.requires.0.0.sound.pmin))),
+          (omega (arith, not-past l, o.requires.1.high)) (passed l) (met-is l (tried l) ∙ sym c.before.reaches.ensures ∙ c.if-reaches.true)),
+      omega (arith, l.loop-f.invariant.0, tries-on a.f.pmin (tried l) (omega (arith, o.requires.0.0.sound.pmin))),
     )
 
-loop-again : tie.Need-loop-preserved invariant-loop decreases-loop
+loop-again : tie.Need-loop-f-preserved invariant-loop decreases-loop
 loop-again c =
     let l = c.before.before.before in (
-      omega (arith, l.loop.invariant.0),
+      omega (arith, l.loop-f.invariant.0),
       λ j lo hi.
-          ⊎_elim (λ (e : j ≡ tried l). rw e (sym c.before.reaches.ensures ∙ c.if1.false)) (λ (h : j < tried l). l.loop.invariant.1 j lo h)
+          ⊎_elim (λ (e : j ≡ tried l). rw e (sym c.before.reaches.ensures ∙ c.if-reaches.false)) (λ (h : j < tried l). l.loop-f.invariant.1 j lo h)
           (last-or-before j (tried l) (omega arith)),
     )
 
-pub first-on-spec : {M : Type 1} → statement M
-first-on-spec =
+pub first_on_spec : {M : Type 1} → statement M
+first_on_spec =
     tie.close
     (tie.spec invariant-loop decreases-loop (λ c κs. c.requires.0.0.sound) (λ c κs. let o = c.before in (o.requires.0.0.sound, o.requires.0.1, o.requires.1.may))
     (λ c. let o = c.before.before in omega (arith, c.on_row.ensures, (stands o 0 (omega arith)).1, o.requires.0.2.fits))
-    loop-holds (λ c. omega (arith, few c.before)) (λ c. omega (arith, few c.before, c.before.loop.invariant.0)) reaches-requires returns
+    loop-holds (λ c. omega (arith, few c.before)) (λ c. omega (arith, few c.before, c.before.loop-f.invariant.0)) reaches-requires returns
     (λ c. omega (arith, few c.before.before.before))
     (λ c. let l = c.before.before.before in omega (arith, not-past l, l.before.before.before.requires.1.high)) loop-again)

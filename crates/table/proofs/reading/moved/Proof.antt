@@ -16,20 +16,20 @@ moves-on : (f : Figures) (c : Cell) (k : ℕ) → (k ≡ 0 → ⊥) → on_cell 
 moves-on f c zero h = absurd (h refl)
 moves-on f c (suc k) h = refl
 
-returns : tie.Need-returns
+returns : tie.Need-returns-then-k-eq0
 returns c =
     let t = c.before in
     let a = t.before.args in
-    c.off-cell.ensures ∙ moves-off a.f a.c a.k t.if1.true
+    c.off_cell.ensures ∙ moves-off a.f a.c a.k t.if-k-eq0.true
 
-on-cell-requires : tie.Need-on-cell-requires
-on-cell-requires c κs = (c.before.requires.0, c.before.requires.1 c.if1.false)
+on-cell-requires : tie.Need-on_cell-requires
+on-cell-requires c κs = (c.before.requires.0, c.before.requires.1 c.if-k-eq0.false)
 
-returns-2 : tie.Need-returns-2
+returns-2 : tie.Need-returns
 returns-2 c =
     let e = c.before in
     let a = e.before.args in
-    c.on-cell.ensures ∙ moves-on a.f a.c a.k e.if1.false
+    c.on_cell.ensures ∙ moves-on a.f a.c a.k e.if-k-eq0.false
 
-pub moved-spec : {M : Type 1} → statement M
-moved-spec = tie.close (tie.spec (λ c κs. search rules) returns on-cell-requires returns-2)
+pub moved_spec : {M : Type 1} → statement M
+moved_spec = tie.close (tie.spec (λ c κs. search rules) returns on-cell-requires returns-2)

@@ -17,21 +17,21 @@ use Rattle.table.proofs.reading.off_stored.Statement.{statement}
 use Rattle.table.proofs.reading.off_stored.Tie as tie
 
 -- off leads to a state, and so to a cell of the table
-leads : (c : tie.Else1) →
+leads : (c : tie.Else-f-next) →
     let a = c.before.before.before.before.args in
     (after_off a.f a.c.state < states a.f) × InTable a.f (off_cell a.f a.c)
 leads c =
     let off = c.before.before.before in
     let o = off.before in
     let a = o.args in
-    let is = ap (λ (x : Cell). x.state) off.off-cell.ensures in
-    let inside : after_off a.f a.c.state < states a.f = omega (arith, is, c.if1.false) in
+    let is = ap (λ (x : Cell). x.state) off.off_cell-next.ensures in
+    let inside : after_off a.f a.c.state < states a.f = omega (arith, is, c.if-f-next.false) in
     (inside, off-in-table a.f a.c o.requires.1 inside)
 
 index-requires : tie.Need-index-requires
 index-requires c κs =
     let off = c.before.before.before in
-    (off.before.requires.0, rw off.off-cell.ensures (leads c).1)
+    (off.before.requires.0, rw off.off_cell-next.ensures (leads c).1)
 
 -- where the cell stands
 place : (c : tie.After-index) →
@@ -42,27 +42,27 @@ place c =
     let off = e.before.before.before in
     let o = off.before in
     let a = o.args in
-    let is : c.index.result ≡ index a.f (off_cell a.f a.c) = c.index.ensures ∙ ap (index a.f) off.off-cell.ensures in
+    let is : c.index.result ≡ index a.f (off_cell a.f a.c) = c.index.ensures ∙ ap (index a.f) off.off_cell-next.ensures in
     (is, omega (arith, is, index-lt a.f (off_cell a.f a.c) (leads e).1, o.requires.2))
 
-returns : tie.Need-returns
+returns : tie.Need-returns-then-f-next
 unfolding off_stored
 returns c =
     let off = c.before.before.before in
     let a = off.before.args in
-    let is = ap (λ (x : Cell). x.state) off.off-cell.ensures in
-    simp (le-ltb (after_off a.f a.c.state) (states a.f) (omega (arith, is, c.if1.true)))
+    let is = ap (λ (x : Cell). x.state) off.off_cell-next.ensures in
+    simp (le-ltb (after_off a.f a.c.state) (states a.f) (omega (arith, is, c.if-f-next.true)))
 
-returns-2 : tie.Need-returns-2
+returns-2 : tie.Need-returns
 unfolding off_stored
 returns-2 c =
     let i = c.before in
     let a = i.before.before.before.before.before.args in
     simp (lt-ltb (after_off a.f a.c.state) (states a.f) (leads i.before).0)
-    (plain_fits (record { sfits = c.result.given }) ∙ ap (λ (n : ℕ). get_or a.scratch.now (a.at + n) (pos 0)) (place i).0)
+    (plain_fits (record { sfits = c.result-1.given }) ∙ ap (λ (n : ℕ). get_or a.scratch.now (a.at + n) (pos 0)) (place i).0)
 
-pub off-stored-spec : {M : Type 1} → statement M
-off-stored-spec =
+pub off_stored_spec : {M : Type 1} → statement M
+off_stored_spec =
     tie.close
     (tie.spec (λ c κs. search rules) (λ c. search rules) returns index-requires (λ c. omega (arith, (place c).1))
     (λ c. omega (arith, (place c).1)) (λ c. (place c).1) returns-2)

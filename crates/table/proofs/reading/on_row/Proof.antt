@@ -12,16 +12,16 @@ may : (c : tie.Start) → Runs c.args.f c.args.c
 may c = runs c.args.f c.args.c c.requires.2
 
 -- no block is left and none is taken
-first : (c : tie.After-on-cell) →
+first : (c : tie.After-on_cell) →
     let a = c.before.args in
-    c.on-cell.result ≡ cell (after_on a.f a.c.state) (a.c.left.starts - start_takes a.f a.c.state) (a.c.left.ons - a.f.takes.ons) 0
+    c.on_cell.result ≡ cell (after_on a.f a.c.state) (a.c.left.starts - start_takes a.f a.c.state) (a.c.left.ons - a.f.takes.ons) 0
 first c =
     let a = c.before.args in
     let none : 0 - 0 * a.f.takes.blocks ≡ 0 = omega arith in
-    c.on-cell.ensures
+    c.on_cell.ensures
     ∙ ap (λ (n : ℕ). cell (after_on a.f a.c.state) (a.c.left.starts - start_takes a.f a.c.state) (a.c.left.ons - a.f.takes.ons) n) none
 
-on-cell-requires : tie.Need-on-cell-requires
+on-cell-requires : tie.Need-on_cell-requires
 on-cell-requires c κs = ((c.requires.0, c.requires.1.state), ((may c).starts, (may c).ons, omega arith))
 
 index-requires : tie.Need-index-requires
@@ -36,5 +36,5 @@ index-requires c κs =
 returns : tie.Need-returns
 returns c = let a = c.before.before.args in c.index.ensures ∙ ap (index a.f) (first c.before)
 
-pub on-row-spec : {M : Type 1} → statement M
-on-row-spec = tie.close (tie.spec on-cell-requires index-requires returns)
+pub on_row_spec : {M : Type 1} → statement M
+on_row_spec = tie.close (tie.spec on-cell-requires index-requires returns)

@@ -8,10 +8,10 @@ use Rattle.tabletext.proofs.bytes.is_of.Tie as tie
 
 returns : tie.Need-returns
 unfolding is_of
-returns c = ap₂ eqb (c.before.rank-of.ensures ∙ ap rank c.before.before.class_of.ensures) c.rank-of2.ensures
+returns c = ap₂ eqb (c.before.rank_of.ensures ∙ ap rank c.before.before.class_of.ensures) c.rank_of-2.ensures
 
-pub is-of-spec : {M : Type 1} → statement M
-is-of-spec =
+pub is_of_spec : {M : Type 1} → statement M
+is_of_spec =
     tie.close
     (tie.spec
     (λ c κs. search rules) (λ c κs. search rules) (λ c κs. search rules)

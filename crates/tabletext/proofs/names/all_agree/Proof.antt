@@ -8,14 +8,14 @@ use native.Mathlib.Omega.{arith}
 use Rattle.tabletext.proofs.names.all_agree.Statement.{statement}
 use Rattle.tabletext.proofs.names.all_agree.Tie as tie
 
-abbrev invariant-loop : tie.invariant-loop
+abbrev invariant-loop : tie.invariant-loop-at
 invariant-loop pieces judged s first second below at₀ at = Testing pieces (agrees judged first second) s at
 
-abbrev decreases-loop : tie.decreases-loop
+abbrev decreases-loop : tie.decreases-loop-at
 decreases-loop pieces judged s first second below at₀ at = length s + 1 - at
 
-pub all-agree-spec : {M : Type 1} → statement M
-all-agree-spec =
+pub all_agree_spec : {M : Type 1} → statement M
+all_agree_spec =
     tie.close
     (tie.spec
     invariant-loop
@@ -24,8 +24,8 @@ all-agree-spec =
     (λ c. test-start _ _ _)
     (λ c κs. omega arith) (λ c. search rules) (λ c. search rules) (λ c. search rules) (λ c κs. search rules)
     (λ c. let cut = c.before.before.before in
-    test-fails cut.before.before.loop.invariant cut.piece-end.ensures c.before.piece-agrees.ensures c.if1.true)
+    test-fails cut.before.before.loop-at.invariant cut.piece_end-end.ensures c.before.piece_agrees.ensures c.if-not-piece_agrees.true-raw)
     (λ c. omega arith) (λ c. omega arith)
     (λ c. let cut = c.before.before.before in
-    test_on cut.before.before.loop.invariant cut.piece-end.ensures c.before.piece-agrees.ensures c.if1.false)
-    (λ c. test-end c.before.loop.invariant (omega arith)))
+    test_on cut.before.before.loop-at.invariant cut.piece_end-end.ensures c.before.piece_agrees.ensures c.if-not-piece_agrees.false-raw)
+    (λ c. test-end c.before.loop-at.invariant (omega arith)))

@@ -11,10 +11,10 @@ use Rattle.tabletext.proofs.names.piece_agrees.Tie as tie
 as-told : (first second s : List ℕ) {a b : Judged} → a ≡ b → agrees b first second s ≡ agrees a first second s
 as-told first second s e = ap (λ (k : Judged). agrees k first second s) (sym e)
 
-pub piece-agrees-spec : {M : Type 1} → statement M
-piece-agrees-spec =
+pub piece_agrees_spec : {M : Type 1} → statement M
+piece_agrees_spec =
     tie.close
     (tie.spec
     (λ c. search rules) (λ c κs. search rules) (λ c. search rules) (λ c κs. search rules)
-    (λ c. c.is_Known.ensures ∙ as-told _ _ _ c.before.enum_told.given.1)
-    (λ c. c.are-together.ensures ∙ as-told _ _ _ c.before.enum-told2.given.1))
+    (λ c. c.is_known.ensures ∙ as-told _ _ _ c.before.in-Known.is)
+    (λ c. c.are_together.ensures ∙ as-told _ _ _ c.before.in-Together.is))

@@ -8,14 +8,14 @@ use native.Mathlib.Omega.{arith}
 use Rattle.tabletext.proofs.tables.every_piece.Statement.{statement}
 use Rattle.tabletext.proofs.tables.every_piece.Tie as tie
 
-abbrev invariant-loop : tie.invariant-loop
+abbrev invariant-loop : tie.invariant-loop-at
 invariant-loop pieces asked s beside below at₀ at = Testing pieces (passes asked beside) s at
 
-abbrev decreases-loop : tie.decreases-loop
+abbrev decreases-loop : tie.decreases-loop-at
 decreases-loop pieces asked s beside below at₀ at = length s + 1 - at
 
-pub every-piece-spec : {M : Type 1} → statement M
-every-piece-spec =
+pub every_piece_spec : {M : Type 1} → statement M
+every_piece_spec =
     tie.close
     (tie.spec
     invariant-loop
@@ -24,8 +24,8 @@ every-piece-spec =
     (λ c. test-start _ _ _)
     (λ c κs. omega arith) (λ c. search rules) (λ c. search rules) (λ c. search rules) (λ c κs. search rules)
     (λ c. let cut = c.before.before.before in
-    test-fails cut.before.before.loop.invariant cut.piece-end.ensures c.before.passes-piece.ensures c.if1.true)
+    test-fails cut.before.before.loop-at.invariant cut.piece_end-end.ensures c.before.passes_piece.ensures c.if-not-passes_piece.true-raw)
     (λ c. omega arith) (λ c. omega arith)
     (λ c. let cut = c.before.before.before in
-    test_on cut.before.before.loop.invariant cut.piece-end.ensures c.before.passes-piece.ensures c.if1.false)
-    (λ c. test-end c.before.loop.invariant (omega arith)))
+    test_on cut.before.before.loop-at.invariant cut.piece_end-end.ensures c.before.passes_piece.ensures c.if-not-passes_piece.false-raw)
+    (λ c. test-end c.before.loop-at.invariant (omega arith)))

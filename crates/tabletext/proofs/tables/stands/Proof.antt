@@ -9,5 +9,5 @@ use Rattle.tabletext.proofs.tables.stands.Tie as tie
 returns : tie.Need-returns
 returns c = ap (λ (n : ℕ). eqb n c.before.before.before.args.times) c.count.ensures
 
-pub stands-spec : {M : Type 1} → statement M
-stands-spec = tie.close (tie.spec (λ c κs. search rules) returns)
+pub stands_spec : {M : Type 1} → statement M
+stands_spec = tie.close (tie.spec (λ c κs. search rules) returns)

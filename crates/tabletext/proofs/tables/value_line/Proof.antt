@@ -25,8 +25,8 @@ all-values xs n = go (eqb (length xs) n) refl
 returns : tie.Need-returns
 returns c =
     let a = c.before.before.before.args in
-    ap₂ (λ (m n : ℕ). eqb m a.names && eqb n a.names) c.before.fields_in.ensures c.values-in.ensures
+    ap₂ (λ (m n : ℕ). eqb m a.names && eqb n a.names) c.before.fields_in.ensures c.values_in.ensures
     ∙ all-values (fields_of a.line.now) a.names
 
-pub value-line-spec : {M : Type 1} → statement M
-value-line-spec = tie.close (tie.spec (λ c κs. search rules) (λ c κs. search rules) returns)
+pub value_line_spec : {M : Type 1} → statement M
+value_line_spec = tie.close (tie.spec (λ c κs. search rules) (λ c κs. search rules) returns)

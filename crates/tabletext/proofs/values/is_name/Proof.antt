@@ -12,5 +12,5 @@ returns : tie.Need-returns
 unfolding is_name
 returns c = ap (λ (t : Bool). ltb 0 (length c.before.before.args.s.now) && t) c.all_of.ensures
 
-pub is-name-spec : {M : Type 1} → statement M
-is-name-spec = tie.close (tie.spec (λ c κs. search rules) returns)
+pub is_name_spec : {M : Type 1} → statement M
+is_name_spec = tie.close (tie.spec (λ c κs. search rules) returns)

@@ -12,7 +12,7 @@ returns : tie.Need-returns
 unfolding numeral
 returns c =
     let t = leb (length c.before.before.before.args.s.now) 10 in
-    ap₂ (λ (a b : Bool). a && b && t) c.before.lead-kept.ensures c.all_of.ensures
+    ap₂ (λ (a b : Bool). a && b && t) c.before.lead_kept.ensures c.all_of.ensures
 
-pub is-numeral-spec : {M : Type 1} → statement M
-is-numeral-spec = tie.close (tie.spec (λ c κs. search rules) (λ c κs. search rules) returns)
+pub is_numeral_spec : {M : Type 1} → statement M
+is_numeral_spec = tie.close (tie.spec (λ c κs. search rules) (λ c κs. search rules) returns)

@@ -7,7 +7,7 @@ use Rattle.tabletext.proofs.values.is_value.Tie as tie
 
 returns : tie.Need-returns
 unfolding is_value
-returns c = c.well-formed-2.ensures ∙ ap well_formed c.before.value_of_lem.ensures
+returns c = c.well_formed-2.ensures ∙ ap well_formed c.before.value_of.ensures
 
-pub is-value-spec : {M : Type 1} → statement M
-is-value-spec = tie.close (tie.spec (λ c κs. search rules) (λ c κs. search rules) returns)
+pub is_value_spec : {M : Type 1} → statement M
+is_value_spec = tie.close (tie.spec (λ c κs. search rules) (λ c κs. search rules) returns)

@@ -25,14 +25,14 @@ more [] z o = absurd (z refl)
 more (b ∷ []) z o = absurd (o refl)
 more (b ∷ d ∷ bs) z o = refl
 
-returns : tie.Need-returns
-returns c = none c.before.args.s.now c.if1.true
+returns : tie.Need-returns-then-s-eq0
+returns c = none c.before.args.s.now c.if-s-eq0.true
 
-returns-2 : tie.Need-returns-2
-returns-2 c = one c.before.before.args.s.now c.if2.true
+returns-2 : tie.Need-returns-then-s-eq1
+returns-2 c = one c.before.before.args.s.now c.if-s-eq1.true
 
-returns-3 : tie.Need-returns-3
-returns-3 c = more c.before.before.before.args.s.now c.before.before.if1.false c.before.if2.false
+returns-3 : tie.Need-returns
+returns-3 c = more c.before.before.before.args.s.now c.before.before.if-s-eq0.false c.before.if-s-eq1.false
 
-pub lead-kept-spec : {M : Type 1} → statement M
-lead-kept-spec = tie.close (tie.spec returns returns-2 (λ c. search rules) returns-3)
+pub lead_kept_spec : {M : Type 1} → statement M
+lead_kept_spec = tie.close (tie.spec returns returns-2 (λ c. search rules) returns-3)

@@ -13,7 +13,7 @@ use Rattle.tabletext.proofs.values.minus.Tie as tie
 small : (n : ℕ) → n < 10 ^ most_digits → Within (10 ^ most_digits) (pos n)
 small n h = within-weaken (omega arith) (within-at n)
 
-sub-result : tie.Need-overflow-sub-result
+sub-result : tie.Need-overflow_sub-result
 sub-result c =
     let w = small c.before.args.n c.before.requires in
     simp (c.signed.ensures, plain w (lit< tt)) (within-fits (within-diff (within-at 0) w) (lit< tt))
@@ -24,5 +24,5 @@ returns c =
     let w = small n c.before.requires in
     simp (c.signed.ensures, plain w (lit< tt)) (plain (within-diff (within-at 0) w) (lit< tt) ∙ +ℤ_idl (neg_ℤ (pos n)))
 
-pub minus-spec : {M : Type 1} → statement M
-minus-spec = tie.close (tie.spec (λ c κs. search rules) sub-result returns)
+pub minus_spec : {M : Type 1} → statement M
+minus_spec = tie.close (tie.spec (λ c κs. search rules) sub-result returns)

@@ -22,29 +22,29 @@ zero-negated s e z = rw (e, z)
 is-negated : (s : List ℕ) → numeral s ≡ true → (from_digits 0 s ≡ 0 → ⊥) → Number (neg_ℤ (pos (from_digits 0 s))) ≡ negated s
 is-negated s e z = rw (e, ne_eqb (from_digits 0 s) 0 z)
 
-returns : tie.Need-returns
-returns c = not-numeral c.before.before.before.args.s.now (sym c.before.is-numeral.ensures ∙ not-true _ c.if1.true)
+returns : tie.Need-returns-then-not-is_numeral
+returns c = not-numeral c.before.before.before.args.s.now (sym c.before.is_numeral.ensures ∙ not-true _ c.if-not-is_numeral.true-raw)
 
-from-digits-requires : tie.Need-from-digits-requires
-from-digits-requires c κs = sym c.before.is-numeral.ensures ∙ not-false _ c.if1.false
+from-digits-requires : tie.Need-from_digits-n-requires
+from-digits-requires c κs = sym c.before.is_numeral.ensures ∙ not-false _ c.if-not-is_numeral.false-raw
 
-returns-2 : tie.Need-returns-2
+returns-2 : tie.Need-returns-then-n-eq0
 returns-2 c =
     let d = c.before in
     let n = d.before.before in
-    zero-negated n.before.before.args.s.now (sym n.is-numeral.ensures ∙ not-false _ d.before.if1.false)
-    (sym d.from-digits.ensures.0 ∙ c.if2.true)
+    zero-negated n.before.before.args.s.now (sym n.is_numeral.ensures ∙ not-false _ d.before.if-not-is_numeral.false-raw)
+    (sym d.from_digits-n.ensures.0 ∙ c.if-n-eq0.true)
 
-returns-3 : tie.Need-returns-3
+returns-3 : tie.Need-returns
 returns-3 c =
     let t = c.before in
     let d = t.before in
     let n = d.before.before in
-    let e = d.from-digits.ensures.0 in
-    ap Number (to_z-of_z w64 c.minus.result (record { sfits = c.minus.type-inv }) ∙ c.minus.ensures ∙ ap (λ (k : ℕ). neg_ℤ (pos k)) e)
-    ∙ is-negated n.before.before.args.s.now (sym n.is-numeral.ensures ∙ not-false _ d.before.if1.false) (λ z. t.if2.false (e ∙ z))
+    let e = d.from_digits-n.ensures.0 in
+    ap Number (to_z-of_z w64 c.minus.result (record { sfits = c.minus.type_inv }) ∙ c.minus.ensures ∙ ap (λ (k : ℕ). neg_ℤ (pos k)) e)
+    ∙ is-negated n.before.before.args.s.now (sym n.is_numeral.ensures ∙ not-false _ d.before.if-not-is_numeral.false-raw) (λ z. t.if-n-eq0.false (e ∙ z))
 
-pub negated-by-spec : {M : Type 1} → statement M
-negated-by-spec =
+pub negated_by_spec : {M : Type 1} → statement M
+negated_by_spec =
     tie.close
     (tie.spec (λ c κs. search rules) returns from-digits-requires returns-2 (λ c κs. search rules) returns-3)

@@ -26,22 +26,22 @@ above : (s : List ℕ) → (length s ≡ 0 → ⊥) → is_of Minus (get_or s 0 
 above [] n e = absurd (n refl)
 above (b ∷ bs) n e = rw e
 
-returns : tie.Need-returns
-returns c = none c.before.before.args.s.now c.if1.true
+returns : tie.Need-returns-then-s-eq0
+returns c = none c.before.before.args.s.now c.if-s-eq0.true
 
-returns-2 : tie.Need-returns-2
+returns-2 : tie.Need-returns-then-is_of
 returns-2 c =
     let t = c.before.before in
     let m = t.before in
-    c.negated-by.ensures ∙ below m.before.before.before.before.args.s.now m.before.before.if1.false (sym m.is-of.ensures ∙ t.if2.true)
+    c.negated_by.ensures ∙ below m.before.before.before.before.args.s.now m.before.before.if-s-eq0.false (sym m.is_of.ensures ∙ t.if-is_of.true)
 
-returns-3 : tie.Need-returns-3
+returns-3 : tie.Need-returns
 returns-3 c =
     let m = c.before in
-    above m.before.before.before.before.args.s.now m.before.before.if1.false (sym m.is-of.ensures ∙ c.if2.false)
+    above m.before.before.before.before.args.s.now m.before.before.if-s-eq0.false (sym m.is_of.ensures ∙ c.if-is_of.false)
 
-pub negative-of-spec : {M : Type 1} → statement M
-negative-of-spec =
+pub negative_of_spec : {M : Type 1} → statement M
+negative_of_spec =
     tie.close
     (tie.spec
     returns

@@ -8,20 +8,20 @@ use native.Mathlib.Omega.{arith}
 use Rattle.tabletext.proofs.walking.count.Statement.{statement}
 use Rattle.tabletext.proofs.walking.count.Tie as tie
 
-abbrev invariant-loop : tie.invariant-loop
+abbrev invariant-loop : tie.invariant-loop-at
 invariant-loop pieces counted s name below total₀ at₀ total at = Counting pieces (counts counted name) s total at
 
-abbrev decreases-loop : tie.decreases-loop
+abbrev decreases-loop : tie.decreases-loop-at
 decreases-loop pieces counted s name below total₀ at₀ total at = length s + 1 - at
 
-on : (c : tie.After-one-if invariant-loop decreases-loop) →
+on : (c : tie.After-one_if-total invariant-loop decreases-loop) →
     let cut = c.before.before.before in
     let turn = cut.before.before in
     let a = turn.before.before.before.before.args in
-    Counting a.pieces (counts a.counted a.name.now) a.s.now (turn.loop.total + c.one-if.result) (cut.piece-end.result + 1)
+    Counting a.pieces (counts a.counted a.name.now) a.s.now (turn.loop-at.total + c.one_if-total.result) (cut.piece_end-end.result + 1)
 on c =
     let cut = c.before.before.before in
-    count-on cut.before.before.loop.invariant cut.piece-end.ensures c.before.counts-piece.ensures _ c.one-if.ensures
+    count-on cut.before.before.loop-at.invariant cut.piece_end-end.ensures c.before.counts_piece.ensures _ c.one_if-total.ensures
 
 pub count_spec : {M : Type 1} → statement M
 count_spec =
@@ -35,4 +35,4 @@ count_spec =
     (λ c. omega (arith, on c))
     (λ c. omega arith) (λ c. omega arith)
     (λ c. on c)
-    (λ c. count-end c.before.loop.invariant (omega arith)))
+    (λ c. count-end c.before.loop-at.invariant (omega arith)))

@@ -9,7 +9,7 @@ use borrow.Author.Rules.{rules}
 use Rattle.tabletext.proofs.walking.piece_end.Statement.{statement}
 use Rattle.tabletext.proofs.walking.piece_end.Tie as tie
 
-end-from-requires : tie.Need-end-from-requires
+end-from-requires : tie.Need-end_from-requires
 end-from-requires c κs = let start = c.before.before in start-within start.args.pieces start.args.s.now start.args.at start.requires
 
 returns : tie.Need-returns
@@ -18,7 +18,7 @@ returns c =
     let start = mark.before.before in
     let a = start.args in
     cut_at a.pieces a.s.now a.at _ start.requires
-    (c.end-from.ensures ∙ ap (λ (class : Class). a.at + end_of class (drop a.at a.s.now)) mark.mark_of.ensures)
+    (c.end_from.ensures ∙ ap (λ (class : Class). a.at + end_of class (drop a.at a.s.now)) mark.mark_of.ensures)
 
-pub piece-end-spec : {M : Type 1} → statement M
-piece-end-spec = tie.close (tie.spec (λ c κs. search rules) end-from-requires returns)
+pub piece_end_spec : {M : Type 1} → statement M
+piece_end_spec = tie.close (tie.spec (λ c κs. search rules) end-from-requires returns)

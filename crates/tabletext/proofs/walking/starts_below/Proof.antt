@@ -6,14 +6,14 @@ use borrow.Author.Rules.{rules}
 use Rattle.tabletext.proofs.walking.starts_below.Statement.{statement}
 use Rattle.tabletext.proofs.walking.starts_below.Tie as tie
 
-returns : tie.Need-returns
-returns c = ap (λ (k : Pieces). starts_below k c.before.before.args.s.now) (sym c.enum_told.given.1)
+returns : tie.Need-returns-in-Fields
+returns c = ap (λ (k : Pieces). starts_below k c.before.args.s.now) (sym c.in-Fields.is)
 
-returns-2 : tie.Need-returns-2
-returns-2 c = ap (λ (k : Pieces). starts_below k c.before.before.args.s.now) (sym c.enum-told2.given.1)
+returns-2 : tie.Need-returns-in-Lines
+returns-2 c = ap (λ (k : Pieces). starts_below k c.before.args.s.now) (sym c.in-Lines.is)
 
-pub starts-below-spec : {M : Type 1} → statement M
-starts-below-spec =
+pub starts_below_spec : {M : Type 1} → statement M
+starts_below_spec =
     tie.close
     (tie.spec
     (λ c. search rules) (λ c. search rules) (λ c. search rules)

@@ -1,0 +1,5 @@
+use Rattle.listing.proofs.+put_number.Given as goal
+
+-- the number falls
+abbrev pub decreases-put_number : goal.decreases-put_number
+decreases-put_number l = l.n
