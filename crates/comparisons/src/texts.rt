@@ -16,14 +16,14 @@ const PAGE: usize = 512;
 // Two parts of the thirteen names, and each of the four.
 const PARTS: u64 = 6;
 
-#[derive(Drop)]
+#[derive(Clone, Copy)]
 pub struct Page {
     pub bytes: [u8; PAGE],
     pub used: usize,
 }
 
 // The sequence of the parts, which goes round by steps, and which of the last four stand, as bits.
-#[derive(Drop)]
+#[derive(Clone, Copy)]
 pub struct Sheet {
     pub start: u64,
     pub step: u64,

@@ -14,14 +14,14 @@ pub const ROOM: usize = 9;
 const MOST_OUTPUTS: u64 = 64;
 
 // A limitation: at most so much, where it is limited.
-#[derive(Drop)]
+#[derive(Clone, Copy)]
 pub struct Cap {
     pub limited: bool,
     pub most: u32,
 }
 
 // The permitted hours, where they are given: the date whose midnight opens interval 1, and the word whose bit h allows clock hour h.
-#[derive(Drop)]
+#[derive(Clone, Copy)]
 pub struct Allowed {
     pub given: bool,
     pub year: u16,
@@ -31,7 +31,7 @@ pub struct Allowed {
 }
 
 // A case in plain numbers. The price of interval i + 1 is up[i] − down.
-#[derive(Drop)]
+#[derive(Clone, Copy)]
 pub struct Case {
     pub intervals: u8,
     pub block: u8,
@@ -53,7 +53,7 @@ pub struct Case {
 }
 
 // A list that keeps the case, by its number, with what it earns and spends; whether another one ties with it.
-#[derive(Drop)]
+#[derive(Clone, Copy)]
 pub struct Found {
     pub any: bool,
     pub tied: bool,
@@ -63,7 +63,7 @@ pub struct Found {
 }
 
 // What the intervals of a list add up to, and whether the last of them is on.
-#[derive(Drop)]
+#[derive(Clone, Copy)]
 pub struct Sums {
     pub on: bool,
     pub starts: u64,
@@ -73,7 +73,7 @@ pub struct Sums {
     pub spent: u64,
 }
 
-#[derive(Drop)]
+#[derive(Clone, Copy)]
 pub enum Which {
     Starts,
     Hours,
@@ -81,7 +81,7 @@ pub enum Which {
 }
 
 // What a limitation is worth: the four outcomes (specification 9).
-#[derive(Drop)]
+#[derive(Clone, Copy)]
 pub enum Worth {
     None,
     Empty,

@@ -13,7 +13,7 @@ use crate::numbers::wide32;
 pub const UNTOUCHED: u64 = 7777;
 
 // A plan, or 9 or 12.
-#[derive(Drop)]
+#[derive(Clone, Copy)]
 pub struct Expected {
     pub planned: bool,
     pub refusal: u64,

@@ -16,7 +16,7 @@ use crate::numbers::{difference, times, wide8, wide32};
 pub const LENGTHS: u64 = 4;
 
 // The cells lent, and how many of them planning uses: none where it is refused for want of cells.
-#[derive(Drop)]
+#[derive(Clone, Copy)]
 pub struct Lent {
     pub cells: usize,
     pub used: usize,

@@ -10,7 +10,7 @@ use crate::numbers::{counted, one_if};
 
 // `dates` goes by the date of the permitted hours, `texts` by the number that reading says, `limited` by which limitations there are;
 // `starts`, `hours` and `mwh` by their outcomes in the cases planned.
-#[derive(Drop)]
+#[derive(Clone, Copy)]
 pub struct Tally {
     pub cases: u64,
     pub planned: u64,
@@ -30,7 +30,7 @@ pub struct Tally {
 }
 
 // Whether each call says the same.
-#[derive(Drop)]
+#[derive(Clone, Copy)]
 pub struct Agreed {
     pub plan: bool,
     pub value: bool,

@@ -1,11 +1,6 @@
 -- What was read is in the slice that was lent; what the bytes are, the system alone knows.
-use Rattle.std.specs.Prelude.{ℕ, ◌≤◌}
-use Rattle.plan.specs.declared.TextRead.{TextRead}
-use Rattle.plan.specs.declared.TextRead.TheVariants.{Bytes, Failed}
+use Rattle.std.specs.Prelude.{ℕ, ◌≤◌, Result, IfOk}
 
-abbrev pub read_count : TextRead → ℕ
-read_count (Bytes count) = count
-read_count Failed = 0
-
-abbrev pub Within : TextRead → ℕ → Type 0
-Within answer room = read_count answer ≤ room
+-- So many bytes, where no read failed.
+abbrev pub Within : {E : Type 0} → Result ℕ E → ℕ → Type 0
+Within answer room = IfOk answer (λ count. count ≤ room)

@@ -5,90 +5,119 @@ ghost use Rattle.std.specs.Prelude.{◌≤◌};
 
 use curves::{CurveInputs, Curved};
 use enumeration::printing::{cells, line, text};
+use std::io;
 
-pub fn try_bids() {
-    text(b"bids,from,to,cents\n");
+pub fn try_bids(rt: &impl Print) -> io::Result<()> {
+    text(rt, b"bids,from,to,cents\n")?;
     let levels = [70, 150, 300];
     let rates = [14440, 11960, 10909];
     let inputs = gas_bid();
-    try_points(b"heat rate example", inputs, &levels, &rates);
+    try_points(rt, b"heat rate example", inputs, &levels, &rates)?;
     line(
+        rt,
         b"counted up,",
         counted_up(150 * 11960 - 70 * 14440, 150 - 70),
-    );
+    )?;
     line(
+        rt,
         b"counted up,",
         counted_up(300 * 10909 - 150 * 11960, 300 - 150),
-    );
-    try_points(b"33", at_gas(10000), &[1, 4], &[10, 5]);
+    )?;
+    try_points(rt, b"33", at_gas(10000), &[1, 4], &[10, 5])?;
     try_points(
+        rt,
         b"merged",
         at_gas(1000),
         &[1, 2, 3, 4],
         &[10000, 10000, 8000, 7500],
-    );
-    try_halves(at_gas(500));
-    try_refusals(inputs, &levels, &rates);
-    text(b"\n");
+    )?;
+    try_halves(rt, at_gas(500))?;
+    try_refusals(rt, inputs, &levels, &rates)?;
+    text(rt, b"\n")
 }
 
 // 1.5 and 2.5, which are one segment then, and 3.5; the same below zero.
-fn try_halves(inputs: CurveInputs) {
-    try_points(b"halves", inputs, &[1, 2, 3, 4], &[1, 2, 3, 4]);
-    try_points(b"half below zero", inputs, &[1, 2], &[5, 1]);
-    try_points(b"half below zero", inputs, &[1, 2], &[7, 1]);
-    try_points(b"half below zero", inputs, &[1, 2], &[9, 1]);
+fn try_halves(rt: &impl Print, inputs: CurveInputs) -> io::Result<()> {
+    try_points(rt, b"halves", inputs, &[1, 2, 3, 4], &[1, 2, 3, 4])?;
+    try_points(rt, b"half below zero", inputs, &[1, 2], &[5, 1])?;
+    try_points(rt, b"half below zero", inputs, &[1, 2], &[7, 1])?;
+    try_points(rt, b"half below zero", inputs, &[1, 2], &[9, 1])
 }
 
 // A gas price too high, levels that do not rise, and a rate too few.
-fn try_refusals(inputs: CurveInputs, levels: &[u64], rates: &[u64]) {
-    try_points(b"gas 10001", at_gas(10001), levels, rates);
-    try_points(b"levels 70 70 300", inputs, &[70, 70, 300], rates);
-    try_points(b"two rates", inputs, levels, &[14440, 11960]);
+fn try_refusals(
+    rt: &impl Print,
+    inputs: CurveInputs,
+    levels: &[u64],
+    rates: &[u64],
+) -> io::Result<()> {
+    try_points(rt, b"gas 10001", at_gas(10001), levels, rates)?;
+    try_points(rt, b"levels 70 70 300", inputs, &[70, 70, 300], rates)?;
+    try_points(rt, b"two rates", inputs, levels, &[14440, 11960])
 }
 
 // A line for each segment, or of the refusal.
-fn try_points(name: &[u8], inputs: CurveInputs, levels: &[u64], rates: &[u64]) {
+fn try_points(
+    rt: &impl Print,
+    name: &[u8],
+    inputs: CurveInputs,
+    levels: &[u64],
+    rates: &[u64],
+) -> io::Result<()> {
     let mut froms = [0u64; 10];
     let mut tos = [0u64; 10];
     let mut prices = [0i64; 10];
     match curves::curve_into(inputs, levels, rates, &mut froms, &mut tos, &mut prices) {
         Curved::Refused(cause) => {
-            text(name);
-            line(b" refused,", commitment::number_of(cause));
+            text(rt, name)?;
+            line(rt, b" refused,", commitment::number_of(cause))
         }
-        Curved::Segments(count) => print_segments(name, count, &froms, &tos, &prices),
+        Curved::Segments(count) => print_segments(rt, name, count, &froms, &tos, &prices),
     }
 }
 
-fn print_segments(name: &[u8], count: usize, froms: &[u64], tos: &[u64], prices: &[i64]) {
-    let mut i = 0;
-    while i < count {
-        print_segment(name, i, froms, tos, prices);
-        i += 1;
+fn print_segments(
+    rt: &impl Print,
+    name: &[u8],
+    count: usize,
+    froms: &[u64],
+    tos: &[u64],
+    prices: &[i64],
+) -> io::Result<()> {
+    for i in 0..count {
+        print_segment(rt, name, i, froms, tos, prices)?;
     }
+    Ok(())
 }
 
 // Each place is tested, so that nothing need be known of the count.
-fn print_segment(name: &[u8], i: usize, froms: &[u64], tos: &[u64], prices: &[i64]) {
+fn print_segment(
+    rt: &impl Print,
+    name: &[u8],
+    i: usize,
+    froms: &[u64],
+    tos: &[u64],
+    prices: &[i64],
+) -> io::Result<()> {
     if i < froms.len() {
         if i < tos.len() {
             if i < prices.len() {
-                text(name);
-                cells(&[froms[i], tos[i]]);
-                print_price(prices[i]);
+                text(rt, name)?;
+                cells(rt, &[froms[i], tos[i]])?;
+                print_price(rt, prices[i])?;
             }
         }
     }
+    Ok(())
 }
 
 // With its sign, and a line end.
-fn print_price(price: i64) {
+fn print_price(rt: &impl Print, price: i64) -> io::Result<()> {
     let size = integers::magnitude(price);
     if price < 0 {
-        line(b",-", size);
+        line(rt, b",-", size)
     } else {
-        line(b",", size);
+        line(rt, b",", size)
     }
 }
 

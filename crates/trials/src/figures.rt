@@ -2,48 +2,61 @@
 
 use costs::{CostInputs, Costed};
 use enumeration::printing::{line, row, text};
+use std::io;
 
-pub fn try_figures() {
-    text(b"figures,vec,suc,mlc\n");
+pub fn try_figures(rt: &impl Print) -> io::Result<()> {
+    text(rt, b"figures,vec,suc,mlc\n")?;
     let mws = [80];
     let heats = [9790];
-    try_gas_unit(&mws, &heats);
-    try_halves();
-    try_refusals(&mws, &heats);
-    text(b"\n");
+    try_gas_unit(rt, &mws, &heats)?;
+    try_halves(rt)?;
+    try_refusals(rt, &mws, &heats)?;
+    text(rt, b"\n")
 }
 
-fn try_gas_unit(mws: &[u64], heats: &[u64]) {
+fn try_gas_unit(rt: &impl Print, mws: &[u64], heats: &[u64]) -> io::Result<()> {
     let unit = gas_unit();
-    try_inputs(b"c10", unit, mws, heats);
-    try_inputs(b"c11", with_allowances(unit), mws, heats);
-    try_inputs(b"c12", with_start(unit), mws, heats);
-    try_inputs(b"c11 at 1 mw", of_one_mw(with_allowances(unit)), mws, heats);
-    try_inputs(b"tops", tops(), &[], &[]);
+    try_inputs(rt, b"c10", unit, mws, heats)?;
+    try_inputs(rt, b"c11", with_allowances(unit), mws, heats)?;
+    try_inputs(rt, b"c12", with_start(unit), mws, heats)?;
+    try_inputs(
+        rt,
+        b"c11 at 1 mw",
+        of_one_mw(with_allowances(unit)),
+        mws,
+        heats,
+    )?;
+    try_inputs(rt, b"tops", tops(), &[], &[])
 }
 
 // A start of 10.5, minimum load of 52.5 and 53.5; then 11.5 and 52.5.
-fn try_halves() {
-    try_inputs(b"halves", at_halves(63, 21), &[], &[]);
-    try_inputs(b"halves", at_halves(65, 21), &[], &[]);
-    try_inputs(b"halves", at_halves(59, 23), &[], &[]);
+fn try_halves(rt: &impl Print) -> io::Result<()> {
+    try_inputs(rt, b"halves", at_halves(63, 21), &[], &[])?;
+    try_inputs(rt, b"halves", at_halves(65, 21), &[], &[])?;
+    try_inputs(rt, b"halves", at_halves(59, 23), &[], &[])
 }
 
 // A heat rate too high, pmin over pmax, 80 MW of segments for 90, and more heat rates than segments.
-fn try_refusals(mws: &[u64], heats: &[u64]) {
+fn try_refusals(rt: &impl Print, mws: &[u64], heats: &[u64]) -> io::Result<()> {
     let unit = gas_unit();
-    try_inputs(b"heat rate 50001", unit, mws, &[50001]);
-    try_inputs(b"pmin 16", with_pmin(unit, 16), mws, heats);
-    try_inputs(b"pmin 6", with_pmin(unit, 6), mws, heats);
-    try_inputs(b"two heat rates", unit, mws, &[9790, 9790]);
+    try_inputs(rt, b"heat rate 50001", unit, mws, &[50001])?;
+    try_inputs(rt, b"pmin 16", with_pmin(unit, 16), mws, heats)?;
+    try_inputs(rt, b"pmin 6", with_pmin(unit, 6), mws, heats)?;
+    try_inputs(rt, b"two heat rates", unit, mws, &[9790, 9790])
 }
 
 // A line of the figures, in the sequence vec, suc, mlc, or of the refusal.
-fn try_inputs(name: &[u8], inputs: CostInputs, mws: &[u64], heats: &[u64]) {
-    text(name);
+fn try_inputs(
+    rt: &impl Print,
+    name: &[u8],
+    inputs: CostInputs,
+    mws: &[u64],
+    heats: &[u64],
+) -> io::Result<()> {
+    text(rt, name)?;
     match costs::figures(inputs, mws, heats) {
-        Costed::Refused(cause) => line(b" refused,", commitment::number_of(cause)),
-        Costed::Figures(figures) => row(&[figures.vec, figures.suc, figures.mlc]),
+        Costed::Refused(cause) => line(rt, b" refused,", commitment::number_of(cause)),
+        Costed::Figures(figures) => row(rt, &[figures.vec, figures.suc, figures.mlc]),
     }
 }
 

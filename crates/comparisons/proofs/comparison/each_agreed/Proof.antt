@@ -7,14 +7,14 @@ use lib.ListN.{length}
 use Rattle.comparisons.proofs.comparison.each_agreed.Statement.{statement}
 use Rattle.comparisons.proofs.comparison.each_agreed.Tie as tie
 
-abbrev invariant-loop : tie.invariant-loop
+abbrev invariant-loop : tie.invariant-loop-number
 invariant-loop case prices expected scratch₀ unit agreed₀ number₀ scratch agreed number = (length scratch ≡ length scratch₀) × (number ≤ 4)
 
-abbrev decreases-loop : tie.decreases-loop
+abbrev decreases-loop : tie.decreases-loop-number
 decreases-loop case prices expected scratch₀ unit agreed₀ number₀ scratch agreed number = 4 - number
 
-pub each-agreed-spec : {M : Type 1} → statement M
-each-agreed-spec =
+pub each_agreed_spec : {M : Type 1} → statement M
+each_agreed_spec =
     tie.close
     (tie.spec
     invariant-loop

@@ -6,14 +6,14 @@ use Rattle.enumeration.specs.Lists.{room}
 use Rattle.comparisons.proofs.comparison.prices_of.Statement.{statement}
 use Rattle.comparisons.proofs.comparison.prices_of.Tie as tie
 
-abbrev invariant-loop : tie.invariant-loop
+abbrev invariant-loop : tie.invariant-loop-i
 invariant-loop up down prices₀ i₀ prices i = i ≤ room
 
-abbrev decreases-loop : tie.decreases-loop
+abbrev decreases-loop : tie.decreases-loop-i
 decreases-loop up down prices₀ i₀ prices i = room - i
 
-pub prices-of-spec : {M : Type 1} → statement M
-prices-of-spec =
+pub prices_of_spec : {M : Type 1} → statement M
+prices_of_spec =
     tie.close
     (tie.spec
     invariant-loop

@@ -6,14 +6,14 @@ use Rattle.enumeration.specs.Lists.{room}
 use Rattle.comparisons.proofs.comparison.same_entries.Statement.{statement}
 use Rattle.comparisons.proofs.comparison.same_entries.Tie as tie
 
-abbrev invariant-loop : tie.invariant-loop
+abbrev invariant-loop : tie.invariant-loop-i
 invariant-loop schedule wanted i₀ i = i ≤ room
 
-abbrev decreases-loop : tie.decreases-loop
+abbrev decreases-loop : tie.decreases-loop-i
 decreases-loop schedule wanted i₀ i = room - i
 
-pub same-entries-spec : {M : Type 1} → statement M
-same-entries-spec =
+pub same_entries_spec : {M : Type 1} → statement M
+same_entries_spec =
     tie.close
     (tie.spec
     invariant-loop

@@ -5,14 +5,14 @@ use borrow.Author.Rules.{rules}
 use Rattle.comparisons.proofs.comparison.same_profits.Statement.{statement}
 use Rattle.comparisons.proofs.comparison.same_profits.Tie as tie
 
-abbrev invariant-loop : tie.invariant-loop
+abbrev invariant-loop : tie.invariant-loop-number
 invariant-loop case unit prices lists number₀ number = number ≤ lists
 
-abbrev decreases-loop : tie.decreases-loop
+abbrev decreases-loop : tie.decreases-loop-number
 decreases-loop case unit prices lists number₀ number = lists - number
 
-pub same-profits-spec : {M : Type 1} → statement M
-same-profits-spec =
+pub same_profits_spec : {M : Type 1} → statement M
+same_profits_spec =
     tie.close
     (tie.spec
     invariant-loop

@@ -5,14 +5,14 @@ use Prim.Native.Nat.{◌≤◌}
 use Rattle.comparisons.proofs.texts.with_number.Statement.{statement}
 use Rattle.comparisons.proofs.texts.with_number.Tie as tie
 
-abbrev invariant-loop : tie.invariant-loop
+abbrev invariant-loop : tie.invariant-loop-power
 invariant-loop number p₀ power₀ p power = power ≤ 1000000000
 
-abbrev decreases-loop : tie.decreases-loop
+abbrev decreases-loop : tie.decreases-loop-power
 decreases-loop number p₀ power₀ p power = power
 
-pub with-number-spec : {M : Type 1} → statement M
-with-number-spec =
+pub with_number_spec : {M : Type 1} → statement M
+with_number_spec =
     tie.close
     (tie.spec
     invariant-loop

@@ -5,14 +5,14 @@ use Prim.Native.Nat.{◌≤◌, ◌-◌}
 use Rattle.comparisons.proofs.texts.with_prices.Statement.{statement}
 use Rattle.comparisons.proofs.texts.with_prices.Tie as tie
 
-abbrev invariant-loop : tie.invariant-loop
+abbrev invariant-loop : tie.invariant-loop-i
 invariant-loop n up down p₀ i₀ p i = i ≤ n
 
-abbrev decreases-loop : tie.decreases-loop
+abbrev decreases-loop : tie.decreases-loop-i
 decreases-loop n up down p₀ i₀ p i = n - i
 
-pub with-prices-spec : {M : Type 1} → statement M
-with-prices-spec =
+pub with_prices_spec : {M : Type 1} → statement M
+with_prices_spec =
     tie.close
     (tie.spec
     invariant-loop

@@ -5,14 +5,14 @@ use Prim.Native.Nat.{◌≤◌, ◌<◌, ◌-◌}
 use Rattle.comparisons.proofs.texts.with_row.Statement.{statement}
 use Rattle.comparisons.proofs.texts.with_row.Tie as tie
 
-abbrev invariant-loop : tie.invariant-loop
+abbrev invariant-loop : tie.invariant-loop-i
 invariant-loop case sheet names step part₀ p₀ i₀ part p i = (step < 6) × (part < 6) × (i ≤ 6)
 
-abbrev decreases-loop : tie.decreases-loop
+abbrev decreases-loop : tie.decreases-loop-i
 decreases-loop case sheet names step part₀ p₀ i₀ part p i = 6 - i
 
-pub with-row-spec : {M : Type 1} → statement M
-with-row-spec =
+pub with_row_spec : {M : Type 1} → statement M
+with_row_spec =
     tie.close
     (tie.spec
     invariant-loop

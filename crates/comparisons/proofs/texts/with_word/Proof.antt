@@ -6,14 +6,14 @@ use lib.ListN.{length}
 use Rattle.comparisons.proofs.texts.with_word.Statement.{statement}
 use Rattle.comparisons.proofs.texts.with_word.Tie as tie
 
-abbrev invariant-loop : tie.invariant-loop
+abbrev invariant-loop : tie.invariant-loop-i
 invariant-loop word p₀ i₀ p i = i ≤ length word
 
-abbrev decreases-loop : tie.decreases-loop
+abbrev decreases-loop : tie.decreases-loop-i
 decreases-loop word p₀ i₀ p i = length word - i
 
-pub with-word-spec : {M : Type 1} → statement M
-with-word-spec =
+pub with_word_spec : {M : Type 1} → statement M
+with_word_spec =
     tie.close
     (tie.spec
     invariant-loop

@@ -6,7 +6,7 @@ use Rattle.enumeration.proofs.enumerator.date_exists.Tie as tie
 
 returns : tie.Need-returns
 unfolding date_exists
-returns c = rw (c.before.wide8.ensures.0, c.days-of.ensures)
+returns c = rw (c.before.wide8.ensures.0, c.days_of.ensures)
 
-pub date-exists-spec : {M : Type 1} → statement M
-date-exists-spec = tie.close (tie.spec (λ c κs. search rules) (λ c κs. search rules) returns)
+pub date_exists_spec : {M : Type 1} → statement M
+date_exists_spec = tie.close (tie.spec (λ c κs. search rules) (λ c κs. search rules) returns)

@@ -4,14 +4,14 @@ use Rattle.enumeration.specs.Lists.{room}
 use Rattle.enumeration.proofs.generator.prices.Statement.{statement}
 use Rattle.enumeration.proofs.generator.prices.Tie as tie
 
-abbrev invariant-loop : tie.invariant-loop
+abbrev invariant-loop : tie.invariant-loop-i
 invariant-loop spread draws up₀ i₀ up i = i ≤ room
 
-abbrev decreases-loop : tie.decreases-loop
+abbrev decreases-loop : tie.decreases-loop-i
 decreases-loop spread draws up₀ i₀ up i = room - i
 
-pub prices-spec : {M : Type 1} → statement M
-prices-spec =
+pub prices_spec : {M : Type 1} → statement M
+prices_spec =
     tie.close
     (tie.spec invariant-loop decreases-loop (λ c. omega arith) (λ c. omega arith) (λ c. omega arith) (λ c. omega arith) (λ c κs. search rules) (λ c. omega arith)
     (λ c. omega arith) (λ c. omega arith) (λ c. omega arith) (λ c. omega arith) (λ c. search rules))

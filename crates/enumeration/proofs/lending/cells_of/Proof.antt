@@ -15,19 +15,19 @@ module _ (states starts ons blocks : ℕ) (s : states < 2 ^ 9) (a : starts ≤ r
   by_blocks =
       omega (arith, mul-le-mul {n₁ = states * (starts + 1) * (ons + 1)} {m₁ = blocks + 1} {n₂ = 51100} {m₂ = 4096} by-ons (omega arith))
 
-mul-result : tie.Need-overflow-mul-result
+mul-result : tie.Need-overflow_mul-result
 mul-result c = omega (arith, by-starts _ _ _ _ c.requires.0 c.requires.1 c.requires.2 c.requires.3)
 
-mul-result-2 : tie.Need-overflow-mul-result-2
+mul-result-2 : tie.Need-overflow_mul-result-2
 mul-result-2 c = omega (arith, by-ons _ _ _ _ c.requires.0 c.requires.1 c.requires.2 c.requires.3)
 
-mul-result-3 : tie.Need-overflow-mul-result-3
+mul-result-3 : tie.Need-overflow_mul-result-3
 mul-result-3 c = omega (arith, by_blocks _ _ _ _ c.requires.0 c.requires.1 c.requires.2 c.requires.3)
 
 returns : tie.Need-returns
 returns c = (refl, by_blocks _ _ _ _ c.requires.0 c.requires.1 c.requires.2 c.requires.3)
 
-pub cells-of-spec : {M : Type 1} → statement M
-cells-of-spec =
+pub cells_of_spec : {M : Type 1} → statement M
+cells_of_spec =
     tie.close
     (tie.spec (λ c. search rules) mul-result (λ c. search rules) mul-result-2 (λ c. search rules) mul-result-3 returns)

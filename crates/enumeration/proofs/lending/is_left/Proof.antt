@@ -7,13 +7,13 @@ use Rattle.enumeration.proofs.Fillings.{cells_at, cells-next}
 use Rattle.enumeration.proofs.lending.is_left.Statement.{statement}
 use Rattle.enumeration.proofs.lending.is_left.Tie as tie
 
-abbrev invariant-loop : tie.invariant-loop
+abbrev invariant-loop : tie.invariant-loop-i
 invariant-loop scratch used i₀ i = (i ≤ length scratch) × (take i scratch ≡ cells_from (left_at used) 0 i)
 
-abbrev decreases-loop : tie.decreases-loop
+abbrev decreases-loop : tie.decreases-loop-i
 decreases-loop scratch used i₀ i = length scratch - i
 
-module _ (c : tie.After-left-at invariant-loop decreases-loop) where
+module _ (c : tie.After-left_at invariant-loop decreases-loop) where
   abbrev scratch : List ℤ
   scratch = c.before.before.before.before.args.scratch.now
 
@@ -21,17 +21,17 @@ module _ (c : tie.After-left-at invariant-loop decreases-loop) where
   used = c.before.before.before.before.args.used
 
   abbrev i : ℕ
-  i = c.before.before.before.loop.i
+  i = c.before.before.before.loop-i.i
 
   here : i < length scratch
   here = omega arith
 
   -- the cell, and what it is to hold
   read : to_z w64 (of_z w64 (get_or scratch i (pos 0))) ≡ get_or scratch i (pos 0)
-  read = plain_fits (record { sfits = c.before.if12.given })
+  read = plain_fits (record { sfits = c.before.t7-1.given })
 
   wanted : to_z w64 (of_z w64 c.left_at.result) ≡ left_at used i
-  wanted = plain_fits (record { sfits = c.left_at.type-inv }) ∙ c.left_at.ensures
+  wanted = plain_fits (record { sfits = c.left_at.type_inv }) ∙ c.left_at.ensures
 
   -- in a scratch that is left as it should be
   placed : scratch ≡ cells_from (left_at used) 0 (length scratch) → get_or scratch i (pos 0) ≡ left_at used i
@@ -44,25 +44,25 @@ module _ (c : tie.After-left-at invariant-loop decreases-loop) where
   next e so_far =
       ap (λ (k : ℕ). take k scratch) (add-one i) ∙ rw (take-suc scratch i (pos 0) here, e, so_far) (sym (cells-next (left_at used) i))
 
-returns : tie.Need-returns invariant-loop decreases-loop
+returns : tie.Need-returns-then-scratch-i invariant-loop decreases-loop
 returns c =
     let a = c.before in
-    (λ e. absurd (false≢true e), λ e. absurd (c.if1.true (ap (of_z w64) (placed a e ∙ sym c.before.left_at.ensures))))
+    (λ e. absurd (false≢true e), λ e. absurd (c.if-scratch-i.true (ap (of_z w64) (placed a e ∙ sym c.before.left_at.ensures))))
 
-loop-again : tie.Need-loop-preserved invariant-loop decreases-loop
+loop-again : tie.Need-loop-i-preserved invariant-loop decreases-loop
 loop-again c =
     let a = c.before in
-    (omega arith, next a (sym (read a) ∙ ap (to_z w64) c.if1.false ∙ wanted a) a.before.before.before.loop.invariant.1)
+    (omega arith, next a (sym (read a) ∙ ap (to_z w64) c.if-scratch-i.false ∙ wanted a) a.before.before.before.loop-i.invariant.1)
 
-returns-2 : tie.Need-returns-2 invariant-loop decreases-loop
+returns-2 : tie.Need-returns invariant-loop decreases-loop
 returns-2 c =
-    let l = c.before.loop in
+    let l = c.before.loop-i in
     let a = c.before.before.args in
     let all : l.i ≡ length a.scratch.now = omega arith in
     (λ e. sym (take_all l.i a.scratch.now (omega arith)) ∙ l.invariant.1 ∙ ap (cells_from (left_at a.used) 0) all, λ e. refl)
 
-pub is-left-spec : {M : Type 1} → statement M
-is-left-spec =
+pub is_left_spec : {M : Type 1} → statement M
+is_left_spec =
     tie.close
     (tie.spec invariant-loop decreases-loop (λ c. (omega arith, refl)) (λ c. omega arith) (λ c. omega arith) (λ c κs. search rules) returns (λ c. omega arith)
     (λ c. omega arith) loop-again returns-2)

@@ -14,19 +14,19 @@ returns c =
     let on = down.before in
     let n = on.before.before.before in (
       rw (
-        c.Cells-of.ensures.0,
-        blocks.blocks-of.ensures.0,
-        ons.most-left2.ensures.0,
-        starts.most-left.ensures.0,
-        down.wide82.ensures.0,
+        c.cells_of.ensures.0,
+        blocks.blocks_of.ensures.0,
+        ons.most_left-2.ensures.0,
+        starts.most_left.ensures.0,
+        down.wide8-2.ensures.0,
         on.wide8.ensures.0,
-        n.intervals-of.ensures.0,
+        n.intervals_of-n.ensures.0,
       ),
-      c.Cells-of.ensures.1,
+      c.cells_of.ensures.1,
     )
 
-pub layer-of-spec : {M : Type 1} → statement M
-layer-of-spec =
+pub layer_of_spec : {M : Type 1} → statement M
+layer_of_spec =
     tie.close
     (tie.spec (λ c κs. search rules) (λ c κs. search rules) (λ c κs. search rules) (λ c. search rules) (λ c κs. search rules) (λ c κs. search rules)
     (λ c κs. search rules) (λ c κs. search rules) returns)

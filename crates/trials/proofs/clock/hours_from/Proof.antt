@@ -5,14 +5,14 @@ use Prim.Native.Nat.{◌≤◌, ◌-◌}
 use Rattle.trials.proofs.clock.hours_from.Statement.{statement}
 use Rattle.trials.proofs.clock.hours_from.Tie as tie
 
-abbrev invariant-loop : tie.invariant-loop
+abbrev invariant-loop : tie.invariant-loop-i
 invariant-loop date hours₀ i₀ hours i = i ≤ 26
 
-abbrev decreases-loop : tie.decreases-loop
+abbrev decreases-loop : tie.decreases-loop-i
 decreases-loop date hours₀ i₀ hours i = 26 - i
 
-pub hours-from-spec : {M : Type 1} → statement M
-hours-from-spec =
+pub hours_from_spec : {M : Type 1} → statement M
+hours_from_spec =
     tie.close
     (tie.spec
     invariant-loop
