@@ -5,8 +5,8 @@ ghost use Rattle.std.specs.Prelude.{◌≡◌, ◌+◌, ◌-◌, ◌^◌, ◌<�
 ghost use Rattle.months.specs.Annual.{cap_of, slot_of, place_of, quarters_at, month_at, places_at, ChainAsked, Stands, Earlier, Chained};
 ghost use Rattle.months.specs.Chaining.{MonthMade};
 
-use crate::chains;
 use crate::chains::{Month, Places};
+use crate::ends;
 use commitment::windows::Hours;
 use intervals::rows;
 use optimality::{Budgets, Figures};
@@ -94,7 +94,7 @@ fn earlier(cells: &mut [i64], y: Year, prices: &[i64], cuts: &[usize], k: usize)
     let at = places_at(y, k);
     let f = y.figures;
     let hours = y.hours;
-    chains::before_month(cells, f, prices, hours, m, at);
+    ends::before_month_cheaper(cells, f, prices, hours, m, at);
 }
 
 // From the layer of the horizon's end back to month `first`.

@@ -27,7 +27,7 @@ pub struct Places {
 }
 
 // The month in its own two layers.
-fn roll_box(cells: &mut [i64], g: Figures, prices: &[i64], hours: Hours, m: Month, at: usize)
+pub fn roll_box(cells: &mut [i64], g: Figures, prices: &[i64], hours: Hours, m: Month, at: usize)
     requires { BoxAsked g cells.old prices.now hours m.from m.to at }
     ensures { RolledAt g (between (quarters_in hours prices.now) m.from m.to) cells.old cells.new at }
 {

@@ -17,8 +17,8 @@ places-at-requires c κs =
     let after = place-fits a.y (length a.cells.now) a.prices.now a.cuts.now e.chain.year (a.k + 1) e.month in
     (omega (arith, here, e.chain.year.fits), omega (arith, after, e.chain.year.fits), omega (arith, e.month))
 
-before-month-requires : tie.Need-before_month-requires
-before-month-requires c κs =
+before-month-cheaper-requires : tie.Need-before_month_cheaper-requires
+before-month-cheaper-requires c κs =
     let placed = c.before.before in
     let month = placed.before in
     let o = month.before.before in
@@ -29,9 +29,9 @@ returns : tie.Need-returns
 returns c =
     let made = c.before in
     let placed = made.before.before.before in
-    rw (placed.before.month_at-m.ensures, placed.places_at-at.ensures) at made.before_month.ensures
+    rw (placed.before.month_at-m.ensures, placed.places_at-at.ensures) at made.before_month_cheaper.ensures
 
 pub earlier_spec : {M : Type 1} → statement M
 earlier_spec =
     tie.close
-    (tie.spec (λ c κs. search rules) places-at-requires before-month-requires (λ c. search rules) returns)
+    (tie.spec (λ c κs. search rules) places-at-requires before-month-cheaper-requires (λ c. search rules) returns)
