@@ -1,4 +1,4 @@
-// Links the proved static library, which `rt staticlib exports` writes to target/staticlib of the repository.
+// Links the proved static library, which `rt lib` in crates/exports writes to its folder out.
 
 use std::env;
 use std::path::PathBuf;
@@ -8,13 +8,13 @@ fn main() {
     let folder = match env::var("RALWINGA_LIBRARY") {
         Ok(given) => PathBuf::from(given),
         Err(_) => PathBuf::from(env::var("CARGO_MANIFEST_DIR").expect("set by cargo"))
-            .join("../target/staticlib"),
+            .join("../crates/exports/out"),
     };
     let archive = folder.join("libexports.a");
     println!("cargo:rerun-if-changed={}", archive.display());
     if !archive.exists() {
         eprintln!(
-            "{} is missing: run `rt staticlib exports` at the root of the repository first",
+            "{} is missing: run `rt lib` in the folder crates/exports first",
             archive.display()
         );
         std::process::exit(1);

@@ -1,4 +1,4 @@
-/* The proved planner for hosts in C: link libexports.a, which `rt staticlib exports` writes.
+/* The proved planner for hosts in C: link libexports.a, which `rt lib` in crates/exports writes to its folder out.
  *
  * Every call answers, whatever record, text or slices it is given. A slice is a pointer and a length in entries; the pointer is to that many
  * entries that live through the call and that no other argument shares, and is aligned and not null even where the length is 0.

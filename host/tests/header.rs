@@ -15,7 +15,7 @@ fn compiled(folder: &Folder, source: &str) -> PathBuf {
     let root = Path::new(env!("CARGO_MANIFEST_DIR"));
     let program = folder.path("host");
     let library = std::env::var("RALWINGA_LIBRARY")
-        .map_or_else(|_| root.join("../target/staticlib"), PathBuf::from);
+        .map_or_else(|_| root.join("../crates/exports/out"), PathBuf::from);
     let status = Command::new("cc")
         .args(["-std=c99", "-Wall", "-Wextra", "-Werror", "-O2", "-I"])
         .arg(root.join("include"))

@@ -144,6 +144,16 @@ fn outputs_of_the_script_that_are_closed() {
     assert!(answer.stderr.is_empty());
 }
 
+/// The crates that `crates.txt` lists.
+fn crates_listed() -> Vec<String> {
+    let crates = fs::read_to_string(repository().join("crates.txt")).expect("a list");
+    let lines = crates
+        .lines()
+        .filter(|line| !line.starts_with('#') && line.contains(':'));
+    let names = lines.filter_map(|line| line.split([' ', ':']).next());
+    names.map(str::to_string).collect()
+}
+
 /// A repository with the script and no planner, and an `rt` of our own in its folder `bin` where lines are given for it to say.
 fn unproved(name: &str, rt: Option<&str>) -> Folder {
     let folder = Folder::new(name);
@@ -158,7 +168,10 @@ fn unproved(name: &str, rt: Option<&str>) -> Folder {
         let copy = folder.file(file, bytes);
         fs::set_permissions(copy, fs::Permissions::from_mode(0o755)).expect("set");
     }
-    folder.file("crates/lists/src/lib.rt", "");
+    for name in crates_listed() {
+        let root = if name == "plan" { "main" } else { "lib" };
+        folder.file(&format!("crates/{name}/src/{root}.rt"), "");
+    }
     fs::create_dir_all(folder.path("bin")).expect("made");
     if let Some(script) = rt {
         let rt = folder.file("bin/rt", script);
@@ -200,14 +213,11 @@ fn a_toolchain_that_is_missing() {
 /// The crates that the program names, those of the toolchain left out, and itself.
 fn crates_of_the_program() -> Vec<String> {
     let crates = fs::read_to_string(repository().join("crates.txt")).expect("a list");
-    let names: Vec<&str> = crates
-        .lines()
-        .filter_map(|line| line.split(':').next())
-        .collect();
+    let names = crates_listed();
     let line = crates.lines().find_map(|line| line.strip_prefix("plan: "));
-    let needs = line.expect("a line").split(' ');
+    let needs = line.expect("a line").split(' ').map(str::to_string);
     let own = needs.filter(|name| names.contains(name));
-    own.chain(["plan"]).map(str::to_string).collect()
+    own.chain(["plan".to_string()]).collect()
 }
 
 /// The crates are counted as they are proved, up to their number.
@@ -215,17 +225,11 @@ fn crates_of_the_program() -> Vec<String> {
 fn crates_are_counted() {
     let program = fs::canonicalize(proved_program().get_program()).expect("a planner");
     let crates = crates_of_the_program();
-    let mut rt = "#!/bin/sh\n".to_string();
-    for name in &crates {
-        rt.push_str(&format!(
-            "echo 'fn {name}::f: proved'; echo 'rt: {name} proved (2 s)'\n"
-        ));
-    }
-    let built = "mkdir -p target/bin && cp";
-    rt.push_str(&format!(
-        "{built} '{}' target/bin/plan\n",
+    let rt = format!(
+        "#!/bin/sh\necho \"fn $(basename \"$PWD\")::f: proved\"; echo logic=proved\n\
+         [ $1 = lib ] || {{ mkdir -p out && cp '{}' out/plan; }}\n",
         program.display()
-    ));
+    );
     let folder = unproved("counted", Some(&rt));
     let answer = run_unproved(&folder, &["plan"]);
     let told = said(&answer);
@@ -233,10 +237,12 @@ fn crates_are_counted() {
     assert!(answer.stdout.starts_with(b"interval,mw\n"));
     assert!(told.contains("takes some minutes"), "{told}");
     let total = crates.len();
-    let seventh = format!("plan: crate 7 of {total}: {} proved (2 s)\n", crates[6]);
-    assert!(told.contains(&seventh), "{told}");
-    let last = format!("plan: crate {total} of {total}: plan proved (2 s)\n");
-    assert!(told.ends_with(&last), "{told}");
+    let counted: Vec<&str> = told.lines().skip(1).collect();
+    assert_eq!(counted.len(), total, "{told}");
+    for ((number, name), line) in (1..).zip(&crates).zip(counted) {
+        let proved = format!("plan: crate {number} of {total}: {name} proved (");
+        assert!(line.starts_with(&proved), "{told}");
+    }
     // and are not proved again
     assert_eq!(said(&run_unproved(&folder, &["plan"])), "");
 }
@@ -248,7 +254,7 @@ fn packages_on_a_new_machine() {
                case $1 in update) touch \"$lists\" ;; *) [ -e \"$lists\" ] || { echo 'E: Unable to locate package' >&2; exit 100; } ;; esac\n\
                echo \"apt-get $1\"\n";
     let cache = "#!/bin/sh\n[ ! -e \"$(dirname \"$0\")/lists\" ] || echo '  Candidate: 1.0'\n";
-    let rt = "#!/bin/sh\nmkdir -p target/staticlib && touch target/staticlib/libexports.a; echo 'rt: target/staticlib/libexports.a'\n";
+    let rt = "#!/bin/sh\nmkdir -p out && touch out/libexports.a; echo logic=proved\n";
     let folder = unproved("new-machine", Some(rt));
     for (name, script) in [
         ("apt-get", apt),
@@ -276,13 +282,13 @@ fn packages_on_a_new_machine() {
 
 #[test]
 fn a_crate_that_is_not_proved() {
-    let rt = "#!/bin/sh\necho 'rt: lists proved (1 s)'; echo 'error: not so' >&2; echo 'rt: integers NOT PROVED (exit 1, 2 s)'; exit 1\n";
+    let rt = "#!/bin/sh\n[ $(basename \"$PWD\") = lists ] || { echo 'error: not so' >&2; echo logic=not-proved; exit 1; }\n";
     let folder = unproved("not-proved", Some(rt));
     let answer = run_unproved(&folder, &["plan"]);
     let told = said(&answer);
     assert_eq!(answer.status.code(), Some(1));
     assert!(
-        told.contains("error: not so\n") && told.contains("integers NOT PROVED"),
+        told.contains("crate 1 of") && told.contains("error: not so\nlogic=not-proved\n"),
         "{told}"
     );
     assert!(

@@ -62,12 +62,12 @@ pub fn limited(words: &str, kib: u32, mut write: impl FnMut(&mut dyn Write)) -> 
     child.wait_with_output().expect("ends")
 }
 
-/// The proved program, which `rt check plan` builds.
+/// The proved program, which `rt run` in crates/plan builds.
 pub fn proved_program() -> Command {
-    let path = Path::new(env!("CARGO_MANIFEST_DIR")).join("../target/bin/plan");
+    let path = Path::new(env!("CARGO_MANIFEST_DIR")).join("../crates/plan/out/plan");
     assert!(
         path.exists(),
-        "{} is missing: run `rt check plan` first",
+        "{} is missing: run `rt run` in the folder crates/plan first",
         path.display()
     );
     Command::new(path)
