@@ -1,21 +1,18 @@
 -- The answer to the text of a case (specification 12, 14, 15): what is found of it, the lines printed, and the number and the bytes answered.
-use Rattle.std.specs.Prelude.{List, ◌∷◌, ◌++◌, ℕ, leb, ℤ, length}
+use Rattle.std.specs.Prelude.{List, ◌∷◌, ◌++◌, ℕ, leb, ℤ, length, Some, None, Ok, Err}
 use Rattle.commitment.specs.declared.Cause.TheVariants.{Scratch}
-use Rattle.commitment.specs.declared.Checked.{Checked}
-use Rattle.commitment.specs.declared.Permit.{Permit}
-use Rattle.commitment.specs.declared.Permit.TheVariants.{AnyHour, Within}
+use Rattle.commitment.specs.Types.{Checked}
+use Rattle.commitment.specs.Types.{Permit}
 use Rattle.commitment.specs.declared.UnitRecord.{UnitRecord}
 use Rattle.commitment.specs.Best.{best}
-use Rattle.commitment.specs.Causes.{number_of, Check, ◌else◌, first_of}
+use Rattle.commitment.specs.Causes.{number_of, Check, ◌else◌, first_of, answered_number}
 use Rattle.commitment.specs.Cells.{cells_needed}
 use Rattle.commitment.specs.Valuing.{outcomes_of}
 use Rattle.casefile.specs.Reading.{unit_in, prices_in, written_checks}
-use Rattle.listing.specs.declared.HourWord.{HourWord}
-use Rattle.listing.specs.declared.HourWord.TheVariants as hours
-use Rattle.listing.specs.declared.Written.{Written}
-use Rattle.listing.specs.Listing.{listing, refusal, fitted, written_by, written_number, bytes_in}
-use Rattle.planner.specs.declared.Reported.{Reported}
-use Rattle.planner.specs.declared.Reported.TheVariants.{Report, Refused}
+use Rattle.listing.specs.Types.{HourWord}
+use Rattle.listing.specs.Types.{Written}
+use Rattle.listing.specs.Listing.{listing, refusal, fitted, written_by, bytes_in}
+use Rattle.planner.specs.Types.{Reported}
 use Rattle.planner.specs.Planning.{schedule_checks, planned_part}
 use Rattle.planner.specs.Reporting.{reported_by}
 use Rattle.answers.specs.declared.Answered.{Answered}
@@ -38,21 +35,21 @@ report_for found u prices = reported_by found (best u prices) (outcomes_of u pri
 
 -- the hour word of a permit that has one
 abbrev pub word_of : Permit → HourWord
-word_of AnyHour = hours.None
-word_of (Within w) = hours.Word w.word
+word_of None = None
+word_of (Some w) = Some w.word
 
 -- a report and the outputs planned: their listing; a refusal: its line
 abbrev pub report_printed : HourWord → Reported → List ℕ → List ℕ
-report_printed word (Report report) outputs = listing outputs report.profit report.outcomes word
-report_printed word (Refused cause) outputs = refusal (number_of cause)
+report_printed word (Ok report) outputs = listing outputs report.profit report.outcomes word
+report_printed word (Err cause) outputs = refusal (number_of cause)
 
 abbrev pub printed_for : Checked → UnitRecord → List ℤ → List ℕ
 printed_for found u prices = report_printed (word_of u.permit) (report_for found u prices) (planned_part found (best u prices))
 
 -- a plan has the number of writing its listing: 0, or 7 where it does not fit; a refusal has its own, whether its line fits or not
 abbrev pub answered_by : Reported → Written → Answered
-answered_by (Report report) written = record { number = written_number written; bytes = bytes_in written }
-answered_by (Refused cause) written = record { number = number_of cause; bytes = bytes_in written }
+answered_by (Ok report) written = record { number = answered_number written; bytes = bytes_in written }
+answered_by (Err cause) written = record { number = number_of cause; bytes = bytes_in written }
 
 abbrev pub answered_for : Checked → UnitRecord → List ℤ → ℕ → Answered
 answered_for found u prices room = answered_by (report_for found u prices) (written_by (fitted (length (printed_for found u prices)) room))

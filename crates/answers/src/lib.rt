@@ -2,18 +2,14 @@
 
 #![tactic(auto)]
 
-ghost use Rattle.std.specs.Prelude.{◌≡◌, length};
+ghost use Rattle.std.specs.Prelude.{◌≡◌, length, Err};
 ghost use Rattle.commitment.specs.Causes.{number_of};
 ghost use Rattle.listing.specs.Listing.{refusal, fitted, written_by, buffer_after};
-ghost use Rattle.planner.specs.declared.Reported.TheVariants.{Refused};
 ghost use Rattle.planner.specs.Planning.{plan_checked};
 ghost use Rattle.answers.specs.Answering.{word_of, answered_by, answered_for, printed_for, answered, printed};
 ghost use Rattle.answers.specs.Sizes.{cell_room, price_room};
 
-use casefile::CaseRead;
-use commitment::{Cause, Permit, UnitRecord};
-use listing::HourWord;
-use planner::Reported;
+use commitment::{Cause, UnitRecord, Window};
 
 // What the program has room for. specs/Sizes.antt has the same.
 pub const TEXT_ROOM: usize = casetext::form::MOST_BYTES + 1;
@@ -38,8 +34,8 @@ pub fn answer(text: &[u8], out: &mut [u8]) -> Answered
 {
     let mut prices = [0i64; PRICE_ROOM];
     match casefile::read_into(text, &mut prices) {
-        CaseRead::Refused(cause) => refuse(cause, out),
-        CaseRead::Case { unit, count } => report(unit, &prices[..count], out),
+        Err(unread) => refuse(unread, out),
+        Ok(case) => report(case.unit, &prices[..case.count], out),
     }
 }
 
@@ -72,41 +68,36 @@ fn report_in(
         out.old }
 {
     match planner::report_into(unit, prices, scratch, &mut *schedule) {
-        Reported::Refused(cause) => refuse(cause, out),
-        Reported::Report(report) => {
+        Err(cause) => refuse(cause, out),
+        Ok(report) => {
             let count = report.count;
-            let profit = report.profit;
-            let outcomes = report.outcomes;
-            let permit = unit.permit;
-            let word = word_of(permit);
-            let written = listing::write_listing(&schedule[..count], profit, outcomes, word, out);
+            let plan = &schedule[..count];
+            let word = word_of(unit.permit);
+            let written = listing::write_listing(plan, report.profit, report.outcomes, word, out);
             Answered {
-                number: listing::number_in(written),
-                bytes: listing::bytes_in(written),
+                number: commitment::number_in(&written),
+                bytes: written.unwrap_or(0),
             }
         }
     }
 }
 
 // The hour word of a permit that has one.
-fn word_of(permit: Permit) -> HourWord
+fn word_of(permit: Option<Window>) -> Option<u64>
     ensures { result ≡ word_of permit }
 {
-    match permit {
-        Permit::AnyHour => HourWord::None,
-        Permit::Within(window) => HourWord::Word(window.word),
-    }
+    permit.map(|window| window.word)
 }
 
 // The line of a refusal; where it does not fit, the number alone.
 fn refuse(cause: Cause, out: &mut [u8]) -> Answered
-    ensures value { result ≡ answered_by (Refused cause) (written_by (fitted (length (refusal (number_of cause))) (length out.old))) }
+    ensures value { result ≡ answered_by (Err cause) (written_by (fitted (length (refusal (number_of cause))) (length out.old))) }
     ensures out_after { out.new ≡ buffer_after (refusal (number_of cause)) out.old }
 {
-    let number = commitment::number_of(cause);
+    let number = u64::from(cause);
     let written = listing::write_refusal(number, out);
     Answered {
         number,
-        bytes: listing::bytes_in(written),
+        bytes: written.unwrap_or(0),
     }
 }

@@ -1,4 +1,5 @@
 -- The walk over a schedule finds what the definitions of commitment say: whether it keeps the case, and its profit.
+use Rattle.std.specs.Prelude.{Err, None, Ok, Some}
 use mathlib.Core.Path.{◌≡◌, refl, sym, ap, ◌∙◌}
 use mathlib.Core.Bool.{Bool, true, false, ◌&&◌, cond, and_assoc, and-false, and-true}
 use mathlib.Core.List.{List, [], ◌∷◌}
@@ -13,7 +14,6 @@ use lib.ListN.{length, drop, get_or, drop_of_length-le}
 use Rattle.lists.proofs.Fills.{drop-next}
 use Rattle.integers.proofs.Linear.{zarith, zsum, zdiff, up_pos, dn-pos}
 use Rattle.commitment.specs.declared.Cause.TheVariants.{NotKept}
-use Rattle.commitment.specs.declared.Checked.TheVariants.{Passed}
 use Rattle.commitment.specs.declared.UnitRecord.{UnitRecord}
 use Rattle.commitment.specs.Causes.{unless}
 use Rattle.commitment.specs.Keeping.{was_on, starts_in, runs_last, spells_last, on_intervals, output_sum}
@@ -21,11 +21,9 @@ use Rattle.commitment.specs.Keeping.{keeps_starts, keeps_runs, keeps_spells, kee
 use Rattle.commitment.specs.Profit.{earned, earned_in, start_cost, profit}
 use Rattle.lists.specs.Every.{every}
 use Rattle.commitment.specs.Schedule.{is_output, is_schedule}
-use Rattle.assessment.specs.declared.Assessed.{Assessed}
-use Rattle.assessment.specs.declared.Assessed.TheVariants.{Profit, Refused}
+use Rattle.assessment.specs.Types.{Assessed}
 use Rattle.assessment.specs.declared.Walk.{Walk}
-use Rattle.assessment.specs.declared.Walked.{Walked}
-use Rattle.assessment.specs.declared.Walked.TheVariants.{Whole, Broken}
+use Rattle.assessment.specs.Types.{Walked}
 use Rattle.assessment.specs.Assessed.{assessed_by}
 use Rattle.assessment.specs.Walking.{opening_walk, may_follow, stepped, walk_from, settled, concluded}
 
@@ -82,7 +80,7 @@ in_order true r z b d true = simp and_assoc
 in_order false r z b d true = simp and-false
 
 -- two tests in a row are one of both
-told : (t k : Bool) (p : ℤ) → cond t (cond k (Profit p) (Refused NotKept)) (Refused NotKept) ≡ assessed_by (unless (t && k) NotKept Passed) p
+told : (t k : Bool) (p : ℤ) → cond t (cond k (Ok p) (Err NotKept)) (Err NotKept) ≡ assessed_by (unless (t && k) NotKept (Ok tt)) p
 told true true p = refl
 told true false p = refl
 told false k p = refl
@@ -103,26 +101,26 @@ module _ (u : UnitRecord) where
   next at prices s i = walk_from u (stepped u at (get_or prices i (pos 0)) (get_or s i 0)) (drop (i + 1) prices) (drop (i + 1) s)
 
   walk-next : (at : Walk) (prices : List ℤ) (s : List ℕ) (i : ℕ) → i < length prices → i < length s
-      → walk_from u at (drop i prices) (drop i s) ≡ cond (may_follow u at (get_or s i 0)) (next at prices s i) Broken
+      → walk_from u at (drop i prices) (drop i s) ≡ cond (may_follow u at (get_or s i 0)) (next at prices s i) None
   walk-next at prices s i h k = rw (drop-next prices i (pos 0) h, drop-next s i 0 k)
 
   pub walk-on : (at : Walk) (prices : List ℤ) (s : List ℕ) (i : ℕ) → i < length prices → i < length s → may_follow u at (get_or s i 0) ≡ true
       → next at prices s i ≡ walk_from u at (drop i prices) (drop i s)
-  walk-on at prices s i h k e = sym (walk-next at prices s i h k ∙ ap (λ (t : Bool). cond t (next at prices s i) Broken) e)
+  walk-on at prices s i h k e = sym (walk-next at prices s i h k ∙ ap (λ (t : Bool). cond t (next at prices s i) None) e)
 
   pub walk-broken : (at : Walk) (prices : List ℤ) (s : List ℕ) (i : ℕ) → i < length prices → i < length s → may_follow u at (get_or s i 0) ≡ false
-      → walk_from u at (drop i prices) (drop i s) ≡ Broken
-  walk-broken at prices s i h k e = walk-next at prices s i h k ∙ ap (λ (t : Bool). cond t (next at prices s i) Broken) e
+      → walk_from u at (drop i prices) (drop i s) ≡ None
+  walk-broken at prices s i h k e = walk-next at prices s i h k ∙ ap (λ (t : Bool). cond t (next at prices s i) None) e
 
-  pub walk-done : (at : Walk) (prices : List ℤ) (s : List ℕ) (i : ℕ) → length prices ≤ i → walk_from u at (drop i prices) (drop i s) ≡ Whole at
+  pub walk-done : (at : Walk) (prices : List ℤ) (s : List ℕ) (i : ℕ) → length prices ≤ i → walk_from u at (drop i prices) (drop i s) ≡ Some at
   walk-done at prices s i h = rw (drop_of_length-le prices {i = i} h)
 
   -- ---- what the walk concludes
 
   -- an interval that may follow where t holds, before a rest that ends in a
-  lead : (t g : Bool) (w : Walked) (a b : Assessed) → concluded u w ≡ cond g a (Refused NotKept) → a ≡ b
-      → concluded u (cond t w Broken) ≡ cond (t && g) b (Refused NotKept)
-  lead true g w a b e f = e ∙ ap (λ (x : Assessed). cond g x (Refused NotKept)) f
+  lead : (t g : Bool) (w : Walked) (a b : Assessed) → concluded u w ≡ cond g a (Err NotKept) → a ≡ b
+      → concluded u (cond t w None) ≡ cond (t && g) b (Err NotKept)
+  lead true g w a b e f = e ∙ ap (λ (x : Assessed). cond g x (Err NotKept)) f
   lead false g w a b e f = refl
 
   same-totals : {a a' b b' d d' : ℕ} {p p' : ℤ} → a ≡ a' → b ≡ b' → d ≡ d' → p ≡ p' → settled u.limits a b d p ≡ settled u.limits a' b' d' p'
@@ -132,7 +130,7 @@ module _ (u : UnitRecord) where
   walk_from_lem : (on : Bool) (spent starts running output : ℕ) (p : ℤ) (prices : List ℤ) (s : List ℕ) → length s ≡ length prices
       → concluded u (walk_from u (standing on spent starts running output p) prices s)
       ≡ cond (lasting on spent s)
-      (settled u.limits (starts + starts_in on s) (running + on_intervals s) (output + output_sum s) (p +ℤ profit_from on prices s)) (Refused NotKept)
+      (settled u.limits (starts + starts_in on s) (running + on_intervals s) (output + output_sum s) (p +ℤ profit_from on prices s)) (Err NotKept)
   unfolding may_follow stepped
   walk_from_lem on spent starts running output p [] [] e = simp (add-zero, no-gain p (start_cost u.costs))
   walk_from_lem on spent starts running output p [] (m ∷ s) e = absurd (omega arith)
@@ -175,7 +173,7 @@ module _ (u : UnitRecord) where
   -- what the walk over a whole schedule concludes is what the definitions say
   pub walk_is : (prices : List ℤ) (s : List ℕ) → length s ≡ length prices
       → concluded u (walk_from u (opening_walk u.opening) prices s)
-      ≡ assessed_by (unless (is_schedule u.generator (length prices) s && keeps_rules s) NotKept Passed) (profit u prices s)
+      ≡ assessed_by (unless (is_schedule u.generator (length prices) s && keeps_rules s) NotKept (Ok tt)) (profit u prices s)
   walk_is prices s e =
       let was = was_on u.opening in
       let totals = keeps_starts u s && keeps_hours u s && keeps_mwh u s in
@@ -188,22 +186,22 @@ module _ (u : UnitRecord) where
         eq-eqb (length s) (length prices) e,
       )
       (told (lasting was u.opening.held s) totals (profit u prices s)
-      ∙ ap (λ (t : Bool). assessed_by (unless t NotKept Passed) (profit u prices s))
+      ∙ ap (λ (t : Bool). assessed_by (unless t NotKept (Ok tt)) (profit u prices s))
       (in_order (keeps_starts u s) (keeps_runs u s) (keeps_spells u s) (keeps_hours u s) (keeps_mwh u s) (every (is_output u.generator) s)))
 
   -- where the schedule is off wherever it is shut, the rules are all
   pub hours-also : (prices : List ℤ) (s : List ℕ) → keeps_window u s ≡ true
-      → assessed_by (unless (is_schedule u.generator (length prices) s && keeps_rules s) NotKept Passed) (profit u prices s)
-      ≡ assessed_by (unless (is_schedule u.generator (length prices) s && keeps_case u s) NotKept Passed) (profit u prices s)
+      → assessed_by (unless (is_schedule u.generator (length prices) s && keeps_rules s) NotKept (Ok tt)) (profit u prices s)
+      ≡ assessed_by (unless (is_schedule u.generator (length prices) s && keeps_case u s) NotKept (Ok tt)) (profit u prices s)
   hours-also prices s off =
-      ap (λ (k : Bool). assessed_by (unless (is_schedule u.generator (length prices) s && k) NotKept Passed) (profit u prices s))
+      ap (λ (k : Bool). assessed_by (unless (is_schedule u.generator (length prices) s && k) NotKept (Ok tt)) (profit u prices s))
       (sym (ap (λ (w : Bool). keeps_rules s && w) off ∙ and-true (keeps_rules s)))
 
   -- where it is not, it is refused
   pub hours-broken : (prices : List ℤ) (s : List ℕ) → keeps_window u s ≡ false
-      → assessed_by (unless (is_schedule u.generator (length prices) s && keeps_case u s) NotKept Passed) (profit u prices s) ≡ Refused NotKept
+      → assessed_by (unless (is_schedule u.generator (length prices) s && keeps_case u s) NotKept (Ok tt)) (profit u prices s) ≡ Err NotKept
   hours-broken prices s on =
-      ap (λ (k : Bool). assessed_by (unless k NotKept Passed) (profit u prices s))
+      ap (λ (k : Bool). assessed_by (unless k NotKept (Ok tt)) (profit u prices s))
       (ap (λ (w : Bool). is_schedule u.generator (length prices) s && (keeps_rules s && w)) on
       ∙ ap (λ (k : Bool). is_schedule u.generator (length prices) s && k) (and-false (keeps_rules s))
       ∙ and-false (is_schedule u.generator (length prices) s))

@@ -1,5 +1,5 @@
 -- The walk over a schedule, interval by interval: where the unit stands and what it has spent and earned so far.
-use Rattle.std.specs.Prelude.{◌≡◌, Bool, true, false, ◌&&◌, cond, List, [], ◌∷◌, ℕ, zero, suc, ◌+◌, ◌^◌, ◌<◌, leb, ℤ, pos, nat_abs, ◌+ℤ◌, ◌-ℤ◌}
+use Rattle.std.specs.Prelude.{◌≡◌, Bool, true, false, ◌&&◌, cond, List, [], ◌∷◌, ℕ, zero, suc, ◌+◌, ◌^◌, ◌<◌, leb, ℤ, pos, nat_abs, ◌+ℤ◌, ◌-ℤ◌, Some, None, Ok, Err}
 use Rattle.commitment.specs.declared.Opening.{Opening}
 use Rattle.commitment.specs.declared.Generator.{Generator}
 use Rattle.commitment.specs.declared.Limits.{Limits}
@@ -11,11 +11,9 @@ use Rattle.commitment.specs.Bounds.{most_mwh}
 use Rattle.commitment.specs.Limits.{within, limit_kept, limit_for}
 use Rattle.commitment.specs.Profit.{earned, start_cost}
 use Rattle.commitment.specs.Schedule.{is_output}
-use Rattle.assessment.specs.declared.Assessed.{Assessed}
-use Rattle.assessment.specs.declared.Assessed.TheVariants.{Profit, Refused}
+use Rattle.assessment.specs.Types.{Assessed}
 use Rattle.assessment.specs.declared.Walk.{Walk}
-use Rattle.assessment.specs.declared.Walked.{Walked}
-use Rattle.assessment.specs.declared.Walked.TheVariants.{Whole, Broken}
+use Rattle.assessment.specs.Types.{Walked}
 
 abbrev pub opening_walk : Opening → Walk
 opening_walk o = record { on = was_on o; spent = o.held; starts = 0; running = 0; output = 0; profit = pos 0 }
@@ -51,9 +49,9 @@ stepped u at price m = advanced u at price at.on m
 
 -- to the end, or to the first interval that may not follow
 abbrev pub walk_from : UnitRecord → Walk → List ℤ → List ℕ → Walked
-walk_from u at [] s = Whole at
-walk_from u at (price ∷ prices) [] = Whole at
-walk_from u at (price ∷ prices) (m ∷ s) = cond (may_follow u at m) (walk_from u (stepped u at price m) prices s) Broken
+walk_from u at [] s = Some at
+walk_from u at (price ∷ prices) [] = Some at
+walk_from u at (price ∷ prices) (m ∷ s) = cond (may_follow u at m) (walk_from u (stepped u at price m) prices s) None
 
 -- what was spent is within the limitations; hours and MWh are counted in quarter-hours
 abbrev pub spent_within : Limits → ℕ → ℕ → ℕ → Bool
@@ -62,11 +60,11 @@ spent_within limits starts running output =
 
 -- what the limitations say of the totals
 abbrev pub settled : Limits → ℕ → ℕ → ℕ → ℤ → Assessed
-settled limits starts running output p = cond (spent_within limits starts running output) (Profit p) (Refused NotKept)
+settled limits starts running output p = cond (spent_within limits starts running output) (Ok p) (Err NotKept)
 
 abbrev pub concluded : UnitRecord → Walked → Assessed
-concluded u (Whole at) = settled u.limits at.starts at.running at.output at.profit
-concluded u Broken = Refused NotKept
+concluded u (Some at) = settled u.limits at.starts at.running at.output at.profit
+concluded u None = Err NotKept
 
 -- limitations whose counts are small numbers
 abbrev pub SmallLimits : Limits → Type 0

@@ -6,7 +6,7 @@ ghost use Rattle.commitment.specs.Keeping.{off_where_shut, keeps_window};
 ghost use Rattle.commitment.specs.Ranges.{InOrder};
 ghost use Rattle.commitment.specs.Windows.{opens, Clocked};
 
-use commitment::windows::Hours;
+use commitment::windows::Allowed;
 use commitment::{UnitRecord, windows};
 
 // A unit that may run in any hour keeps this with every schedule.
@@ -14,28 +14,24 @@ pub fn hours_kept(unit: UnitRecord, schedule: &[u64]) -> bool
     requires { InOrder unit (length schedule.now) }
     ensures { result ≡ keeps_window unit schedule.now }
 {
-    let permit = unit.permit;
-    let hours = windows::hours_of(permit);
-    off_where_shut(hours, schedule)
+    off_where_shut(windows::hours_of(unit.permit), schedule)
 }
 
 // To the first interval that is on in a shut hour.
-fn off_where_shut(hours: Hours, schedule: &[u64]) -> bool
+fn off_where_shut(hours: Option<Allowed>, schedule: &[u64]) -> bool
     requires { (length schedule.now ≤ most_intervals) × (Clocked hours) }
     ensures { result ≡ off_where_shut (opens hours) 0 schedule.now }
 {
-    let mut i = 0;
-    while i < schedule.len() {
-        if !may_have(hours, i, schedule[i]) {
+    for (i, output) in schedule.iter().enumerate() {
+        if !may_have(hours, i, *output) {
             return false;
         }
-        i += 1;
     }
     true
 }
 
 // Off, or in an interval that is open.
-fn may_have(hours: Hours, interval: usize, output: u64) -> bool
+fn may_have(hours: Option<Allowed>, interval: usize, output: u64) -> bool
     requires { (interval < most_intervals) × (Clocked hours) }
     ensures { result ≡ (eqb output 0 || opens hours interval) }
 {

@@ -7,25 +7,18 @@
 mod hours;
 mod months;
 
-ghost use Rattle.std.specs.Prelude.{◌≡◌, true, ◌^◌, ◌≤◌, ◌<◌, nat_abs, length};
-ghost use Rattle.commitment.specs.declared.Checked.TheVariants as checked;
+ghost use Rattle.std.specs.Prelude.{◌≡◌, true, ◌^◌, ◌≤◌, ◌<◌, nat_abs, length, Ok};
 ghost use Rattle.commitment.specs.Limits.{within, limit_kept};
 ghost use Rattle.commitment.specs.Profit as profits;
 ghost use Rattle.commitment.specs.Bounds.{most_mw, most_mwh, most_price};
 ghost use Rattle.commitment.specs.Ranges.{generator_kept, ranges_kept, shape_kept, prices_kept, case_checked};
 ghost use Rattle.commitment.specs.Schedule.{is_output};
-ghost use Rattle.assessment.specs.Assessed.{assessed, assessed_by, handed_in, assessed_number, assessed_profit};
+ghost use Rattle.assessment.specs.Assessed.{assessed, assessed_by, handed_in, assessed_profit};
 ghost use Rattle.assessment.specs.Walking.{opening_walk, spell_kept, may_follow, stepped, walk_from};
 ghost use Rattle.assessment.specs.Walking.{spent_within, settled, concluded, SmallLimits, Small};
 ghost use Rattle.assessment.specs.Walking as walking;
 
-use commitment::{Cause, Checked, Generator, Limit, Limits, UnitRecord};
-
-#[derive(Clone, Copy)]
-pub enum Assessed {
-    Profit(i64),
-    Refused(Cause),
-}
+use commitment::{Cause, Generator, Limits, UnitRecord};
 
 // Where the unit stands after some intervals: its state, the intervals spent in it, and what was spent and earned so far.
 #[derive(Clone, Copy)]
@@ -38,80 +31,58 @@ pub struct Walk {
     pub profit: i64,
 }
 
-#[derive(Clone, Copy)]
-pub enum Walked {
-    Whole(Walk),
-    Broken,
-}
-
 // The profit of a schedule handed in; or 3, 4, 12, 5, 7 (another length than the prices) or 10 (it does not keep the case).
-pub fn assess(unit: UnitRecord, prices: &[i64], schedule: &[u64]) -> Assessed
+pub fn assess(unit: UnitRecord, prices: &[i64], schedule: &[u64]) -> Result<i64, Cause>
     ensures { result ≡ assessed unit prices.now schedule.now }
 {
     let priced = checking::prices_kept(prices);
-    match checking::check_case(unit, priced, prices.len()) {
-        Checked::Refused(cause) => Assessed::Refused(cause),
-        Checked::Passed => of_case(unit, prices, schedule),
-    }
-}
-
-// 0, or the number of the cause.
-pub fn number_of(answer: Assessed) -> u64
-    ensures { result ≡ assessed_number answer }
-{
-    match answer {
-        Assessed::Profit(_) => 0,
-        Assessed::Refused(cause) => commitment::number_of(cause),
-    }
+    checking::check_case(unit, priced, prices.len())?;
+    of_case(unit, prices, schedule)
 }
 
 // The profit, or 0 on a refusal.
-pub fn profit_of(answer: Assessed) -> i64
+pub fn profit_of(answer: Result<i64, Cause>) -> i64
     ensures { result ≡ assessed_profit answer }
 {
-    match answer {
-        Assessed::Profit(profit) => profit,
-        Assessed::Refused(_) => 0,
-    }
+    answer.unwrap_or(0)
 }
 
 // The case is in order: the schedule's length (7) is judged before its keeping (10).
-fn of_case(unit: UnitRecord, prices: &[i64], schedule: &[u64]) -> Assessed
-    requires { case_checked unit (prices_kept prices.now) (length prices.now) ≡ checked.Passed }
+fn of_case(unit: UnitRecord, prices: &[i64], schedule: &[u64]) -> Result<i64, Cause>
+    requires { case_checked unit (prices_kept prices.now) (length prices.now) ≡ Ok tt }
     ensures { result ≡ assessed_by
         (handed_in unit prices.now schedule.now)
         (profits.profit unit prices.now schedule.now) }
 {
     if schedule.len() != prices.len() {
-        return Assessed::Refused(Cause::Length);
+        return Err(Cause::Length);
     }
     if !hours::hours_kept(unit, schedule) {
-        return Assessed::Refused(Cause::NotKept);
+        return Err(Cause::NotKept);
     }
     conclude(unit, walk_whole(unit, prices, schedule))
 }
 
-// What the limitations say of the totals.
-fn conclude(unit: UnitRecord, walked: Walked) -> Assessed
+// What the limitations say of the totals; a walk that is broken off has none.
+fn conclude(unit: UnitRecord, walked: Option<Walk>) -> Result<i64, Cause>
     requires { ranges_kept unit ≡ true }
     ensures { result ≡ concluded unit walked }
 {
     match walked {
-        Walked::Whole(at) => settle(unit, at),
-        Walked::Broken => Assessed::Refused(Cause::NotKept),
+        Some(at) => settle(unit, at),
+        None => Err(Cause::NotKept),
     }
 }
 
 // A walk to the end is refused for its totals alone.
-fn settle(unit: UnitRecord, at: Walk) -> Assessed
+fn settle(unit: UnitRecord, at: Walk) -> Result<i64, Cause>
     requires { ranges_kept unit ≡ true }
     ensures { result ≡ settled unit.limits at.starts at.running at.output at.profit }
 {
-    let limits = unit.limits;
-    if spent_within(limits, at.starts, at.running, at.output) {
-        return Assessed::Profit(at.profit);
+    if spent_within(unit.limits, at.starts, at.running, at.output) {
+        return Ok(at.profit);
     }
-    Assessed::Refused(Cause::NotKept)
+    Err(Cause::NotKept)
 }
 
 // Hours and MWh are counted in quarter-hours, so that a unit of them is 4.
@@ -119,29 +90,23 @@ fn spent_within(limits: Limits, starts: u64, running: u64, output: u64) -> bool
     requires { SmallLimits limits }
     ensures { result ≡ spent_within limits starts running output }
 {
-    let of_starts = limits.starts;
-    let of_hours = limits.hours;
-    let of_mwh = limits.mwh;
-    within_limit(1, starts, of_starts)
-        & within_limit(4, running, of_hours)
-        & within_limit(4, output, of_mwh)
+    within_limit(1, starts, limits.starts)
+        & within_limit(4, running, limits.hours)
+        & within_limit(4, output, limits.mwh)
 }
 
 // The number of a limitation in range is small, so its product with a unit of 1 or 4 fits.
-fn within_limit(worth: u64, count: u64, limit: Limit) -> bool
+fn within_limit(worth: u64, count: u64, limit: Option<u64>) -> bool
     requires worth_bound { worth ≤ 4 }
     requires limit_value { limit_kept most_mwh limit ≡ true }
     ensures { result ≡ within worth count limit }
 {
-    match limit {
-        Limit::None => true,
-        Limit::At(n) => count <= worth * n,
-    }
+    limit.is_none_or(|n| count <= worth * n)
 }
 
-// Interval by interval, to the end or to the first output that may not follow.
-fn walk_whole(unit: UnitRecord, prices: &[i64], schedule: &[u64]) -> Walked
-    requires prices_value { case_checked unit (prices_kept prices.now) (length prices.now) ≡ checked.Passed }
+// Interval by interval, to the end; or none, from the first output on that may not follow.
+fn walk_whole(unit: UnitRecord, prices: &[i64], schedule: &[u64]) -> Option<Walk>
+    requires prices_value { case_checked unit (prices_kept prices.now) (length prices.now) ≡ Ok tt }
     requires schedule_len { length schedule.now ≡ length prices.now }
     ensures { result ≡ walk_from unit (opening_walk unit.opening) prices.now schedule.now }
 {
@@ -150,12 +115,12 @@ fn walk_whole(unit: UnitRecord, prices: &[i64], schedule: &[u64]) -> Walked
     while i < prices.len() {
         let output = schedule[i];
         if !may_follow(unit, at, output) {
-            return Walked::Broken;
+            return None;
         }
         at = step(unit, at, prices[i], output);
         i += 1;
     }
-    Walked::Whole(at)
+    Some(at)
 }
 
 // The intervals held before the first one count for the unit's times.
@@ -244,10 +209,7 @@ fn rested(at: Walk, spent: u64) -> Walk
     Walk {
         on: false,
         spent,
-        starts: at.starts,
-        running: at.running,
-        output: at.output,
-        profit: at.profit,
+        ..at
     }
 }
 

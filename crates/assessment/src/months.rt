@@ -56,10 +56,8 @@ fn counts_in(was: bool, part: &[u64]) -> Counts
         running: 0,
         output: 0,
     };
-    let mut i = 0;
-    while i < part.len() {
-        at = counted(at, part[i]);
-        i += 1;
+    for output in part {
+        at = counted(at, *output);
     }
     at
 }
@@ -70,26 +68,12 @@ fn counted(at: Counts, output: u64) -> Counts
     ensures { result ≡ counting.counted at output }
 {
     if output == 0 {
-        return Counts {
-            on: false,
-            starts: at.starts,
-            running: at.running,
-            output: at.output,
-        };
+        return Counts { on: false, ..at };
     }
     Counts {
         on: true,
-        starts: at.starts + begun(at.on),
+        starts: at.starts + u64::from(!at.on),
         running: at.running + 1,
         output: at.output + output,
     }
-}
-
-fn begun(on: bool) -> u64
-    ensures { result ≡ cond on 0 1 }
-{
-    if on {
-        return 0;
-    }
-    1
 }

@@ -11,7 +11,7 @@ ghost use Rattle.commitment.specs.Ranges.{generator_kept, ranges_kept, InOrder};
 ghost use Rattle.commitment.specs.Valuing as valuing;
 ghost use Rattle.optimality.specs.Cells.{taken_of, counts_of, figures_of, opening_state, opening_cell};
 
-use commitment::{Generator, Limit, Limitation, UnitRecord};
+use commitment::{Generator, Limitation, UnitRecord};
 use optimality::{Budgets, Cell, Figures};
 
 // The figures of a case of n intervals, with the most that a cell can have left of each limitation.
@@ -22,13 +22,10 @@ pub fn figures_of(unit: UnitRecord, n: usize) -> Figures
     let g = unit.generator;
     let k = unit.costs;
     let limits = unit.limits;
-    let starts = limits.starts;
-    let hours = limits.hours;
-    let mwh = limits.mwh;
     let takes = Budgets {
-        starts: taken(starts),
-        ons: taken(hours),
-        blocks: taken(mwh),
+        starts: taken(limits.starts),
+        ons: taken(limits.hours),
+        blocks: taken(limits.mwh),
     };
     let most = counts_of(unit, n);
     Figures {
@@ -52,13 +49,10 @@ fn counts_of(unit: UnitRecord, n: usize) -> Budgets
 {
     let g = unit.generator;
     let limits = unit.limits;
-    let starts = limits.starts;
-    let hours = limits.hours;
-    let mwh = limits.mwh;
     Budgets {
-        starts: counted(g, n, Limitation::Starts, starts),
-        ons: counted(g, n, Limitation::Hours, hours),
-        blocks: counted(g, n, Limitation::Mwh, mwh),
+        starts: counted(g, n, Limitation::Starts, limits.starts),
+        ons: counted(g, n, Limitation::Hours, limits.hours),
+        blocks: counted(g, n, Limitation::Mwh, limits.mwh),
     }
 }
 
@@ -73,25 +67,20 @@ pub fn opening_cell(unit: UnitRecord, n: usize) -> Cell
 }
 
 // What one start, on-interval or block takes of its budget.
-fn taken(limit: Limit) -> usize
+fn taken(limit: Option<u64>) -> usize
     ensures { result ≡ taken_of limit }
 {
-    match limit {
-        Limit::None => 0,
-        Limit::At(_) => 1,
-    }
+    usize::from(limit.is_some())
 }
 
 // What a limitation comes to over n intervals, no further than they can use.
-fn counted(g: Generator, n: usize, which: Limitation, limit: Limit) -> usize
+fn counted(g: Generator, n: usize, which: Limitation, limit: Option<u64>) -> usize
     requires { (generator_kept g ≡ true) × (n ≤ most_intervals) × (limit_kept most_mwh limit ≡ true) }
     ensures { result ≡ cells.counted g n which limit }
 {
     match limit {
-        Limit::None => 0,
-        Limit::At(figure) => {
-            integers::smaller(in_counts(g, which, figure), most_counts(g, which, n))
-        }
+        None => 0,
+        Some(figure) => integers::smaller(in_counts(g, which, figure), most_counts(g, which, n)),
     }
 }
 

@@ -1,4 +1,5 @@
 -- The first cause of a text, by the tests in order; and what the answer and the slice then are.
+use Rattle.std.specs.Prelude.{Err, Ok}
 use mathlib.Core.Path.{◌≡◌, refl, sym, ap, ap₂, ◌∙◌}
 use mathlib.Core.Bool.{true, false}
 use mathlib.Core.List.{List, ◌++◌}
@@ -11,14 +12,13 @@ use lib.Seq.{take-append_seam}
 use borrow.Author.Tests.{le-leb, lt-leb, leb-true}
 use Rattle.commitment.specs.declared.Cause.{Cause}
 use Rattle.commitment.specs.declared.Cause.TheVariants.{Form, Name, Length}
-use Rattle.commitment.specs.declared.Checked.{Checked}
-use Rattle.commitment.specs.declared.Checked.TheVariants.{Passed, Refused}
+use Rattle.commitment.specs.Types.{Checked}
 use Rattle.commitment.specs.declared.UnitRecord.{UnitRecord}
 use Rattle.commitment.specs.Ranges.{prices_kept, case_checked}
 use Rattle.commitment.specs.Causes.{first_of}
 use Rattle.commitment.proofs.Causes.{checked_then, in-turn, unless-passed, then-passed}
-use Rattle.casefile.specs.declared.CaseRead.{CaseRead}
-use Rattle.casefile.specs.declared.CaseRead.TheVariants as answer
+use Rattle.casefile.specs.declared.Case.{Case}
+use Rattle.casefile.specs.Types.{CaseRead, case_with}
 use Rattle.casefile.specs.Answers.{read_by, prices_left, front_part, case_found, read_case, read_prices, read_part, read_count}
 use Rattle.casetext.specs.Form.{form_kept, names_kept}
 use Rattle.casefile.specs.Reading.{unit_in, prices_in, case_in, written_checks, room_checks, written_checked, text_checked}
@@ -29,11 +29,11 @@ module _ (text : List ℕ) where
   abbrev held : Checked → CaseRead
   held k = read_by k (unit_in text) (length (prices_in text))
 
-  pub wrong-form : form_kept text ≡ false → answer.Refused Form ≡ case_found text
+  pub wrong-form : form_kept text ≡ false → Err Form ≡ case_found text
   unfolding case_found written_checked
   wrong-form f = rw f
 
-  pub wrong-names : form_kept text ≡ true → names_kept text ≡ false → answer.Refused Name ≡ case_found text
+  pub wrong-names : form_kept text ≡ true → names_kept text ≡ false → Err Name ≡ case_found text
   unfolding case_found written_checked
   wrong-names f n = rw (f, n)
 
@@ -50,9 +50,9 @@ module _ (text : List ℕ) where
   pub record WrittenPassed : Type 0 where
     pub form : form_kept text ≡ true
     pub names : names_kept text ≡ true
-    pub checks : case_checked (unit_in text) (prices_kept (prices_in text)) (length (prices_in text)) ≡ Passed
+    pub checks : case_checked (unit_in text) (prices_kept (prices_in text)) (length (prices_in text)) ≡ Ok tt
 
-  pub written-passed : written_checked text ≡ Passed → WrittenPassed
+  pub written-passed : written_checked text ≡ Ok tt → WrittenPassed
   unfolding written_checked case_in
   written-passed e =
       let f = unless-passed (form_kept text) Form _ e in
@@ -72,23 +72,25 @@ module _ (text : List ℕ) (room : ℕ) where
     pub written : WrittenPassed text
     pub fits : length (prices_in text) ≤ room
 
-  pub text-passed : text_checked text room ≡ Passed → TextPassed
+  pub text-passed : text_checked text room ≡ Ok tt → TextPassed
   text-passed e =
       let t = then-passed (written_checked text) (first_of (room_checks text room)) (sym text_in-turn ∙ e) in
-      let r = unless-passed (leb (length (prices_in text)) room) Length Passed t.1 in
+      let r = unless-passed (leb (length (prices_in text)) room) Length (Ok tt) t.1 in
       record { written = written-passed text t.0; fits = leb-true (length (prices_in text)) room r.0 }
 
 -- ---- the answer and the slice
 
 -- a case is read where no cause was found
-pub read-case : (k : Checked) (u v : UnitRecord) (m n : ℕ) → read_by k u m ≡ answer.Case v n → (k ≡ Passed) × (u ≡ v) × (m ≡ n)
-read-case Passed u v m n e = (refl, (cc), (cc))
-read-case (Refused cause) u v m n e = let z : ◌≡◌ {A = ℕ} 0 1 = cc in absurd (omega arith)
+pub read-case : (k : Checked) (u v : UnitRecord) (m n : ℕ) → read_by k u m ≡ case_with v n → (k ≡ Ok tt) × (u ≡ v) × (m ≡ n)
+read-case (Ok _) u v m n e =
+    let same : ◌≡◌ {A = Case} (record { unit = u; count = m }) (record { unit = v; count = n }) = cc in
+    (refl, ap (λ (case : Case). case.unit) same, ap (λ (case : Case). case.count) same)
+read-case (Err cause) u v m n e = let z : ◌≡◌ {A = ℕ} 0 1 = cc in absurd (omega arith)
 
 -- and a refusal has the cause that was
-pub read-refused : (k : Checked) (u : UnitRecord) (m : ℕ) (cause : Cause) → read_by k u m ≡ answer.Refused cause → k ≡ Refused cause
-read-refused Passed u m cause e = let z : ◌≡◌ {A = ℕ} 0 1 = cc in absurd (omega arith)
-read-refused (Refused given) u m cause e = let same : given ≡ cause = cc in ap Refused same
+pub read-refused : (k : Checked) (u : UnitRecord) (m : ℕ) (cause : Cause) → read_by k u m ≡ Err cause → k ≡ Err cause
+read-refused (Ok _) u m cause e = let z : ◌≡◌ {A = ℕ} 0 1 = cc in absurd (omega arith)
+read-refused (Err given) u m cause e = let same : given ≡ cause = cc in ap Err same
 
 module _ (text : List ℕ) (slice : List ℤ) where
   abbrev pub Answer : CaseRead → List ℤ → Type 0
@@ -99,38 +101,38 @@ module _ (text : List ℕ) (slice : List ℤ) where
   unfolding read_case read_prices
   answer-by k e = (rw e, rw e)
 
-  pub answer-read : text_checked text (length slice) ≡ Passed
-      → Answer (answer.Case (unit_in text) (length (prices_in text))) (prices_in text ++ drop (length (prices_in text)) slice)
-  answer-read e = answer-by Passed e
+  pub answer-read : text_checked text (length slice) ≡ Ok tt
+      → Answer (case_with (unit_in text) (length (prices_in text))) (prices_in text ++ drop (length (prices_in text)) slice)
+  answer-read e = answer-by (Ok tt) e
 
   -- by what was found of the text, and the room
   then-room : {k : Checked} → written_checked text ≡ k → text_checked text (length slice) ≡ checked_then k (first_of (room_checks text (length slice)))
   then-room e = text_in-turn text (length slice) ∙ ap (λ (k : Checked). checked_then k (first_of (room_checks text (length slice)))) e
 
-  pub found-refused : (cause : Cause) → case_found text ≡ answer.Refused cause → Answer (answer.Refused cause) slice
+  pub found-refused : (cause : Cause) → case_found text ≡ Err cause → Answer (Err cause) slice
   unfolding case_found
-  found-refused cause e = answer-by (Refused cause) (then-room (read-refused (written_checked text) (unit_in text) (length (prices_in text)) cause e))
+  found-refused cause e = answer-by (Err cause) (then-room (read-refused (written_checked text) (unit_in text) (length (prices_in text)) cause e))
 
   pub record Held (unit : UnitRecord) (count : ℕ) : Type 0 where
     pub unit-is : unit ≡ unit_in text
     pub count-is : count ≡ length (prices_in text)
     pub checked-is : text_checked text (length slice) ≡ first_of (room_checks text (length slice))
 
-  pub held-is : (unit : UnitRecord) (count : ℕ) → case_found text ≡ answer.Case unit count → Held unit count
+  pub held-is : (unit : UnitRecord) (count : ℕ) → case_found text ≡ case_with unit count → Held unit count
   unfolding case_found
   held-is unit count e =
       let k = read-case (written_checked text) (unit_in text) unit (length (prices_in text)) count e in
       record { unit-is = sym k.1; count-is = sym k.2; checked-is = then-room k.0 }
 
   module _ {unit : UnitRecord} {count : ℕ} (h : Held unit count) where
-    pub no_room : length slice < count → Answer (answer.Refused Length) slice
+    pub no_room : length slice < count → Answer (Err Length) slice
     no_room short =
-        answer-by (Refused Length) (h.checked-is ∙ simp (lt-leb (length (prices_in text)) (length slice) (omega (arith, h.count-is))))
+        answer-by (Err Length) (h.checked-is ∙ simp (lt-leb (length (prices_in text)) (length slice) (omega (arith, h.count-is))))
 
-    pub room : count ≤ length slice → Answer (answer.Case unit count) (prices_in text ++ drop (length (prices_in text)) slice)
+    pub room : count ≤ length slice → Answer (case_with unit count) (prices_in text ++ drop (length (prices_in text)) slice)
     room fits =
-        let e = answer-by Passed (h.checked-is ∙ simp (le-leb (length (prices_in text)) (length slice) (omega (arith, h.count-is)))) in
-        (ap₂ answer.Case h.unit-is h.count-is ∙ e.0, e.1)
+        let e = answer-by (Ok tt) (h.checked-is ∙ simp (le-leb (length (prices_in text)) (length slice) (omega (arith, h.count-is)))) in
+        (ap₂ case_with h.unit-is h.count-is ∙ e.0, e.1)
 
 -- ---- the front part of the slice
 
@@ -140,13 +142,13 @@ module _ (text : List ℕ) (slice : List ℤ) where
   part-fits = go (text_checked text (length slice)) refl
     where
       go : (k : Checked) → text_checked text (length slice) ≡ k → read_count (read_by k (unit_in text) (length (prices_in text))) ≤ length slice
-      go Passed e = (text-passed text (length slice) e).fits
-      go (Refused cause) e = omega arith
+      go (Ok _) e = (text-passed text (length slice) e).fits
+      go (Err cause) e = omega arith
 
   pub part-read : take (read_count (read_case text (length slice))) (read_prices text slice) ≡ read_part text (length slice)
   unfolding read_case read_prices read_part
   part-read = go (text_checked text (length slice))
     where
       go : (k : Checked) → take (read_count (read_by k (unit_in text) (length (prices_in text)))) (prices_left k (prices_in text) slice) ≡ front_part k (prices_in text)
-      go Passed = take-append_seam (prices_in text) (drop (length (prices_in text)) slice)
-      go (Refused cause) = refl
+      go (Ok _) = take-append_seam (prices_in text) (drop (length (prices_in text)) slice)
+      go (Err cause) = refl

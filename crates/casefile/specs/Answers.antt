@@ -1,29 +1,24 @@
 -- What reading answers and what it leaves in the price slice (specification 14, 15).
-use Rattle.std.specs.Prelude.{List, [], ◌++◌, ℕ, ℤ, length, drop}
-use Rattle.commitment.specs.declared.Checked.{Checked}
-use Rattle.commitment.specs.declared.Checked.TheVariants.{Passed}
-use Rattle.commitment.specs.declared.Checked.TheVariants as checked
-use Rattle.commitment.specs.declared.Limit.TheVariants.{None}
-use Rattle.commitment.specs.declared.Permit.TheVariants.{AnyHour}
+use Rattle.std.specs.Prelude.{List, [], ◌++◌, ℕ, ℤ, length, drop, None, Ok, Err}
+use Rattle.commitment.specs.Types.{Checked}
 use Rattle.commitment.specs.declared.UnitRecord.{UnitRecord}
 use Rattle.commitment.specs.Causes.{number_of}
-use Rattle.casefile.specs.declared.CaseRead.{CaseRead}
-use Rattle.casefile.specs.declared.CaseRead.TheVariants.{Case, Refused}
+use Rattle.casefile.specs.Types.{CaseRead, case_with}
 use Rattle.casefile.specs.Reading.{unit_in, prices_in, written_checked, text_checked}
 
 abbrev pub read_by : Checked → UnitRecord → ℕ → CaseRead
-read_by Passed unit count = Case unit count
-read_by (checked.Refused cause) unit count = Refused cause
+read_by (Ok _) unit count = case_with unit count
+read_by (Err cause) unit count = Err cause
 
 -- the prices in front, and what lies past them as it was; on a refusal all as it was
 abbrev pub prices_left : Checked → List ℤ → List ℤ → List ℤ
-prices_left Passed prices slice = prices ++ drop (length prices) slice
-prices_left (checked.Refused cause) prices slice = slice
+prices_left (Ok _) prices slice = prices ++ drop (length prices) slice
+prices_left (Err cause) prices slice = slice
 
 -- on a refusal the part that comes back is empty
 abbrev pub front_part : Checked → List ℤ → List ℤ
-front_part Passed prices = prices
-front_part (checked.Refused cause) prices = []
+front_part (Ok _) prices = prices
+front_part (Err cause) prices = []
 
 -- what a text holds, before anything is written
 unfoldable pub case_found : List ℕ → CaseRead
@@ -48,17 +43,13 @@ no_unit =
       costs = record { vec = 0; mlc = 0; suc = 0 };
       opening = record { was = 0; held = 0 };
       limits = record { starts = None; hours = None; mwh = None };
-      permit = AnyHour;
+      permit = None;
     }
 
-abbrev pub read_number : CaseRead → ℕ
-read_number (Case unit count) = 0
-read_number (Refused cause) = number_of cause
-
 abbrev pub read_count : CaseRead → ℕ
-read_count (Case unit count) = count
-read_count (Refused cause) = 0
+read_count (Ok case) = case.count
+read_count (Err cause) = 0
 
 abbrev pub read_unit : CaseRead → UnitRecord
-read_unit (Case unit count) = unit
-read_unit (Refused cause) = no_unit
+read_unit (Ok case) = case.unit
+read_unit (Err cause) = no_unit

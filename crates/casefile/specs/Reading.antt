@@ -1,16 +1,14 @@
 -- The case that a text holds (specification 11): the record, the prices, and the first cause for which the text is refused.
-use Rattle.std.specs.Prelude.{cond, List, [], ◌∷◌, ◌++◌, map, ℕ, leb, ℤ, pos, negsuc, length}
+use Rattle.std.specs.Prelude.{cond, List, [], ◌∷◌, ◌++◌, map, ℕ, leb, ℤ, pos, negsuc, length, Some, None}
 use Rattle.calendar.specs.declared.Date.{Date}
 use Rattle.commitment.specs.declared.Cause.TheVariants.{Form, Name, Length}
-use Rattle.commitment.specs.declared.Checked.{Checked}
-use Rattle.commitment.specs.declared.Limit.{Limit}
-use Rattle.commitment.specs.declared.Limit.TheVariants.{None, At}
+use Rattle.commitment.specs.Types.{Checked}
+use Rattle.commitment.specs.Types.{Limit}
 use Rattle.commitment.specs.declared.Generator.{Generator}
 use Rattle.commitment.specs.declared.Costs.{Costs}
 use Rattle.commitment.specs.declared.Opening.{Opening}
 use Rattle.commitment.specs.declared.Limits.{Limits}
-use Rattle.commitment.specs.declared.Permit.{Permit}
-use Rattle.commitment.specs.declared.Permit.TheVariants.{AnyHour, Within}
+use Rattle.commitment.specs.Types.{Permit}
 use Rattle.commitment.specs.declared.Window.{Window}
 use Rattle.commitment.specs.declared.UnitRecord.{UnitRecord}
 use Rattle.commitment.specs.Causes.{Check, ◌else◌, first_of}
@@ -39,9 +37,9 @@ whole_of WordNone = beyond
 whole_of (Number z) = natural_of z
 
 abbrev pub limit_of : Value → Limit
-limit_of Malformed = At beyond
+limit_of Malformed = Some beyond
 limit_of WordNone = None
-limit_of (Number z) = At (natural_of z)
+limit_of (Number z) = Some (natural_of z)
 
 abbrev pub cents_of : Value → ℤ
 cents_of Malformed = pos beyond
@@ -76,7 +74,7 @@ module _ (names values : List (List ℕ)) where
 
   -- the four names stand together or not at all, so that one of them tells
   abbrev pub permit_of : Permit
-  permit_of = cond (standing 1 names year_name) (Within window_of) AnyHour
+  permit_of = cond (standing 1 names year_name) (Some window_of) None
 
   abbrev pub unit_of : UnitRecord
   unit_of = record { generator = generator_of; costs = costs_of; opening = opening_of; limits = limits_of; permit = permit_of }

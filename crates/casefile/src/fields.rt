@@ -8,27 +8,31 @@ ghost use Rattle.casefile.specs.Reading.{date_of, window_of, permit_of, unit_of,
 
 use calendar::Date;
 use casetext::parts;
-use commitment::{Costs, Generator, Limit, Limits, Opening, Permit, UnitRecord, Window};
-use tabletext::{Value, tables};
+use commitment::{Costs, Generator, Limits, Opening, UnitRecord, Window};
+use tabletext::Value;
+use tabletext::tables::{self, Row};
 
 // The record stands in the first two lines, names and values.
+#[tactic(auto, unfolding(crate::specs::Reading::unit_in))]
 pub fn unit_in(text: &[u8]) -> UnitRecord
     ensures { result ≡ unit_in text.now }
 {
-    let head = parts::line(text, 0);
-    let row = parts::line(text, 1);
-    unit_under(head, row)
+    let row = Row {
+        names: parts::line(text, 0),
+        values: parts::line(text, 1),
+    };
+    unit_under(&row)
 }
 
 // Group by group: each is read by a function of its own.
-fn unit_under(names: &[u8], values: &[u8]) -> UnitRecord
-    ensures { result ≡ unit_of (fields_of names.now) (fields_of values.now) }
+fn unit_under(row: &Row) -> UnitRecord
+    ensures { result ≡ unit_of (fields_of row.now.names.now) (fields_of row.now.values.now) }
 {
-    let generator = generator_under(names, values);
-    let costs = costs_under(names, values);
-    let opening = opening_under(names, values);
-    let limits = limits_under(names, values);
-    let permit = permit_under(names, values);
+    let generator = generator_under(row);
+    let costs = costs_under(row);
+    let opening = opening_under(row);
+    let limits = limits_under(row);
+    let permit = permit_under(row);
     UnitRecord {
         generator,
         costs,
@@ -38,85 +42,85 @@ fn unit_under(names: &[u8], values: &[u8]) -> UnitRecord
     }
 }
 
-fn generator_under(names: &[u8], values: &[u8]) -> Generator
-    ensures { result ≡ generator_of (fields_of names.now) (fields_of values.now) }
+fn generator_under(row: &Row) -> Generator
+    ensures { result ≡ generator_of (fields_of row.now.names.now) (fields_of row.now.values.now) }
 {
     Generator {
-        block: whole_under(b"block", names, values),
-        pmin: whole_under(b"pmin", names, values),
-        pmax: whole_under(b"pmax", names, values),
-        mot: whole_under(b"mot", names, values),
-        mdt: whole_under(b"mdt", names, values),
+        block: whole_under(b"block", row),
+        pmin: whole_under(b"pmin", row),
+        pmax: whole_under(b"pmax", row),
+        mot: whole_under(b"mot", row),
+        mdt: whole_under(b"mdt", row),
     }
 }
 
-fn costs_under(names: &[u8], values: &[u8]) -> Costs
-    ensures { result ≡ costs_of (fields_of names.now) (fields_of values.now) }
+fn costs_under(row: &Row) -> Costs
+    ensures { result ≡ costs_of (fields_of row.now.names.now) (fields_of row.now.values.now) }
 {
     Costs {
-        vec: whole_under(b"vec", names, values),
-        mlc: whole_under(b"mlc", names, values),
-        suc: whole_under(b"suc", names, values),
+        vec: whole_under(b"vec", row),
+        mlc: whole_under(b"mlc", row),
+        suc: whole_under(b"suc", row),
     }
 }
 
-fn opening_under(names: &[u8], values: &[u8]) -> Opening
-    ensures { result ≡ opening_of (fields_of names.now) (fields_of values.now) }
+fn opening_under(row: &Row) -> Opening
+    ensures { result ≡ opening_of (fields_of row.now.names.now) (fields_of row.now.values.now) }
 {
     Opening {
-        was: whole_under(b"was", names, values),
-        held: whole_under(b"held", names, values),
+        was: whole_under(b"was", row),
+        held: whole_under(b"held", row),
     }
 }
 
-fn limits_under(names: &[u8], values: &[u8]) -> Limits
-    ensures { result ≡ limits_of (fields_of names.now) (fields_of values.now) }
+fn limits_under(row: &Row) -> Limits
+    ensures { result ≡ limits_of (fields_of row.now.names.now) (fields_of row.now.values.now) }
 {
     Limits {
-        starts: limit_under(b"starts", names, values),
-        hours: limit_under(b"hours", names, values),
-        mwh: limit_under(b"mwh", names, values),
+        starts: limit_under(b"starts", row),
+        hours: limit_under(b"hours", row),
+        mwh: limit_under(b"mwh", row),
     }
 }
 
 // The four names stand together or not at all, so that one of them tells.
-fn permit_under(names: &[u8], values: &[u8]) -> Permit
-    ensures { result ≡ permit_of (fields_of names.now) (fields_of values.now) }
+fn permit_under(row: &Row) -> Option<Window>
+    ensures { result ≡ permit_of (fields_of row.now.names.now) (fields_of row.now.values.now) }
 {
-    if tables::stands(1, names, b"year") {
-        return Permit::Within(window_under(names, values));
+    if tables::stands(1, row.names, b"year") {
+        return Some(window_under(row));
     }
-    Permit::AnyHour
+    None
 }
 
-fn window_under(names: &[u8], values: &[u8]) -> Window
-    ensures { result ≡ window_of (fields_of names.now) (fields_of values.now) }
+fn window_under(row: &Row) -> Window
+    ensures { result ≡ window_of (fields_of row.now.names.now) (fields_of row.now.values.now) }
 {
-    let date = date_under(names, values);
-    let word = whole_under(b"window", names, values);
+    let date = date_under(row);
+    let word = whole_under(b"window", row);
     Window { date, word }
 }
 
-fn date_under(names: &[u8], values: &[u8]) -> Date
-    ensures { result ≡ date_of (fields_of names.now) (fields_of values.now) }
+fn date_under(row: &Row) -> Date
+    ensures { result ≡ date_of (fields_of row.now.names.now) (fields_of row.now.values.now) }
 {
     Date {
-        year: whole_under(b"year", names, values),
-        month: whole_under(b"month", names, values),
-        day: whole_under(b"day", names, values),
+        year: whole_under(b"year", row),
+        month: whole_under(b"month", row),
+        day: whole_under(b"day", row),
     }
 }
 
-fn whole_under(name: &[u8], names: &[u8], values: &[u8]) -> u64
-    ensures { result ≡ whole_of (under name.now (fields_of names.now) (fields_of values.now)) }
+fn whole_under(name: &[u8], row: &Row) -> u64
+    ensures { result ≡ whole_of (under name.now (fields_of row.now.names.now) (fields_of row.now.values.now)) }
 {
-    whole(tables::value_under(name, names, values))
+    whole(row.value_under(name))
 }
 
-fn limit_under(name: &[u8], names: &[u8], values: &[u8]) -> Limit
-    ensures { result ≡ limit_of (under name.now (fields_of names.now) (fields_of values.now)) }
+fn limit_under(name: &[u8], row: &Row) -> Option<u64>
+    ensures { result ≡ limit_of (under name.now (fields_of row.now.names.now) (fields_of row.now.values.now)) }
 {
-    limit(tables::value_under(name, names, values))
+    limit(row.value_under(name))
 }
 
 // Above every range: what a field cannot hold.
@@ -127,20 +131,19 @@ fn whole(value: Value) -> u64
     ensures { result ≡ whole_of value }
 {
     match value {
-        Value::Malformed => BEYOND,
-        Value::WordNone => BEYOND,
+        Value::Malformed | Value::WordNone => BEYOND,
         Value::Number(n) => natural(n),
     }
 }
 
 // Only a limitation may be `none`.
-fn limit(value: Value) -> Limit
+fn limit(value: Value) -> Option<u64>
     ensures { result ≡ limit_of value }
 {
     match value {
-        Value::Malformed => Limit::At(BEYOND),
-        Value::WordNone => Limit::None,
-        Value::Number(n) => Limit::At(natural(n)),
+        Value::Malformed => Some(BEYOND),
+        Value::WordNone => None,
+        Value::Number(n) => Some(natural(n)),
     }
 }
 
@@ -148,8 +151,5 @@ fn limit(value: Value) -> Limit
 fn natural(n: i64) -> u64
     ensures { result ≡ natural_of n }
 {
-    if n < 0 {
-        return BEYOND;
-    }
-    n as u64
+    u64::try_from(n).unwrap_or(BEYOND)
 }

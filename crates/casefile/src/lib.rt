@@ -3,99 +3,85 @@
 #![tactic(auto)]
 
 ghost use Rattle.std.specs.Prelude.{◌≡◌, length};
-ghost use Rattle.casefile.specs.Answers.{read_by, case_found, read_case, read_prices, read_part, read_number, read_count, read_unit, no_unit};
+ghost use Rattle.commitment.specs.Causes.{answered_number};
+ghost use Rattle.casefile.specs.Answers.{read_by, case_found, read_case, read_prices, read_part, read_count, read_unit, no_unit};
 ghost use Rattle.casefile.specs.Reading.{unit_in, prices_in, case_in};
 
-use commitment::{Cause, Checked, Costs, Generator, Limit, Limits, Opening, Permit, UnitRecord};
+use commitment::{Cause, Costs, Generator, Limits, Opening, UnitRecord};
 
+// The record of a text, and how many prices it has.
 #[derive(Clone, Copy)]
-pub enum CaseRead {
-    Case { unit: UnitRecord, count: usize },
-    Refused(Cause),
+pub struct Case {
+    pub unit: UnitRecord,
+    pub count: usize,
 }
 
 // What a text holds, before anything is written: its record and how many prices; or 1, 2, 3, 4, 12 or 5.
-pub fn found(text: &[u8]) -> CaseRead
+pub fn found(text: &[u8]) -> Result<Case, Cause>
     ensures { result ≡ case_found text.now }
 {
     if !casetext::form::form_kept(text) {
-        return CaseRead::Refused(Cause::Form);
+        return Err(Cause::Form);
     }
     if !casetext::naming::names_kept(text) {
-        return CaseRead::Refused(Cause::Name);
+        return Err(Cause::Name);
     }
     found_under(text)
 }
 
 // The causes of the case that stands under the names.
-fn found_under(text: &[u8]) -> CaseRead
+fn found_under(text: &[u8]) -> Result<Case, Cause>
     ensures { result ≡ read_by (case_in text.now) (unit_in text.now) (length (prices_in text.now)) }
 {
     let unit = fields::unit_in(text);
     let priced = pricing::prices_kept(text);
     let count = pricing::prices_counted(text);
-    match checking::check_case(unit, priced, count) {
-        Checked::Refused(cause) => CaseRead::Refused(cause),
-        Checked::Passed => CaseRead::Case { unit, count },
-    }
+    checking::check_case(unit, priced, count)?;
+    Ok(Case { unit, count })
 }
 
 // The case of a text, its prices into the front of the slice; or what was found, or 7, and the slice is as it was.
-pub fn read_into(text: &[u8], prices: &mut [i64]) -> CaseRead
+pub fn read_into(text: &[u8], prices: &mut [i64]) -> Result<Case, Cause>
     ensures { (result ≡ read_case text.now (length prices.old))
         × (prices.new ≡ read_prices text.now prices.old) }
 {
-    match found(text) {
-        CaseRead::Refused(cause) => CaseRead::Refused(cause),
-        CaseRead::Case { unit, count } => {
-            if prices.len() < count {
-                return CaseRead::Refused(Cause::Length);
-            }
-            pricing::store(text, prices);
-            CaseRead::Case { unit, count }
-        }
+    let case = found(text)?;
+    if prices.len() < case.count {
+        return Err(Cause::Length);
     }
+    pricing::store(text, prices);
+    Ok(case)
 }
 
 // The same, with the filled front part of the caller's own slice as the answer, empty on a refusal, and the number beside it.
 pub fn read<'a>(text: &[u8], prices: &'a mut [i64], number: &mut u64) -> &'a mut [i64]
     ensures { (result.now ≡ read_part text.now (length prices.old))
         × ((result.ref_ptr ≡ prices.entry.ref_ptr)
-        × (number.new ≡ read_number (read_case text.now (length prices.old)))) }
+        × (number.new ≡ answered_number (read_case text.now (length prices.old)))) }
 {
     let answer = read_into(text, &mut *prices);
-    *number = number_of(answer);
+    *number = commitment::number_in(&answer);
     let count = count_of(answer);
     &mut prices[..count]
 }
 
-// 0, or the number of the cause.
-pub fn number_of(answer: CaseRead) -> u64
-    ensures { result ≡ read_number answer }
-{
-    match answer {
-        CaseRead::Case { unit: _, count: _ } => 0,
-        CaseRead::Refused(cause) => commitment::number_of(cause),
-    }
-}
-
 // How many prices were read, 0 on a refusal.
-pub fn count_of(answer: CaseRead) -> usize
+pub fn count_of(answer: Result<Case, Cause>) -> usize
     ensures { result ≡ read_count answer }
 {
     match answer {
-        CaseRead::Case { unit: _, count } => count,
-        CaseRead::Refused(_) => 0,
+        Ok(case) => case.count,
+        Err(_) => 0,
     }
 }
 
 // The record, on a refusal one of zeros with no limitation.
-pub fn unit_of(answer: CaseRead) -> UnitRecord
+pub fn unit_of(answer: Result<Case, Cause>) -> UnitRecord
     ensures { result ≡ read_unit answer }
 {
     match answer {
-        CaseRead::Case { unit, count: _ } => unit,
-        CaseRead::Refused(_) => no_unit(),
+        Ok(case) => case.unit,
+        Err(_) => no_unit(),
     }
 }
 
@@ -118,11 +104,11 @@ fn no_unit() -> UnitRecord
         },
         opening: Opening { was: 0, held: 0 },
         limits: Limits {
-            starts: Limit::None,
-            hours: Limit::None,
-            mwh: Limit::None,
+            starts: None,
+            hours: None,
+            mwh: None,
         },
-        permit: Permit::AnyHour,
+        permit: None,
     }
 }
 

@@ -8,7 +8,9 @@ ghost use Rattle.casefile.specs.Reading.{cents_of, price_of, prices_in};
 
 use crate::fields;
 use casetext::parts;
-use tabletext::{Pieces, Value, tables, walking};
+use tabletext::Value;
+use tabletext::tables::Row;
+use tabletext::walking::Lines;
 
 // The prices stand from the fifth line on, under the name in the fourth.
 pub fn prices_kept(text: &[u8]) -> bool
@@ -20,6 +22,7 @@ pub fn prices_kept(text: &[u8]) -> bool
 }
 
 // A line to a price, in range or not.
+#[tactic(auto, unfolding(crate::specs::Reading::prices_in))]
 pub fn prices_counted(text: &[u8]) -> usize
     ensures { result ≡ length (prices_in text.now) }
 {
@@ -28,6 +31,7 @@ pub fn prices_counted(text: &[u8]) -> usize
 }
 
 // The prices into the front of the slice, which they fit.
+#[tactic(auto, unfolding(crate::specs::Reading::prices_in))]
 pub fn store(text: &[u8], prices: &mut [i64])
     requires { length (prices_in text.now) ≤ length prices.old }
     ensures { prices.new ≡ prices_in text.now ++ drop (length (prices_in text.now)) prices.old }
@@ -41,15 +45,7 @@ pub fn store(text: &[u8], prices: &mut [i64])
 fn rows_kept(head: &[u8], rows: &[u8]) -> bool
     ensures { result ≡ every (λ row. price_kept (price_of head.now row)) (lines_of rows.now) }
 {
-    let mut at = 0;
-    while at < rows.len() {
-        let end = walking::piece_end(Pieces::Lines, rows, at);
-        if !row_kept(head, &rows[at..end]) {
-            return false;
-        }
-        at = end + 1;
-    }
-    true
+    Lines::of(rows).all(|row| checking::price_kept(price_of(head, row)))
 }
 
 // A line to a price, at its number.
@@ -59,28 +55,20 @@ fn store_rows(head: &[u8], rows: &[u8], prices: &mut [i64])
         ≡ map (price_of head.now) (lines_of rows.now)
         ++ drop (length (lines_of rows.now)) prices.old }
 {
-    let mut at = 0;
-    let mut count = 0;
-    while at < rows.len() {
-        let end = walking::piece_end(Pieces::Lines, rows, at);
-        prices[count] = price_of(head, &rows[at..end]);
-        count += 1;
-        at = end + 1;
+    for (at, row) in Lines::of(rows).enumerate() {
+        prices[at] = price_of(head, row);
     }
-}
-
-// A price is judged before any is stored.
-fn row_kept(head: &[u8], row: &[u8]) -> bool
-    ensures { result ≡ price_kept (price_of head.now row.now) }
-{
-    checking::price_kept(price_of(head, row))
 }
 
 // The value under the name, of one line.
 fn price_of(head: &[u8], row: &[u8]) -> i64
     ensures { result ≡ price_of head.now row.now }
 {
-    cents(tables::value_under(b"price", head, row))
+    let priced = Row {
+        names: head,
+        values: row,
+    };
+    cents(priced.value_under(b"price"))
 }
 
 // Above every range, as of a field.
@@ -91,8 +79,7 @@ fn cents(value: Value) -> i64
     ensures { result ≡ cents_of value }
 {
     match value {
-        Value::Malformed => BEYOND,
-        Value::WordNone => BEYOND,
+        Value::Malformed | Value::WordNone => BEYOND,
         Value::Number(n) => n,
     }
 }

@@ -1,2 +1,2 @@
--- Laws: Starts, where the lines of a text start.
-pub mod Starts
+-- Laws: Ends, the last byte of a text and a line of it.
+pub mod Ends

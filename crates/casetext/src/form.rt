@@ -10,36 +10,31 @@ use tabletext::{Class, bytes, tables};
 pub const MOST_BYTES: usize = 12288;
 
 // A text that is too long is not walked.
+#[tactic(auto, unfolding(crate::specs::Form::form_kept))]
 pub fn form_kept(text: &[u8]) -> bool
     ensures { result ≡ form_kept text.now }
 {
-    if MOST_BYTES < text.len() {
-        return false;
-    }
-    is_closed(text)
-        & (4 <= parts::lines_in(text))
-        & third_empty(text)
-        & unit_formed(text)
-        & prices_formed(text)
+    text.len() <= MOST_BYTES
+        && is_closed(text)
+        && 4 <= parts::lines_in(text)
+        && third_empty(text)
+        && unit_formed(text)
+        && prices_formed(text)
 }
 
 // The last line ends as every line does.
 fn is_closed(text: &[u8]) -> bool
     ensures { result ≡ last_closed text.now }
 {
-    let n = text.len();
-    if n == 0 {
-        return false;
-    }
-    bytes::is_of(Class::LineEnd, text[n - 1])
+    text.last()
+        .is_some_and(|b| bytes::is_of(Class::LineEnd, *b))
 }
 
 // The line between the two tables.
 fn third_empty(text: &[u8]) -> bool
     ensures { result ≡ is_empty (empty_line text.now) }
 {
-    let third = parts::line(text, 2);
-    third.len() == 0
+    parts::line(text, 2).is_empty()
 }
 
 // The first table has one line of values.
@@ -48,7 +43,7 @@ fn unit_formed(text: &[u8]) -> bool
 {
     let head = parts::line(text, 0);
     let row = parts::line(text, 1);
-    tables::name_line(head) & tables::value_line(tables::fields_in(head), row)
+    tables::name_line(head) && tables::value_line(tables::fields_in(head), row)
 }
 
 // The second table has any number of lines: that there are prices is another cause.
@@ -57,5 +52,5 @@ fn prices_formed(text: &[u8]) -> bool
 {
     let head = parts::line(text, 3);
     let rows = parts::lines_from(text, 4);
-    tables::name_line(head) & tables::value_lines(tables::fields_in(head), rows)
+    tables::name_line(head) && tables::value_lines(tables::fields_in(head), rows)
 }

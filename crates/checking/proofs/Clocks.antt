@@ -1,4 +1,5 @@
 -- The clock hours of intervals: what it says that a date and an interval pass, and the hours of intervals one after the other.
+use Rattle.std.specs.Prelude.{Ok}
 use mathlib.Core.Path.{◌≡◌, refl, sym, ap, ap₂, ◌∙◌}
 use mathlib.Core.Bool.{true, ◌&&◌}
 use mathlib.Core.List.{List, [], ◌∷◌, ◌++◌}
@@ -14,24 +15,22 @@ use Rattle.calendar.specs.declared.Date.{Date}
 use Rattle.calendar.specs.Dates.{exists, last_year, Within}
 use Rattle.calendar.specs.Clock.{clock_after}
 use Rattle.commitment.specs.declared.Cause.TheVariants as cause
-use Rattle.commitment.specs.declared.Checked.{Checked}
-use Rattle.commitment.specs.declared.Checked.TheVariants.{Passed}
+use Rattle.commitment.specs.Types.{Checked}
 use Rattle.commitment.specs.Bounds.{most_horizon}
 use Rattle.commitment.specs.Ranges.{date_ranged, horizon_kept}
 use Rattle.commitment.proofs.Causes.{unless-passed}
 use Rattle.commitment.proofs.Clocks.{date-within}
 use Rattle.checking.specs.Clock.{clock_checked, clock_by, clock_hour, each_from, hours_by, hours_left}
-use Rattle.checking.specs.declared.clock.ClockRead.TheVariants.{Hour}
 
 pub record ClockKept (d : Date) (interval : ℕ) : Type 0 where
   pub dated : Within last_year d
   pub least : 1 ≤ interval
   pub most : interval ≤ most_horizon
 
-pub clock-kept : (d : Date) (interval : ℕ) → clock_checked d interval ≡ Passed → ClockKept d interval
+pub clock-kept : (d : Date) (interval : ℕ) → clock_checked d interval ≡ Ok tt → ClockKept d interval
 clock-kept d interval e =
     let a = unless-passed (date_ranged d && horizon_kept interval) cause.Range _ e in
-    let b = unless-passed (exists d) cause.Date Passed a.1 in
+    let b = unless-passed (exists d) cause.Date (Ok tt) a.1 in
     let r = both (date_ranged d) (horizon_kept interval) a.0 in
     let h = both (leb 1 interval) (leb interval most_horizon) r.1 in
     record {
@@ -72,18 +71,18 @@ each_at hour first (suc count) (suc i) h =
 
 -- ---- an entry of the slice is what the call for its interval answers
 
-pub entry-is : (d : Date) (was : List ℕ) (i : ℕ) → clock_checked d (length was) ≡ Passed → i < length was
-    → clock_hour d (suc i) ≡ Hour (get_or (hours_left d was) i 0)
+pub entry-is : (d : Date) (was : List ℕ) (i : ℕ) → clock_checked d (length was) ≡ Ok tt → i < length was
+    → clock_hour d (suc i) ≡ Ok (get_or (hours_left d was) i 0)
 unfolding hours_left
 entry-is d was i passed h =
     let a = unless-passed (date_ranged d && horizon_kept (length was)) cause.Range _ passed in
-    let b = unless-passed (exists d) cause.Date Passed a.1 in
+    let b = unless-passed (exists d) cause.Date (Ok tt) a.1 in
     let r = both (date_ranged d) (horizon_kept (length was)) a.0 in
     let most = (clock-kept d (length was) passed).most in
     let within : horizon_kept (suc i) ≡ true = simp (le-leb 1 (suc i) (omega arith), le-leb (suc i) most_horizon (omega arith)) in
-    let so : clock_checked d (suc i) ≡ Passed = simp (r.0, within, b.0) in
+    let so : clock_checked d (suc i) ≡ Ok tt = simp (r.0, within, b.0) in
     let at : suc i - 1 ≡ 0 + i = omega arith in
     let hour : ℕ → ℕ = λ i. clock_after d (i / 4) in
     ap (λ (k : Checked). clock_by k (hour (suc i - 1))) so
-    ∙ ap (λ (n : ℕ). Hour (hour n)) at
-    ∙ sym (ap (λ (k : Checked). Hour (get_or (hours_by k d was) i 0)) passed ∙ ap Hour (each_at hour 0 (length was) i h))
+    ∙ ap (λ (n : ℕ). Ok (hour n)) at
+    ∙ sym (ap (λ (k : Checked). Ok (get_or (hours_by k d was) i 0)) passed ∙ ap Ok (each_at hour 0 (length was) i h))

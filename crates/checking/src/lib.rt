@@ -13,8 +13,7 @@ ghost use Rattle.commitment.specs.Ranges.{ranges_kept, date_ranged, window_kept,
 
 use calendar::{Date, FIRST_YEAR, PAST_WORDS};
 use commitment::{
-    Cause, Checked, Costs, Generator, Limit, Limits, MOST_BLOCKS, MOST_MW, Opening, Permit,
-    UnitRecord, Window,
+    Cause, Costs, Generator, Limits, MOST_BLOCKS, MOST_MW, Opening, UnitRecord, Window,
 };
 
 // The ends of the ranges that a case alone has. specs/Bounds.antt of `commitment` has the same.
@@ -50,45 +49,44 @@ const MOST_HORIZON: usize = 2976;
 
 // The first cause for which a case of so many intervals cannot be worked on, whatever call it is for: 3, 4, 12 or 5. The prices are judged by whoever
 // has them, in a slice or in a text. Each test is a function with the rest behind it.
-pub fn check_case(unit: UnitRecord, priced: bool, intervals: usize) -> Checked
+pub fn check_case(unit: UnitRecord, priced: bool, intervals: usize) -> Result<(), Cause>
     ensures { result ≡ case_checked unit priced intervals }
 {
     if !(ranges_kept(unit) & priced) {
-        return Checked::Refused(Cause::Range);
+        return Err(Cause::Range);
     }
     check_shape(unit, intervals)
 }
 
 // Figures in their ranges can be multiplied.
-fn check_shape(unit: UnitRecord, intervals: usize) -> Checked
+fn check_shape(unit: UnitRecord, intervals: usize) -> Result<(), Cause>
     requires { ranges_kept unit ≡ true }
     ensures { result ≡ first_of (shape_checks unit intervals) }
 {
     if !shape_kept(unit) {
-        return Checked::Refused(Cause::Shape);
+        return Err(Cause::Shape);
     }
     check_date(unit, intervals)
 }
 
 // A date in its ranges may still be none of its month.
-fn check_date(unit: UnitRecord, intervals: usize) -> Checked
+fn check_date(unit: UnitRecord, intervals: usize) -> Result<(), Cause>
     ensures { result ≡ first_of (date_checks unit intervals) }
 {
-    let permit = unit.permit;
-    if !date_kept(permit) {
-        return Checked::Refused(Cause::Date);
+    if !date_kept(unit.permit) {
+        return Err(Cause::Date);
     }
     check_horizon(intervals)
 }
 
 // The last cause.
-fn check_horizon(intervals: usize) -> Checked
+fn check_horizon(intervals: usize) -> Result<(), Cause>
     ensures { result ≡ first_of (horizon_checks intervals) }
 {
     if !horizon_kept(intervals) {
-        return Checked::Refused(Cause::Horizon);
+        return Err(Cause::Horizon);
     }
-    Checked::Passed
+    Ok(())
 }
 
 // There are prices, and not too many.
@@ -102,12 +100,11 @@ fn horizon_kept(intervals: usize) -> bool
 fn ranges_kept(unit: UnitRecord) -> bool
     ensures { result ≡ ranges_kept unit }
 {
-    let g = unit.generator;
-    let o = unit.opening;
-    let k = unit.costs;
-    let limits = unit.limits;
-    let permit = unit.permit;
-    generator_kept(g) & opening_kept(o) & costs_kept(k) & limits_kept(limits) & permit_kept(permit)
+    generator_kept(unit.generator)
+        & opening_kept(unit.opening)
+        & costs_kept(unit.costs)
+        & limits_kept(unit.limits)
+        & permit_kept(unit.permit)
 }
 
 fn generator_kept(g: Generator) -> bool
@@ -140,37 +137,29 @@ fn costs_kept(k: Costs) -> bool
 fn limits_kept(limits: Limits) -> bool
     ensures { result ≡ limits_kept limits }
 {
-    let starts = limits.starts;
-    let hours = limits.hours;
-    let mwh = limits.mwh;
-    limit_kept(MOST_STARTS, starts) & limit_kept(MOST_HOURS, hours) & limit_kept(MOST_MWH, mwh)
+    limit_kept(MOST_STARTS, limits.starts)
+        & limit_kept(MOST_HOURS, limits.hours)
+        & limit_kept(MOST_MWH, limits.mwh)
 }
 
 // What is not limited has no range.
-fn limit_kept(most: u64, limit: Limit) -> bool
+fn limit_kept(most: u64, limit: Option<u64>) -> bool
     ensures { result ≡ limit_kept most limit }
 {
-    match limit {
-        Limit::None => true,
-        Limit::At(n) => n <= most,
-    }
+    limit.is_none_or(|n| n <= most)
 }
 
 // A permit for any hour has no figures to judge.
-fn permit_kept(permit: Permit) -> bool
+fn permit_kept(permit: Option<Window>) -> bool
     ensures { result ≡ permit_kept permit }
 {
-    match permit {
-        Permit::AnyHour => true,
-        Permit::Within(window) => window_kept(window),
-    }
+    permit.is_none_or(window_kept)
 }
 
 fn window_kept(window: Window) -> bool
     ensures { result ≡ window_kept window }
 {
-    let date = window.date;
-    date_ranged(date) & (window.word <= MOST_WORD)
+    date_ranged(window.date) & (window.word <= MOST_WORD)
 }
 
 // Each figure by itself: whether the date exists is another cause.
@@ -186,21 +175,10 @@ fn date_ranged(date: Date) -> bool
 }
 
 // A date that is given exists.
-fn date_kept(permit: Permit) -> bool
+fn date_kept(permit: Option<Window>) -> bool
     ensures { result ≡ date_kept permit }
 {
-    match permit {
-        Permit::AnyHour => true,
-        Permit::Within(window) => date_exists(window),
-    }
-}
-
-// A function of its own, since its window comes out of a match.
-fn date_exists(window: Window) -> bool
-    ensures { result ≡ exists window.date }
-{
-    let date = window.date;
-    calendar::exists(date)
+    permit.is_none_or(|window| calendar::exists(window.date))
 }
 
 // The product is taken of sizes in range, where it cannot overflow.
@@ -216,14 +194,7 @@ fn shape_kept(unit: UnitRecord) -> bool
 pub fn prices_kept(prices: &[i64]) -> bool
     ensures { result ≡ prices_kept prices.now }
 {
-    let mut i = 0;
-    while i < prices.len() {
-        if !price_kept(prices[i]) {
-            return false;
-        }
-        i += 1;
-    }
-    true
+    prices.iter().all(|price| price_kept(*price))
 }
 
 // Also for the prices of a text, which are judged line by line.

@@ -1,4 +1,5 @@
 -- What it says of a case that its check passes.
+use Rattle.std.specs.Prelude.{Ok}
 use mathlib.Core.Path.{◌≡◌}
 use mathlib.Core.Bool.{Bool, true, ◌&&◌}
 use mathlib.Core.List.{List}
@@ -14,7 +15,6 @@ use Rattle.lists.proofs.Every.{every-at}
 use Rattle.integers.proofs.Order.{le_z-true}
 use Rattle.integers.proofs.Ranges.{within_signed, abs-within}
 use Rattle.commitment.specs.declared.Cause.TheVariants.{Range, Shape, Date, Horizon}
-use Rattle.commitment.specs.declared.Checked.TheVariants.{Passed}
 use Rattle.commitment.specs.declared.UnitRecord.{UnitRecord}
 use Rattle.commitment.specs.Bounds.{most_price, most_horizon}
 use Rattle.commitment.specs.Ranges.{ranges_kept, shape_kept, date_kept, price_kept, prices_kept, horizon_kept, case_checked, InOrder, Priced}
@@ -34,13 +34,13 @@ pub record Passing (u : UnitRecord) (priced : Bool) (n : ℕ) : Type 0 where
   pub prices : priced ≡ true
   pub some : 1 ≤ n
 
-pub passing : (u : UnitRecord) (priced : Bool) (n : ℕ) → case_checked u priced n ≡ Passed → Passing u priced n
+pub passing : (u : UnitRecord) (priced : Bool) (n : ℕ) → case_checked u priced n ≡ Ok tt → Passing u priced n
 unfolding case_checked
 passing u priced n e =
     let a = unless-passed (ranges_kept u && priced) Range _ e in
     let b = unless-passed (shape_kept u.generator) Shape _ a.1 in
     let d = unless-passed (date_kept u.permit) Date _ b.1 in
-    let c = unless-passed (horizon_kept n) Horizon Passed d.1 in
+    let c = unless-passed (horizon_kept n) Horizon (Ok tt) d.1 in
     let r = both (ranges_kept u) priced a.0 in
     let h = both (leb 1 n) (leb n most_horizon) c.0 in
     let checked = leb-true n most_horizon h.1 in

@@ -1,4 +1,5 @@
 -- What the checks of a record say, group by group, as orders of numbers.
+use Rattle.std.specs.Prelude.{None, Some}
 use mathlib.Core.Path.{◌≡◌, refl}
 use mathlib.Core.Bool.{true}
 use Prim.Native.Nat.{ℕ, ◌*◌, ◌≤◌}
@@ -7,16 +8,14 @@ use borrow.Author.Tests.{leb-true, le-leb}
 use lib.Dec.{leb}
 use Rattle.lists.proofs.Conjunctions.{both}
 use Rattle.calendar.specs.Dates.{first_year, last_year}
-use Rattle.commitment.specs.declared.Limit.{Limit}
-use Rattle.commitment.specs.declared.Limit.TheVariants.{None, At}
+use Rattle.commitment.specs.Types.{Limit}
 use Rattle.commitment.specs.declared.Generator.{Generator}
 use Rattle.commitment.specs.declared.Costs.{Costs}
 use Rattle.commitment.specs.declared.Opening.{Opening}
 use Rattle.commitment.specs.declared.Limits.{Limits}
 use Rattle.commitment.specs.declared.Limitation.{Limitation}
 use Rattle.commitment.specs.declared.Limitation.TheVariants.{Starts, Hours, Mwh}
-use Rattle.commitment.specs.declared.Permit.{Permit}
-use Rattle.commitment.specs.declared.Permit.TheVariants.{Within}
+use Rattle.commitment.specs.Types.{Permit}
 use Rattle.commitment.specs.declared.Window.{Window}
 use Rattle.commitment.specs.declared.UnitRecord.{UnitRecord}
 use Rattle.commitment.specs.Bounds.{most_mw, most_blocks, most_time, most_held, most_vec, most_mlc, most_suc, most_starts, most_hours, most_mwh}
@@ -129,7 +128,7 @@ window-ranges w e =
 -- a figure in a range is in a wider one
 pub limit-wider : (a b : ℕ) (l : Limit) → a ≤ b → limit_kept a l ≡ true → limit_kept b l ≡ true
 limit-wider a b None h e = refl
-limit-wider a b (At n) h e = le-leb n b (omega (arith, leb-true n a e))
+limit-wider a b (Some n) h e = le-leb n b (omega (arith, leb-true n a e))
 
 -- the group alone
 pub generator-kept : (u : UnitRecord) → ranges_kept u ≡ true → generator_kept u.generator ≡ true

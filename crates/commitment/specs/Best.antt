@@ -1,8 +1,7 @@
 -- The best plan, by trying every list of outputs in order; of several that earn the most the first wins (specification 8).
-use Rattle.std.specs.Prelude.{cond, List, [], ◌∷◌, ◌++◌, map, ℕ, zero, suc, ◌+◌, ◌-◌, ◌*◌, ℤ, length}
+use Rattle.std.specs.Prelude.{cond, List, [], ◌∷◌, ◌++◌, map, ℕ, zero, suc, ◌+◌, ◌-◌, ◌*◌, ℤ, length, Some, None}
 use Rattle.std.specs.Int.Signed.{lt_z}
-use Rattle.commitment.specs.declared.BestProfit.{BestProfit}
-use Rattle.commitment.specs.declared.BestProfit.TheVariants.{Nothing, Profit}
+use Rattle.commitment.specs.Types.{BestProfit}
 use Rattle.commitment.specs.declared.Generator.{Generator}
 use Rattle.commitment.specs.declared.UnitRecord.{UnitRecord}
 use Rattle.commitment.specs.Keeping.{keeps_case}
@@ -15,8 +14,8 @@ pub data Plan : Type 0 where
 
 -- what it earns alone
 abbrev pub profit_of : Plan → BestProfit
-profit_of nothing = Nothing
-profit_of (plan s p) = Profit p
+profit_of nothing = None
+profit_of (plan s p) = Some p
 
 -- its schedule alone
 abbrev pub schedule_of : Plan → List ℕ

@@ -1,7 +1,6 @@
 -- The cells of scratch that a case of n intervals needs, and those that it uses (specification 14).
-use Rattle.std.specs.Prelude.{cond, ℕ, ◌+◌, ◌*◌, ◌/◌, min, leb}
-use Rattle.commitment.specs.declared.Limit.{Limit}
-use Rattle.commitment.specs.declared.Limit.TheVariants.{None, At}
+use Rattle.std.specs.Prelude.{cond, ℕ, ◌+◌, ◌*◌, ◌/◌, min, leb, Some, None}
+use Rattle.commitment.specs.Types.{Limit}
 use Rattle.commitment.specs.declared.Limitation.{Limitation}
 use Rattle.commitment.specs.declared.Limitation.TheVariants.{Starts, Hours, Mwh}
 use Rattle.commitment.specs.declared.Generator.{Generator}
@@ -24,7 +23,7 @@ most_counts g Mwh n = n * g.pmax
 
 abbrev pub counted : Generator → ℕ → Limitation → Limit → ℕ
 counted g n which None = 0
-counted g n which (At figure) = min (in_counts g which figure) (most_counts g which n)
+counted g n which (Some figure) = min (in_counts g which figure) (most_counts g which n)
 
 abbrev pub count_for : UnitRecord → ℕ → Limitation → ℕ
 count_for u n which = counted u.generator n which (limit_for u.limits which)

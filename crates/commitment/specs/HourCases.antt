@@ -1,14 +1,11 @@
 -- The worked cases of permitted hours (specification 22): C1's unit and prices with a date and an hour word, and the intervals that a word opens
 -- from the two Sundays on; one table, and one statement over it.
-use Rattle.std.specs.Prelude.{◌≡◌, refl, false, cond, List, [], ◌∷◌, map, ℕ, zero, suc, pos}
+use Rattle.std.specs.Prelude.{◌≡◌, refl, false, cond, List, [], ◌∷◌, map, ℕ, zero, suc, pos, Some, None}
 use Rattle.calendar.specs.Dates.{date, is_sunday, day_number}
 use Rattle.calendar.specs.Clock.{hours_of, clock_after}
-use Rattle.commitment.specs.declared.Limit.TheVariants.{At}
-use Rattle.commitment.specs.declared.Limit.TheVariants as limit
 use Rattle.commitment.specs.declared.Limitation.TheVariants.{Starts, Hours}
 use Rattle.commitment.specs.declared.Outcome.TheVariants.{Gap}
-use Rattle.commitment.specs.declared.Permit.{Permit}
-use Rattle.commitment.specs.declared.Permit.TheVariants.{Within}
+use Rattle.commitment.specs.Types.{Permit}
 use Rattle.commitment.specs.declared.UnitRecord.{UnitRecord}
 use Rattle.commitment.specs.Keeping.{opens_in, keeps_case}
 use Rattle.commitment.specs.Ranges.{date_kept}
@@ -17,15 +14,15 @@ use Rattle.commitment.specs.Valuing.{outcome_of}
 use Rattle.commitment.specs.PlanCases.{c1-under, c1-prices, schedule, profit, number, outcome, plan_before, Row, row}
 
 abbrev pub hours_from : ℕ → ℕ → ℕ → ℕ → Permit
-hours_from year month day word = Within (record { date = date year month day; word = word })
+hours_from year month day word = Some (record { date = date year month day; word = word })
 
 -- C1 on 3 February 2024
 abbrev pub c1-word : ℕ → UnitRecord
-c1-word word = c1-under 2 0 2 (At 2) (At 2) limit.None (hours_from 2024 2 3 word)
+c1-word word = c1-under 2 0 2 (Some 2) (Some 2) None (hours_from 2024 2 3 word)
 
 -- and on, for one interval, before its first
 abbrev pub c1-on-word : ℕ → UnitRecord
-c1-on-word word = c1-under 2 1 1 (At 2) (At 2) limit.None (hours_from 2024 2 3 word)
+c1-on-word word = c1-under 2 1 1 (Some 2) (Some 2) None (hours_from 2024 2 3 word)
 
 abbrev pub table : List Row
 table =

@@ -1,11 +1,10 @@
 -- When a schedule keeps the case (specification 5): one definition for each rule. The Bool is the state before the first interval, on or off,
 -- and `spent` the intervals spent in that state.
-use Rattle.std.specs.Prelude.{Bool, true, false, ◌&&◌, List, [], ◌∷◌, ℕ, zero, suc, ◌+◌, ◌/◌, leb, eqb}
+use Rattle.std.specs.Prelude.{Bool, true, false, ◌&&◌, List, [], ◌∷◌, ℕ, zero, suc, ◌+◌, ◌/◌, leb, eqb, Some, None}
 use Rattle.calendar.specs.Clock.{clock_after}
 use Rattle.calendar.specs.Words.{allows}
 use Rattle.commitment.specs.declared.Opening.{Opening}
-use Rattle.commitment.specs.declared.Permit.{Permit}
-use Rattle.commitment.specs.declared.Permit.TheVariants.{AnyHour, Within}
+use Rattle.commitment.specs.Types.{Permit}
 use Rattle.commitment.specs.declared.UnitRecord.{UnitRecord}
 use Rattle.commitment.specs.Limits.{within}
 
@@ -47,8 +46,8 @@ output_sum (m ∷ s) = m + output_sum s
 
 -- whether the permit lets the unit run in an interval, counted from 0: the bit of its clock hour is 1
 abbrev pub opens_in : Permit → ℕ → Bool
-opens_in AnyHour i = true
-opens_in (Within w) i = allows w.word (clock_after w.date (i / 4))
+opens_in None i = true
+opens_in (Some w) i = allows w.word (clock_after w.date (i / 4))
 
 -- off wherever it does not open, from the interval of a number on
 abbrev pub off_where_shut : (ℕ → Bool) → ℕ → List ℕ → Bool

@@ -1,4 +1,5 @@
 -- What a reader must believe, one topic a file.
+pub mod Types
 pub mod Bounds
 pub mod Causes
 pub mod Limits

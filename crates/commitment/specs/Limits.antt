@@ -1,7 +1,6 @@
 -- A limitation, what is at most as much, and one limitation of the three (specification 2).
-use Rattle.std.specs.Prelude.{Bool, true, ℕ, ◌*◌, leb}
-use Rattle.commitment.specs.declared.Limit.{Limit}
-use Rattle.commitment.specs.declared.Limit.TheVariants.{None, At}
+use Rattle.std.specs.Prelude.{Bool, true, ℕ, ◌*◌, leb, Some, None}
+use Rattle.commitment.specs.Types.{Limit}
 use Rattle.commitment.specs.declared.Limits.{Limits}
 use Rattle.commitment.specs.declared.Limitation.{Limitation}
 use Rattle.commitment.specs.declared.Limitation.TheVariants.{Starts, Hours, Mwh}
@@ -10,12 +9,12 @@ use Rattle.commitment.specs.declared.UnitRecord.{UnitRecord}
 -- a count is at most the limitation, a unit of which is worth so many counts
 abbrev pub within : ℕ → ℕ → Limit → Bool
 within unit count None = true
-within unit count (At limit) = leb count (unit * limit)
+within unit count (Some limit) = leb count (unit * limit)
 
 -- the number of a limitation is at most the end of its range
 abbrev pub limit_kept : ℕ → Limit → Bool
 limit_kept most None = true
-limit_kept most (At limit) = leb limit most
+limit_kept most (Some limit) = leb limit most
 
 -- ---- one of the three
 

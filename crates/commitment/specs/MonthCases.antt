@@ -1,12 +1,11 @@
 -- Worked cases of months: keeping two months of three intervals each, from a unit that is off or on before them; and the months of a horizon by the
 -- calendar.
-use Rattle.std.specs.Prelude.{◌≡◌, refl, Bool, true, false, List, [], ◌∷◌, map, ℕ}
+use Rattle.std.specs.Prelude.{◌≡◌, refl, Bool, true, false, List, [], ◌∷◌, map, ℕ, Some, None}
 use Rattle.calendar.specs.declared.Date.{Date}
 use Rattle.calendar.specs.Dates.{date, day_number, is_sunday}
 use Rattle.calendar.specs.Clock.{hours_of}
 use Rattle.calendar.specs.Months.{date_after, month_of, month_begins}
 use Rattle.commitment.specs.declared.Limits.{Limits}
-use Rattle.commitment.specs.declared.Limit.TheVariants.{None, At}
 use Rattle.commitment.specs.Months.{Month, keeps_months, months_of}
 
 pub record MonthCase : Type 0 where
@@ -15,13 +14,13 @@ pub record MonthCase : Type 0 where
   pub schedule : List ℕ
 
 abbrev pub starts : ℕ → Limits
-starts k = record { starts = At k; hours = None; mwh = None }
+starts k = record { starts = Some k; hours = None; mwh = None }
 
 abbrev pub hours : ℕ → Limits
-hours k = record { starts = None; hours = At k; mwh = None }
+hours k = record { starts = None; hours = Some k; mwh = None }
 
 abbrev pub mwh : ℕ → Limits
-mwh k = record { starts = None; hours = None; mwh = At k }
+mwh k = record { starts = None; hours = None; mwh = Some k }
 
 abbrev pub two : Limits → List Month
 two l = record { long = 3; limits = l } ∷ record { long = 3; limits = l } ∷ []

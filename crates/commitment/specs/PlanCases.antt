@@ -1,14 +1,11 @@
 -- C1 to C9 (specification 18): one table of cases beside every value given for them, and one statement over it. C10 to C12 are in `costs`, and all
 -- twelve in `promises`.
-use Rattle.std.specs.Prelude.{◌≡◌, refl, cond, List, [], ◌∷◌, map, ℕ, suc, ◌+◌, ℤ, pos, length}
+use Rattle.std.specs.Prelude.{◌≡◌, refl, cond, List, [], ◌∷◌, map, ℕ, suc, ◌+◌, ℤ, pos, length, Some, None}
 use Rattle.std.specs.Int.Signed.{le_z}
-use Rattle.commitment.specs.declared.Limit.{Limit}
-use Rattle.commitment.specs.declared.Limit.TheVariants.{At}
-use Rattle.commitment.specs.declared.Limit.TheVariants as limit
+use Rattle.commitment.specs.Types.{Limit}
 use Rattle.commitment.specs.declared.Limitation.TheVariants.{Starts, Hours, Mwh}
 use Rattle.commitment.specs.declared.Cause.TheVariants.{NoSchedule}
-use Rattle.commitment.specs.declared.Permit.{Permit}
-use Rattle.commitment.specs.declared.Permit.TheVariants.{AnyHour}
+use Rattle.commitment.specs.Types.{Permit}
 use Rattle.commitment.specs.declared.Outcome.{Outcome}
 use Rattle.commitment.specs.declared.Outcome.TheVariants.{Empty, Never, Gap}
 use Rattle.commitment.specs.declared.Outcome.TheVariants as outcomes
@@ -34,31 +31,31 @@ c1-under mot was held starts hours mwh permit =
     }
 
 abbrev c1-but : ℕ → ℕ → ℕ → Limit → Limit → Limit → UnitRecord
-c1-but mot was held starts hours mwh = c1-under mot was held starts hours mwh AnyHour
+c1-but mot was held starts hours mwh = c1-under mot was held starts hours mwh None
 
 abbrev pub c1 : UnitRecord
-c1 = c1-but 2 0 2 (At 2) (At 2) limit.None
+c1 = c1-but 2 0 2 (Some 2) (Some 2) None
 
 abbrev pub c2 : UnitRecord
-c2 = c1-but 2 0 2 (At 2) (At 2) (At 10)
+c2 = c1-but 2 0 2 (Some 2) (Some 2) (Some 10)
 
 abbrev pub c4 : UnitRecord
-c4 = c1-but 2 0 1 (At 2) (At 2) limit.None
+c4 = c1-but 2 0 1 (Some 2) (Some 2) None
 
 abbrev pub c5 : UnitRecord
-c5 = c1-but 2 1 2 (At 2) (At 2) limit.None
+c5 = c1-but 2 1 2 (Some 2) (Some 2) None
 
 abbrev pub c6 : UnitRecord
-c6 = c1-but 2 1 1 (At 2) (At 0) limit.None
+c6 = c1-but 2 1 1 (Some 2) (Some 0) None
 
 abbrev pub c7 : UnitRecord
-c7 = c1-but 6 1 1 (At 2) (At 3) limit.None
+c7 = c1-but 6 1 1 (Some 2) (Some 3) None
 
 abbrev pub c8 : UnitRecord
-c8 = c1-but 2 0 2 (At 2) (At 1) limit.None
+c8 = c1-but 2 0 2 (Some 2) (Some 1) None
 
 abbrev pub c9 : UnitRecord
-c9 = c1-but 2 0 2 (At 0) (At 2) limit.None
+c9 = c1-but 2 0 2 (Some 0) (Some 2) None
 
 -- ---- the values: of a plan, of valuing it, and of a cost figure
 

@@ -1,5 +1,5 @@
 -- The ranges of the unit record and of the prices, and the check of a case before anything is worked out (specification 2, 3).
-use Rattle.std.specs.Prelude.{◌≡◌, Bool, true, ◌&&◌, List, [], ◌∷◌, ℕ, ◌*◌, ◌≤◌, ◌<◌, leb, ℤ, pos, neg_ℤ, nat_abs, length, get_or}
+use Rattle.std.specs.Prelude.{◌≡◌, Bool, true, ◌&&◌, List, [], ◌∷◌, ℕ, ◌*◌, ◌≤◌, ◌<◌, leb, ℤ, pos, neg_ℤ, nat_abs, length, get_or, Some, None}
 use Rattle.std.specs.Int.Signed.{le_z}
 use Rattle.lists.specs.Every.{every}
 use Rattle.calendar.specs.declared.Date.{Date}
@@ -8,12 +8,11 @@ use Rattle.commitment.specs.declared.Generator.{Generator}
 use Rattle.commitment.specs.declared.Costs.{Costs}
 use Rattle.commitment.specs.declared.Opening.{Opening}
 use Rattle.commitment.specs.declared.Limits.{Limits}
-use Rattle.commitment.specs.declared.Permit.{Permit}
-use Rattle.commitment.specs.declared.Permit.TheVariants.{AnyHour, Within}
+use Rattle.commitment.specs.Types.{Permit}
 use Rattle.commitment.specs.declared.Window.{Window}
 use Rattle.commitment.specs.declared.UnitRecord.{UnitRecord}
 use Rattle.commitment.specs.declared.Cause.TheVariants as cause
-use Rattle.commitment.specs.declared.Checked.{Checked}
+use Rattle.commitment.specs.Types.{Checked}
 use Rattle.commitment.specs.Bounds.{most_mw, most_blocks, most_time, most_held, most_vec, most_mlc}
 use Rattle.commitment.specs.Bounds.{most_suc, most_starts, most_hours, most_mwh, most_price, most_horizon, most_intervals}
 use Rattle.commitment.specs.Bounds.{most_month, most_day, most_word}
@@ -49,8 +48,8 @@ abbrev pub window_kept : Window → Bool
 window_kept w = date_ranged w.date && leb w.word most_word
 
 abbrev pub permit_kept : Permit → Bool
-permit_kept AnyHour = true
-permit_kept (Within w) = window_kept w
+permit_kept None = true
+permit_kept (Some w) = window_kept w
 
 unfoldable pub ranges_kept : UnitRecord → Bool
 ranges_kept u =
@@ -62,8 +61,8 @@ shape_kept g = leb g.pmin g.pmax && leb (g.pmax * g.block) most_mw
 
 -- a date that is given exists
 abbrev pub date_kept : Permit → Bool
-date_kept AnyHour = true
-date_kept (Within w) = exists w.date
+date_kept None = true
+date_kept (Some w) = exists w.date
 
 -- ---- the prices
 

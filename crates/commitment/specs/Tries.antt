@@ -1,9 +1,8 @@
 -- The tries of reading off a plan (specification 23): in each interval the outputs are tried from 0 upwards, and the trying ends at the first that
 -- reaches the best remaining profit.
-use Rattle.std.specs.Prelude.{Bool, true, false, cond, not, List, [], ◌∷◌, ◌++◌, map, ℕ, zero, suc, ◌+◌, ◌-◌, ◌/◌, ℤ, length}
+use Rattle.std.specs.Prelude.{Bool, true, false, cond, not, List, [], ◌∷◌, ◌++◌, map, ℕ, zero, suc, ◌+◌, ◌-◌, ◌/◌, ℤ, length, Some, None}
 use Rattle.std.specs.Int.Signed.{lt_z}
-use Rattle.commitment.specs.declared.BestProfit.{BestProfit}
-use Rattle.commitment.specs.declared.BestProfit.TheVariants.{Nothing, Profit}
+use Rattle.commitment.specs.Types.{BestProfit}
 use Rattle.commitment.specs.declared.UnitRecord.{UnitRecord}
 use Rattle.commitment.specs.Best.{profit_of, schedule_of, outputs, lists, first_best, candidate, best}
 
@@ -36,9 +35,9 @@ best_after u prices begun =
 
 -- whether a profit, if there is one, is at least the best
 abbrev pub reaching : BestProfit → BestProfit → Bool
-reaching best Nothing = false
-reaching Nothing (Profit p) = true
-reaching (Profit best) (Profit p) = not (lt_z p best)
+reaching best None = false
+reaching None (Some p) = true
+reaching (Some best) (Some p) = not (lt_z p best)
 
 -- the first of a list that reaches, after so many tried before it, and how many were tried
 abbrev pub first_that : (ℕ → Bool) → ℕ → List ℕ → ℕ × ℕ

@@ -1,9 +1,7 @@
 -- Valuing a limitation (specification 9): the gap between the best profit at the lowered limitation and one unit lower.
-use Rattle.std.specs.Prelude.{List, ℕ, zero, suc, ◌*◌, ◌/◌, ℤ, ◌-ℤ◌}
-use Rattle.commitment.specs.declared.BestProfit.{BestProfit}
-use Rattle.commitment.specs.declared.BestProfit.TheVariants.{Nothing, Profit}
-use Rattle.commitment.specs.declared.Limit.{Limit}
-use Rattle.commitment.specs.declared.Limit.TheVariants as limit
+use Rattle.std.specs.Prelude.{List, ℕ, zero, suc, ◌*◌, ◌/◌, ℤ, ◌-ℤ◌, Some, None}
+use Rattle.commitment.specs.Types.{BestProfit}
+use Rattle.commitment.specs.Types.{Limit}
 use Rattle.commitment.specs.declared.Limitation.{Limitation}
 use Rattle.commitment.specs.declared.Limitation.TheVariants.{Starts, Hours, Mwh}
 use Rattle.commitment.specs.declared.Outcome.{Outcome}
@@ -19,13 +17,13 @@ lowered n = 9 * n / 10
 
 -- the case with one limitation at a figure; the other two are taken whole
 abbrev pub run_at : UnitRecord → Limitation → ℕ → UnitRecord
-run_at u which figure = limited u (with_limit u.limits which (limit.At figure))
+run_at u which figure = limited u (with_limit u.limits which (Some figure))
 
 -- the first run's best profit less the lower run's; `never` where no schedule keeps the figure one unit less
 abbrev pub gap_between : BestProfit → BestProfit → Outcome
-gap_between first Nothing = outcome.Never
-gap_between Nothing (Profit q) = outcome.Never
-gap_between (Profit p) (Profit q) = outcome.Gap (p -ℤ q)
+gap_between first None = outcome.Never
+gap_between None (Some q) = outcome.Never
+gap_between (Some p) (Some q) = outcome.Gap (p -ℤ q)
 
 -- the best profits at a figure and one unit below it; at 0 there is no lower run
 abbrev pub gap_at : (ℕ → BestProfit) → ℕ → Outcome
@@ -33,8 +31,8 @@ gap_at profitAt zero = outcome.Empty
 gap_at profitAt (suc less) = gap_between (profitAt (suc less)) (profitAt less)
 
 abbrev pub gap_under : (ℕ → BestProfit) → Limit → Outcome
-gap_under profitAt limit.None = outcome.None
-gap_under profitAt (limit.At figure) = gap_at profitAt (lowered figure)
+gap_under profitAt None = outcome.None
+gap_under profitAt (Some figure) = gap_at profitAt (lowered figure)
 
 -- the outcome of one limitation, and of all three
 abbrev pub outcome_of : UnitRecord → List ℤ → Limitation → Outcome

@@ -1,22 +1,21 @@
 -- The hours of a permit over a horizon, as they are asked interval by interval (specification 22).
-use Rattle.std.specs.Prelude.{◌≡◌, Bool, true, ℕ, ◌/◌, ◌≤◌, ◌<◌}
+use Rattle.std.specs.Prelude.{◌≡◌, Bool, true, ℕ, ◌/◌, ◌≤◌, ◌<◌, Some, None}
 use Rattle.calendar.specs.Clock.{most_ahead, shown}
 use Rattle.calendar.specs.Words.{allows}
-use Rattle.commitment.specs.declared.Permit.{Permit}
-use Rattle.commitment.specs.declared.windows.Hours.{Hours}
-use Rattle.commitment.specs.declared.windows.Hours.TheVariants.{All, Of}
+use Rattle.commitment.specs.Types.{Permit}
+use Rattle.commitment.specs.Types.{Hours}
 use Rattle.commitment.specs.Bounds.{most_intervals}
 use Rattle.commitment.specs.Keeping.{opens_in}
 
 -- whether the unit may run in an interval, counted from 0
 abbrev pub opens : Hours → ℕ → Bool
-opens All i = true
-opens (Of allowed) i = allows allowed.word (shown allowed.clock (i / 4))
+opens None i = true
+opens (Some allowed) i = allows allowed.word (shown allowed.clock (i / 4))
 
 -- a clock in its range
 abbrev pub Clocked : Hours → Type 0
-Clocked All = Unit {0}
-Clocked (Of allowed) = allowed.clock.ahead ≤ most_ahead
+Clocked None = Unit {0}
+Clocked (Some allowed) = allowed.clock.ahead ≤ most_ahead
 
 -- the hours are those of the permit, over any horizon
 pub record HoursOf (permit : Permit) (hours : Hours) : Type 0 where

@@ -22,10 +22,8 @@ pub fn cuts_of(date: Date, intervals: usize) -> Cuts
 {
     let count = calendar::month_of(date, (intervals - 1) as u64) as usize;
     let mut at: [usize; 14] = [0; 14];
-    let mut k = 0;
-    while k <= count {
+    for k in 0..count + 1 {
         at[k] = month_ends(date, intervals, k);
-        k += 1;
     }
     Cuts { at, count }
 }

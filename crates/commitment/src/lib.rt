@@ -5,7 +5,7 @@
 
 ghost use Rattle.std.specs.Prelude.{◌≡◌, ◌≤◌, nat_abs};
 ghost use Rattle.commitment.specs.Profit as profits;
-ghost use Rattle.commitment.specs.Causes.{number_of};
+ghost use Rattle.commitment.specs.Causes.{number_of, answered_number};
 ghost use Rattle.commitment.specs.Limits.{limit_for, with_limit, limited};
 ghost use Rattle.commitment.specs.Bounds.{most_mw, most_vec, most_mlc, most_price};
 
@@ -18,13 +18,6 @@ use calendar::Date;
 pub const MOST_MW: u64 = 500;
 
 pub const MOST_BLOCKS: u64 = 500;
-
-// A limitation of the permit: not limited, or at most a number.
-#[derive(Clone, Copy)]
-pub enum Limit {
-    None,
-    At(u64),
-}
 
 // The unit itself: MW in a block, outputs in blocks, minimum times in intervals.
 #[derive(Clone, Copy)]
@@ -50,11 +43,12 @@ pub struct Opening {
     pub held: u64,
 }
 
+// The limitations of the permit, each at most a number, or not limited.
 #[derive(Clone, Copy)]
 pub struct Limits {
-    pub starts: Limit,
-    pub hours: Limit,
-    pub mwh: Limit,
+    pub starts: Option<u64>,
+    pub hours: Option<u64>,
+    pub mwh: Option<u64>,
 }
 
 // The date whose midnight opens interval 1, and the word whose bit h allows clock hour h.
@@ -64,25 +58,18 @@ pub struct Window {
     pub word: u64,
 }
 
-// When the permit allows the unit to run.
-#[derive(Clone, Copy)]
-pub enum Permit {
-    AnyHour,
-    Within(Window),
-}
-
-// The unit record (specification 2), in its groups.
+// The unit record (specification 2), in its groups. Without a window the permit allows the unit to run in any hour.
 #[derive(Clone, Copy)]
 pub struct UnitRecord {
     pub generator: Generator,
     pub costs: Costs,
     pub opening: Opening,
     pub limits: Limits,
-    pub permit: Permit,
+    pub permit: Option<Window>,
 }
 
 // Which of the three limitations.
-#[derive(Clone, Copy)]
+#[derive(Clone, Copy, Debug, PartialEq, Eq)]
 pub enum Limitation {
     Starts,
     Hours,
@@ -90,7 +77,7 @@ pub enum Limitation {
 }
 
 // Why a call refuses, in the order in which causes are given. specs/Causes.antt gives each its number.
-#[derive(Clone, Copy)]
+#[derive(Clone, Copy, Debug, PartialEq, Eq)]
 pub enum Cause {
     Form,
     Name,
@@ -106,22 +93,8 @@ pub enum Cause {
     NotKept,
 }
 
-// What checks find: nothing, or the first cause that holds.
-#[derive(Clone, Copy)]
-pub enum Checked {
-    Passed,
-    Refused(Cause),
-}
-
-// The most that a case can earn, where it has a schedule.
-#[derive(Clone, Copy)]
-pub enum BestProfit {
-    Nothing,
-    Profit(i64),
-}
-
 // What valuing a limitation comes to.
-#[derive(Clone, Copy)]
+#[derive(Clone, Copy, Debug, PartialEq, Eq)]
 pub enum Outcome {
     None,
     Empty,
@@ -138,7 +111,7 @@ pub struct Outcomes {
 
 // ---- one of the three limitations
 
-pub fn limit_for(limits: Limits, which: Limitation) -> Limit
+pub fn limit_for(limits: Limits, which: Limitation) -> Option<u64>
     ensures { result ≡ limit_for limits which }
 {
     match which {
@@ -149,27 +122,21 @@ pub fn limit_for(limits: Limits, which: Limitation) -> Limit
 }
 
 // The limitations with one of them replaced.
-pub fn with_limit(limits: Limits, which: Limitation, limit: Limit) -> Limits
+pub fn with_limit(limits: Limits, which: Limitation, limit: Option<u64>) -> Limits
     ensures { result ≡ with_limit limits which limit }
 {
-    let starts = limits.starts;
-    let hours = limits.hours;
-    let mwh = limits.mwh;
     match which {
         Limitation::Starts => Limits {
             starts: limit,
-            hours,
-            mwh,
+            ..limits
         },
         Limitation::Hours => Limits {
-            starts,
             hours: limit,
-            mwh,
+            ..limits
         },
         Limitation::Mwh => Limits {
-            starts,
-            hours,
             mwh: limit,
+            ..limits
         },
     }
 }
@@ -178,17 +145,7 @@ pub fn with_limit(limits: Limits, which: Limitation, limit: Limit) -> Limits
 pub fn under_limits(unit: UnitRecord, limits: Limits) -> UnitRecord
     ensures { result ≡ limited unit limits }
 {
-    let generator = unit.generator;
-    let costs = unit.costs;
-    let opening = unit.opening;
-    let permit = unit.permit;
-    UnitRecord {
-        generator,
-        costs,
-        opening,
-        limits,
-        permit,
-    }
+    UnitRecord { limits, ..unit }
 }
 
 // What an on-interval adds to the profit, of figures in their ranges.
@@ -202,22 +159,36 @@ pub fn margin(price: i64, output: u64, vec: u64, least: u64, mlc: u64) -> i64
     price * m - cost - integers::signed(mlc)
 }
 
+// ---- causes
+
 // The number of a cause (specification 15).
-pub fn number_of(cause: Cause) -> u64
-    ensures { result ≡ number_of cause }
+impl From<Cause> for u64 {
+    ghost from_gives = { λ cause n. n ≡ number_of cause };
+
+    fn from(cause: Cause) -> u64 {
+        match cause {
+            Cause::Form => 1,
+            Cause::Name => 2,
+            Cause::Range => 3,
+            Cause::Levels => 11,
+            Cause::Shape => 4,
+            Cause::Date => 12,
+            Cause::Horizon => 5,
+            Cause::Segments => 6,
+            Cause::Length => 7,
+            Cause::Scratch => 8,
+            Cause::NoSchedule => 9,
+            Cause::NotKept => 10,
+        }
+    }
+}
+
+// The number of a call's answer: 0, or that of the cause.
+pub fn number_in<T>(answer: &Result<T, Cause>) -> u64
+    ensures { result ≡ answered_number answer.now }
 {
-    match cause {
-        Cause::Form => 1,
-        Cause::Name => 2,
-        Cause::Range => 3,
-        Cause::Levels => 11,
-        Cause::Shape => 4,
-        Cause::Date => 12,
-        Cause::Horizon => 5,
-        Cause::Segments => 6,
-        Cause::Length => 7,
-        Cause::Scratch => 8,
-        Cause::NoSchedule => 9,
-        Cause::NotKept => 10,
+    match answer {
+        Ok(_) => 0,
+        Err(cause) => u64::from(*cause),
     }
 }

@@ -1,15 +1,14 @@
 // The hours of a permit over a horizon, asked interval by interval.
 
-ghost use Rattle.std.specs.Prelude.{◌≡◌, ◌/◌, ◌≤◌, ◌<◌, true};
+ghost use Rattle.std.specs.Prelude.{◌≡◌, ◌/◌, ◌≤◌, ◌<◌, true, Some};
 ghost use Rattle.calendar.specs.Dates.{exists};
 ghost use Rattle.calendar.specs.Clock.{most_ahead, shown};
 ghost use Rattle.calendar.specs.Words.{allows};
 ghost use Rattle.commitment.specs.Bounds.{most_intervals};
-ghost use Rattle.commitment.specs.declared.Permit.TheVariants.{Within};
 ghost use Rattle.commitment.specs.Ranges.{window_kept, permit_kept, date_kept};
 ghost use Rattle.commitment.specs.Windows.{opens, Clocked, HoursOf};
 
-use crate::{Permit, Window};
+use crate::Window;
 use calendar::Clock;
 
 // A word of permitted hours, and the clock from its date's midnight on.
@@ -19,45 +18,31 @@ pub struct Allowed {
     pub clock: Clock,
 }
 
-#[derive(Clone, Copy)]
-pub enum Hours {
-    All,
-    Of(Allowed),
-}
-
-// The hours of a permit in its ranges, whose date exists.
-pub fn hours_of(permit: Permit) -> Hours
+// The hours of a permit in its ranges, whose date exists; without a window, all of them.
+pub fn hours_of(permit: Option<Window>) -> Option<Allowed>
     requires { (permit_kept permit ≡ true) × (date_kept permit ≡ true) }
     ensures { HoursOf permit result }
 {
-    match permit {
-        Permit::AnyHour => Hours::All,
-        Permit::Within(window) => hours_within(window),
-    }
+    permit.map(hours_within)
 }
 
 // The clock is worked out once, and then asked for each interval.
-fn hours_within(window: Window) -> Hours
+fn hours_within(window: Window) -> Allowed
     requires { (window_kept window ≡ true) × (exists window.date ≡ true) }
-    ensures { HoursOf (Within window) result }
+    ensures { HoursOf (Some window) (Some result) }
 {
-    let date = window.date;
-    let clock = calendar::clock_from(date);
-    Hours::Of(Allowed {
+    Allowed {
         word: window.word,
-        clock,
-    })
+        clock: calendar::clock_from(window.date),
+    }
 }
 
 // Whether the unit may run in an interval, counted from 0.
-pub fn opens_in(hours: Hours, interval: usize) -> bool
+pub fn opens_in(hours: Option<Allowed>, interval: usize) -> bool
     requires { (interval < most_intervals) × (Clocked hours) }
     ensures { result ≡ opens hours interval }
 {
-    match hours {
-        Hours::All => true,
-        Hours::Of(allowed) => allowed_in(allowed, interval),
-    }
+    hours.is_none_or(|allowed| allowed_in(allowed, interval))
 }
 
 // Four intervals to an hour.
@@ -65,7 +50,6 @@ fn allowed_in(allowed: Allowed, interval: usize) -> bool
     requires { (interval < most_intervals) × (allowed.clock.ahead ≤ most_ahead) }
     ensures { result ≡ allows allowed.word (shown allowed.clock (interval / 4)) }
 {
-    let clock = allowed.clock;
-    let hour = calendar::hour_after(clock, (interval / 4) as u64);
+    let hour = calendar::hour_after(allowed.clock, (interval / 4) as u64);
     calendar::allows(allowed.word, hour)
 }

@@ -1,17 +1,14 @@
 // The enumerator beside the calls, on one small case.
 
-use assessment::Assessed;
 use calendar::Date;
-use commitment::{
-    Costs, Generator, Limit, Limits, Opening, Outcome, Outcomes, Permit, UnitRecord, Window,
-};
-use enumeration::enumerator::{Allowed, Cap, Case, ROOM, Worth};
-use enumeration::expectation::{Expected, UNTOUCHED, refusal_of, refused, schedule_of};
-use enumeration::lending::Lent;
-use enumeration::numbers::{difference, one_if, wide8, wide16, wide32};
+use commitment::{Cause, Costs, Generator, Limits, Opening, Outcome, Outcomes, UnitRecord, Window};
+use enumeration::enumerator::{Allowed, Case, PerLimit, ROOM, Worth};
+use enumeration::expectation::{Expected, Refusal, UNTOUCHED, refusal_of, refused, schedule_of};
+use enumeration::lending::{LENGTHS, Lent};
+use enumeration::numbers::{difference, one_if};
 use enumeration::tally::Agreed;
 use enumeration::{enumerator, lending};
-use planner::{Planned, Reported, Valued};
+use planner::{BestPlan, Report};
 
 pub fn agreed_on(case: Case, expected: Expected, scratch: &mut [i64]) -> Agreed {
     let n = enumerator::intervals_of(case);
@@ -28,15 +25,13 @@ fn each_agreed(case: Case, prices: &[i64], expected: Expected, scratch: &mut [i6
         report: true,
         assess: same_profits(case, unit, prices),
     };
-    let mut number = 0;
-    while number < lending::LENGTHS {
-        let lent = lending::lent_of(case, number);
+    for length in LENGTHS {
+        let lent = lending::lent_of(case, length);
         let answer = expected_with(case, expected, lent);
         agreed = both(
             agreed,
             agreed_with(unit, prices, answer, lent, &mut *scratch),
         );
-        number += 1;
     }
     agreed
 }
@@ -52,10 +47,10 @@ fn both(one: Agreed, other: Agreed) -> Agreed {
 
 // Too few cells are found before any list is looked for.
 fn expected_with(case: Case, expected: Expected, lent: Lent) -> Expected {
-    if 0 < lent.used {
-        return expected;
+    match lent.used {
+        Some(_) => expected,
+        None => refused(refusal_of(case, Refusal::Scratch)),
     }
-    refused(refusal_of(case, 8))
 }
 
 // Where there are not so many cells to lend, no call agrees.
@@ -79,15 +74,14 @@ fn agreed_with(
     agreed_on_cells(unit, prices, expected, used, &mut scratch[..cells])
 }
 
-// Every refusal but 9 comes before any work.
+// That there is no schedule is found by planning; every other refusal comes before any work.
 fn used_for(expected: Expected, lent: Lent) -> usize {
-    if expected.planned | (expected.refusal == 9) {
-        return lent.used;
+    match expected.answer {
+        Ok(_) | Err(Refusal::NoSchedule) => lent.used.unwrap_or(0),
+        Err(_) => 0,
     }
-    0
 }
 
-// The cells are filled before each call, so that what it leaves shows.
 fn agreed_on_cells(
     unit: UnitRecord,
     prices: &[i64],
@@ -95,87 +89,79 @@ fn agreed_on_cells(
     used: usize,
     scratch: &mut [i64],
 ) -> Agreed {
-    lending::fill(&mut *scratch);
-    let plan = same_plan(unit, prices, expected, &mut *scratch);
-    let plan_left = lending::is_left(&*scratch, used);
-    lending::fill(&mut *scratch);
-    let value = same_value(unit, prices, expected, &mut *scratch);
-    let value_left = lending::is_left(&*scratch, used);
-    lending::fill(&mut *scratch);
-    let report = same_report(unit, prices, expected, &mut *scratch);
-    let report_left = lending::is_left(&*scratch, used);
     Agreed {
-        plan: plan & plan_left,
-        value: value & value_left,
-        report: report & report_left,
+        plan: left_by(
+            &mut *scratch,
+            used,
+            |cells| same_plan(unit, prices, expected, cells),
+        ),
+        value: left_by(
+            &mut *scratch,
+            used,
+            |cells| same_value(unit, prices, expected, cells),
+        ),
+        report: left_by(
+            scratch,
+            used,
+            |cells| same_report(unit, prices, expected, cells),
+        ),
         assess: true,
     }
+}
+
+// The cells are filled before a call, so that what it leaves shows.
+fn left_by<Call: FnOnce(&mut [i64]) -> bool>(scratch: &mut [i64], used: usize, call: Call) -> bool
+    requires { Call.IsAlwaysCallable call }
+{
+    lending::fill(&mut *scratch);
+    let agrees = call(&mut *scratch);
+    agrees & lending::is_left(&*scratch, used)
 }
 
 // ---- the case as the calls take it
 
 fn unit_of(case: Case) -> UnitRecord {
-    let starts = case.starts;
-    let hours = case.hours;
-    let mwh = case.mwh;
-    let allowed = case.allowed;
+    let PerLimit { starts, hours, mwh } = case.limits;
     UnitRecord {
         generator: Generator {
-            block: wide8(case.block),
-            pmin: wide8(case.pmin),
-            pmax: wide8(case.pmax),
-            mot: wide8(case.mot),
-            mdt: wide8(case.mdt),
+            block: u64::from(case.block),
+            pmin: u64::from(case.pmin),
+            pmax: u64::from(case.pmax),
+            mot: u64::from(case.mot),
+            mdt: u64::from(case.mdt),
         },
         costs: Costs {
-            vec: wide16(case.vec),
-            mlc: wide32(case.mlc),
-            suc: wide32(case.suc),
+            vec: u64::from(case.vec),
+            mlc: u64::from(case.mlc),
+            suc: u64::from(case.suc),
         },
         opening: Opening {
             was: one_if(case.was_on),
-            held: wide8(case.held),
+            held: u64::from(case.held),
         },
         limits: Limits {
-            starts: limit_of(starts),
-            hours: limit_of(hours),
-            mwh: limit_of(mwh),
+            starts: starts.map(u64::from),
+            hours: hours.map(u64::from),
+            mwh: mwh.map(u64::from),
         },
-        permit: permit_of(allowed),
+        permit: case.allowed.map(window_of),
     }
 }
 
-fn permit_of(allowed: Allowed) -> Permit {
-    if !allowed.given {
-        return Permit::AnyHour;
-    }
-    Permit::Within(Window {
+fn window_of(allowed: Allowed) -> Window {
+    Window {
         date: Date {
-            year: wide16(allowed.year),
-            month: wide8(allowed.month),
-            day: wide8(allowed.day),
+            year: u64::from(allowed.year),
+            month: u64::from(allowed.month),
+            day: u64::from(allowed.day),
         },
-        word: wide32(allowed.word),
-    })
-}
-
-fn limit_of(cap: Cap) -> Limit {
-    if cap.limited {
-        return Limit::At(wide32(cap.most));
+        word: u64::from(allowed.word),
     }
-    Limit::None
 }
 
 fn prices_of(case: Case) -> [i64; ROOM] {
-    let up = case.up;
-    let down = wide16(case.down);
-    let mut prices = [0i64; ROOM];
-    let mut i = 0;
-    while i < ROOM {
-        prices[i] = difference(wide16(up[i]), down);
-        i += 1;
-    }
-    prices
+    case.up
+        .map(|up| difference(u64::from(up), u64::from(case.down)))
 }
 
 // ---- one call each
@@ -188,131 +174,77 @@ pub fn same_plan(
 ) -> bool {
     let mut schedule = [UNTOUCHED; ROOM];
     let answer = planner::plan_into(unit, prices, scratch, &mut schedule);
-    plan_agrees(answer, prices.len(), expected) & same_entries(&schedule, expected)
+    plan_agrees(answer, prices.len(), expected) & (schedule == expected.schedule)
 }
 
-fn plan_agrees(answer: Planned, intervals: usize, expected: Expected) -> bool {
-    match answer {
-        Planned::Refused(cause) => !expected.planned
-            & (commitment::number_of(cause) == expected.refusal),
-        Planned::Plan { count, profit } => {
-            expected.planned & (count == intervals) & (profit == expected.profit)
-        }
+fn plan_agrees(answer: Result<BestPlan, Cause>, intervals: usize, expected: Expected) -> bool {
+    match (answer, expected.answer) {
+        (Err(cause), Err(refusal)) => same_number(cause, refusal),
+        (Ok(made), Ok(plan)) => (made.count == intervals) & (made.profit == plan.profit),
+        _ => false,
     }
 }
 
 fn same_value(unit: UnitRecord, prices: &[i64], expected: Expected, scratch: &mut [i64]) -> bool {
-    match planner::value(unit, prices, scratch) {
-        Valued::Refused(cause) => !expected.planned
-            & (commitment::number_of(cause) == expected.refusal),
-        Valued::Outcomes(outcomes) => expected.planned & same_outcomes(outcomes, expected),
+    match (planner::value(unit, prices, scratch), expected.answer) {
+        (Err(cause), Err(refusal)) => same_number(cause, refusal),
+        (Ok(outcomes), Ok(plan)) => worths_of(outcomes) == plan.worths,
+        _ => false,
     }
 }
 
 fn same_report(unit: UnitRecord, prices: &[i64], expected: Expected, scratch: &mut [i64]) -> bool {
     let mut schedule = [UNTOUCHED; ROOM];
     let answer = planner::report_into(unit, prices, scratch, &mut schedule);
-    report_agrees(answer, prices.len(), expected) & same_entries(&schedule, expected)
+    report_agrees(answer, prices.len(), expected) & (schedule == expected.schedule)
 }
 
-fn report_agrees(answer: Reported, intervals: usize, expected: Expected) -> bool {
-    match answer {
-        Reported::Refused(cause) => !expected.planned
-            & (commitment::number_of(cause) == expected.refusal),
-        Reported::Report(report) => {
-            let outcomes = report.outcomes;
-            expected.planned
-                & (report.count == intervals)
-                & (report.profit == expected.profit)
-                & same_outcomes(outcomes, expected)
+fn report_agrees(answer: Result<Report, Cause>, intervals: usize, expected: Expected) -> bool {
+    match (answer, expected.answer) {
+        (Err(cause), Err(refusal)) => same_number(cause, refusal),
+        (Ok(report), Ok(plan)) => {
+            (report.count == intervals)
+                & (report.profit == plan.profit)
+                & (worths_of(report.outcomes) == plan.worths)
         }
+        _ => false,
     }
 }
 
-// Every list handed in, kept or not: it is passed with its profit, or refused with 10, or with 12 where the date does not exist.
+pub fn same_number(cause: Cause, refusal: Refusal) -> bool {
+    u64::from(cause) == u64::from(refusal)
+}
+
+// Every list handed in, kept or not: it is passed with its profit, or refused as not kept or for a date that does not exist.
 fn same_profits(case: Case, unit: UnitRecord, prices: &[i64]) -> bool {
-    let lists = enumerator::lists_of(case);
-    let mut number = 0;
-    while number < lists {
-        if !same_profit(case, unit, prices, number) {
-            return false;
-        }
-        number += 1;
-    }
-    true
+    (0..enumerator::lists_of(case)).all(|number| same_profit(case, unit, prices, number))
 }
 
 fn same_profit(case: Case, unit: UnitRecord, prices: &[i64], number: u64) -> bool {
     let n = enumerator::intervals_of(case);
     let schedule = schedule_of(case, number);
-    let judged = enumerator::judged(case, number);
-    let refusal = refusal_of(case, 10);
-    match assessment::assess(unit, prices, &schedule[..n]) {
-        Assessed::Refused(cause) => !judged.any & (commitment::number_of(cause) == refusal),
-        Assessed::Profit(profit) => judged.any & (profit == enumerator::profit_of(judged)),
+    let answer = assessment::assess(unit, prices, &schedule[..n]);
+    match (answer, enumerator::judged(case, number)) {
+        (Err(cause), None) => same_number(cause, refusal_of(case, Refusal::NotKept)),
+        (Ok(profit), Some(found)) => profit == enumerator::profit_of(found),
+        _ => false,
     }
 }
 
-// Every entry lent: those past the plan are as they were.
-fn same_entries(schedule: &[u64; ROOM], expected: Expected) -> bool {
-    let wanted = expected.schedule;
-    let mut i = 0;
-    while i < ROOM {
-        if schedule[i] != wanted[i] {
-            return false;
-        }
-        i += 1;
+fn worths_of(outcomes: Outcomes) -> PerLimit<Worth> {
+    PerLimit {
+        starts: worth_of(outcomes.starts),
+        hours: worth_of(outcomes.hours),
+        mwh: worth_of(outcomes.mwh),
     }
-    true
 }
 
-fn same_outcomes(outcomes: Outcomes, expected: Expected) -> bool {
-    let starts = outcomes.starts;
-    let hours = outcomes.hours;
-    let mwh = outcomes.mwh;
-    let starts_worth = expected.starts;
-    let hours_worth = expected.hours;
-    let mwh_worth = expected.mwh;
-    same_worth(starts, starts_worth) & same_worth(hours, hours_worth) & same_worth(mwh, mwh_worth)
-}
-
-// Both as a kind and a gap: the two enums share nothing.
-fn same_worth(outcome: Outcome, worth: Worth) -> bool {
-    (kind_of(outcome) == kind_in(worth)) & (gap_of(outcome) == gap_in(worth))
-}
-
-fn kind_of(outcome: Outcome) -> u64 {
+// No From: both enums are of other crates, and share nothing.
+fn worth_of(outcome: Outcome) -> Worth {
     match outcome {
-        Outcome::None => 0,
-        Outcome::Empty => 1,
-        Outcome::Never => 2,
-        Outcome::Gap(_) => 3,
-    }
-}
-
-fn gap_of(outcome: Outcome) -> i64 {
-    match outcome {
-        Outcome::None => 0,
-        Outcome::Empty => 0,
-        Outcome::Never => 0,
-        Outcome::Gap(gap) => gap,
-    }
-}
-
-fn kind_in(worth: Worth) -> u64 {
-    match worth {
-        Worth::None => 0,
-        Worth::Empty => 1,
-        Worth::Never => 2,
-        Worth::Gap(_) => 3,
-    }
-}
-
-fn gap_in(worth: Worth) -> i64 {
-    match worth {
-        Worth::None => 0,
-        Worth::Empty => 0,
-        Worth::Never => 0,
-        Worth::Gap(gap) => gap,
+        Outcome::None => Worth::None,
+        Outcome::Empty => Worth::Empty,
+        Outcome::Never => Worth::Never,
+        Outcome::Gap(gap) => Worth::Gap(gap),
     }
 }

@@ -7,9 +7,9 @@ mod summary;
 mod texts;
 
 use comparison::agreed_on;
-use enumeration::enumerator::Case;
+use enumeration::enumerator::{Allowed, Case};
 use enumeration::expectation::{Expected, expected_of};
-use enumeration::generator::{case_of, dated_case_of, draws_from};
+use enumeration::generator::{case_of, dated_case_of, draws_from, hours_of};
 use enumeration::tally;
 use enumeration::tally::Tally;
 use std::env::Env;
@@ -41,7 +41,7 @@ fn natural(value: Value) -> u64 {
 
 // A case without hours takes 24 draws; the next one goes on from there.
 fn generated(rt: &impl Print, cases: u64, scratch: &mut [i64]) -> io::Result<()> {
-    let mut counts = tally::nothing();
+    let mut counts = Tally::default();
     let mut seed = 1;
     for number in 0..cases {
         let draws = draws_from(seed);
@@ -54,7 +54,7 @@ fn generated(rt: &impl Print, cases: u64, scratch: &mut [i64]) -> io::Result<()>
 
 // Cases with permitted hours, in a part of their own, and their texts.
 fn dated(rt: &impl Print, cases: u64, scratch: &mut [i64]) -> io::Result<()> {
-    let mut counts = tally::nothing();
+    let mut counts = Tally::default();
     let mut seed = 2;
     for number in 0..cases {
         let draws = draws_from(seed);
@@ -62,7 +62,8 @@ fn dated(rt: &impl Print, cases: u64, scratch: &mut [i64]) -> io::Result<()> {
         let case = dated_case_of(number, draws);
         let expected = expected_of(case);
         counts = tried(rt, counts, number, case, expected, &mut *scratch)?;
-        counts = read(rt, counts, number, case, expected, &mut *scratch)?;
+        let hours = hours_of(number, draws);
+        counts = read(rt, counts, number, case, hours, expected, &mut *scratch)?;
     }
     summary::print_dates(rt, counts)?;
     summary::print(rt, counts)
@@ -88,10 +89,11 @@ fn read(
     counts: Tally,
     number: u64,
     case: Case,
+    hours: Allowed,
     expected: Expected,
     scratch: &mut [i64],
 ) -> io::Result<Tally> {
-    let agrees = texts::same_text(case, number, expected, scratch);
+    let agrees = texts::same_text(case, hours, number, expected, scratch);
     summary::tell_unless(rt, agrees, b"text differs on case ", number)?;
-    Ok(tally::with_text(counts, texts::number_for(case, number), agrees))
+    Ok(tally::with_text(counts, texts::reading_of(case, number), agrees))
 }

@@ -1,5 +1,6 @@
 // What was counted, and each call that differs, with the number of its case.
 
+use enumeration::enumerator::PerLimit;
 use enumeration::printing::{line, row, text};
 use enumeration::tally::{Agreed, Tally};
 use std::io;
@@ -27,16 +28,14 @@ pub fn print(rt: &impl Print, tally: Tally) -> io::Result<()> {
 }
 
 pub fn print_dates(rt: &impl Print, tally: Tally) -> io::Result<()> {
-    let dates = tally.dates;
-    let texts = tally.texts;
     text(
         rt,
         b"\nhours,none,no such date,another day,clocks forward,clocks back\ncases",
     )?;
-    row(rt, &dates)?;
+    row(rt, &tally.dates)?;
     line(rt, b"refused 12,", tally.missing)?;
     text(rt, b"\ntexts,read,refused 2,refused 12\ncases")?;
-    row(rt, &texts)?;
+    row(rt, &tally.texts)?;
     text(rt, b"\n")
 }
 
@@ -54,18 +53,15 @@ fn print_cases(rt: &impl Print, t: Tally) -> io::Result<()> {
 }
 
 fn print_limited(rt: &impl Print, tally: Tally) -> io::Result<()> {
-    let limited = tally.limited;
     text(
         rt,
         b"\nlimited,none,starts,hours,starts and hours,mwh,starts and mwh,hours and mwh,all\ncases",
     )?;
-    row(rt, &limited)
+    row(rt, &tally.limited)
 }
 
 fn print_worths(rt: &impl Print, tally: Tally) -> io::Result<()> {
-    let starts = tally.starts;
-    let hours = tally.hours;
-    let mwh = tally.mwh;
+    let PerLimit { starts, hours, mwh } = tally.worths;
     text(
         rt,
         b"\noutcome,none,empty,never,gap below 0,gap 0,gap above 0\nstarts",

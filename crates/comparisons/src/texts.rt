@@ -1,92 +1,87 @@
 // A generated case as a text, its names in some sequence, the four of the permitted hours among them or a part of the four: it is read and planned as the case
 // is, or refused.
 
-ghost use Rattle.std.specs.Prelude.{◌<◌, ◌≤◌};
+ghost use Rattle.std.specs.Prelude.{◌≤◌};
 
 use crate::comparison;
-use casefile::CaseRead;
+use crate::comparison::same_number;
 use enumeration::enumerator;
-use enumeration::enumerator::{Cap, Case, ROOM};
-use enumeration::expectation::Expected;
-use enumeration::numbers::{one_if, wide8, wide16, wide32};
+use enumeration::enumerator::{Allowed, Case, PerLimit, ROOM};
+use enumeration::expectation::{Expected, Refusal};
+use enumeration::numbers::one_if;
+use std::fmt::Write;
+use std::{array, fmt};
 
 // More than a small case takes.
 const PAGE: usize = 512;
 
-// Two parts of the thirteen names, and each of the four.
-const PARTS: u64 = 6;
-
+// The bytes written so far, in memory of a fixed size: what a page has no room for is left out.
 #[derive(Clone, Copy)]
-pub struct Page {
-    pub bytes: [u8; PAGE],
-    pub used: usize,
+struct Page {
+    bytes: [u8; PAGE],
+    used: usize,
+    ghost within: { used ≤ 512 },
 }
 
-// The sequence of the parts, which goes round by steps, and which of the last four stand, as bits.
-#[derive(Clone, Copy)]
-pub struct Sheet {
-    pub start: u64,
-    pub step: u64,
-    pub four: u64,
+// Two parts of the thirteen names, and each of the four of the permitted hours.
+#[derive(Clone, Copy, PartialEq, Eq)]
+enum Part {
+    Unit,
+    Rest,
+    Year,
+    Month,
+    Day,
+    Window,
 }
 
-// What reading the text says: 0, 2 for a part of the four names, or 12.
-pub fn number_for(case: Case, number: u64) -> u64 {
+const PARTS: [Part; 6] = [
+    Part::Unit,
+    Part::Rest,
+    Part::Year,
+    Part::Month,
+    Part::Day,
+    Part::Window,
+];
+
+// The sequence of the parts, and which of the last four stand: a set as bits, as the hour word is.
+#[derive(Clone, Copy)]
+struct Sheet {
+    sequence: [Part; 6],
+    four: u64,
+}
+
+// What reading the text says.
+pub fn reading_of(case: Case, number: u64) -> Result<(), Refusal> {
     if is_part(number) {
-        return 2;
+        return Err(Refusal::Name);
     }
     if !enumerator::date_exists(case) {
-        return 12;
+        return Err(Refusal::Date);
     }
-    0
+    Ok(())
 }
 
 // Whether reading says that, and what is read is planned as expected.
-pub fn same_text(case: Case, number: u64, expected: Expected, scratch: &mut [i64]) -> bool {
-    let page = text_of(case, sheet_of(case, number));
-    let bytes = bytes_of(page);
-    let mut prices = [0i64; ROOM];
-    let answer = casefile::read_into(&bytes[..used_of(page)], &mut prices);
-    let n = enumerator::intervals_of(case);
-    read_agrees(
-        answer,
-        number_for(case, number),
-        &prices[..n],
-        expected,
-        scratch,
-    )
-}
-
-fn read_agrees(
-    answer: CaseRead,
+pub fn same_text(
+    case: Case,
+    hours: Allowed,
     number: u64,
-    prices: &[i64],
     expected: Expected,
     scratch: &mut [i64],
 ) -> bool {
-    match answer {
-        CaseRead::Refused(cause) => commitment::number_of(cause) == number,
-        CaseRead::Case { unit, count } => {
-            (number == 0)
-                & (count == prices.len())
-                & comparison::same_plan(unit, prices, expected, scratch)
+    let page = text_of(case, hours, sheet_of(case, number));
+    let n = enumerator::intervals_of(case);
+    let mut prices = [0i64; ROOM];
+    match (
+        casefile::read_into(page.written(), &mut prices),
+        reading_of(case, number),
+    ) {
+        (Err(cause), Err(refusal)) => same_number(cause, refusal),
+        (Ok(read), Ok(())) => {
+            (read.count == n) & comparison::same_plan(read.unit, &prices[..n], expected, scratch)
         }
+        _ => false,
     }
-}
-
-// As a local, of which a slice can be taken.
-fn bytes_of(page: Page) -> [u8; PAGE] {
-    page.bytes
-}
-
-// Its contract says that the slice is within the page.
-fn used_of(page: Page) -> usize
-    ensures { result ≤ 512 }
-{
-    if PAGE < page.used {
-        return PAGE;
-    }
-    page.used
 }
 
 // ---- the sequence of the names
@@ -96,189 +91,179 @@ fn is_part(number: u64) -> bool {
     number % 5 == 4
 }
 
-// Round from any of the parts, forwards or backwards.
 fn sheet_of(case: Case, number: u64) -> Sheet {
     Sheet {
-        start: number % PARTS,
-        step: 1 + number / PARTS % 2 * 4,
+        sequence: sequence_of(number),
         four: four_of(case, number),
     }
 }
 
-// None or all of the four names, or one to three of them, which is refused with 2.
+// Round from any of the parts, forwards or backwards.
+fn sequence_of(number: u64) -> [Part; 6] {
+    let start = (number % 6) as usize;
+    let step = if number / 6 % 2 == 0 { 1 } else { 5 };
+    array::from_fn(|i| PARTS[(start + i * step) % 6])
+}
+
+// None or all of the four names, or one to three of them, which is refused.
 fn four_of(case: Case, number: u64) -> u64 {
-    let allowed = case.allowed;
     if is_part(number) {
         return number % 14 + 1;
     }
-    15 * one_if(allowed.given)
+    15 * one_if(case.allowed.is_some())
 }
 
-fn stands(sheet: Sheet, part: u64) -> bool
-    requires { part < 6 }
-{
-    if part < 2 {
-        return true;
+fn stands(part: Part, four: u64) -> bool {
+    match part {
+        Part::Unit | Part::Rest => true,
+        Part::Year => four % 2 == 1,
+        Part::Month => four / 2 % 2 == 1,
+        Part::Day => four / 4 % 2 == 1,
+        Part::Window => four / 8 % 2 == 1,
     }
-    (sheet.four >> (part - 2)) % 2 == 1
 }
 
 // ---- the text
 
-fn text_of(case: Case, sheet: Sheet) -> Page {
-    let empty = Page {
-        bytes: [0u8; PAGE],
-        used: 0,
-    };
-    let head = with_row(empty, case, sheet, true);
-    let unit = with_row(head, case, sheet, false);
-    with_prices(with_word(unit, b"\nprice\n"), case)
+// The hours are those drawn, of which a part may stand where the case has none.
+fn text_of(case: Case, hours: Allowed, sheet: Sheet) -> Page {
+    let mut page = Page::new();
+    put_names(&mut page, sheet);
+    put_values(&mut page, case, hours, sheet);
+    page.push_all(b"\nprice\n");
+    put_prices(&mut page, case);
+    page
 }
 
-// A line of the names, or one of the values.
-fn with_row(page: Page, case: Case, sheet: Sheet, names: bool) -> Page {
-    let step = sheet.step % PARTS;
-    let mut part = sheet.start % PARTS;
-    let mut p = page;
-    let mut i = 0;
-    while i < PARTS {
-        p = with_part(p, case, sheet, part, names);
-        part = (part + step) % PARTS;
-        i += 1;
-    }
-    with_byte(p, 10)
-}
-
-fn with_part(page: Page, case: Case, sheet: Sheet, part: u64, names: bool) -> Page
-    requires { part < 6 }
-{
-    if !stands(sheet, part) {
-        return page;
-    }
-    if names {
-        return with_names(with_comma(page), part);
-    }
-    with_values(page, case, part)
-}
-
-fn with_names(page: Page, part: u64) -> Page {
-    match part {
-        0 => with_word(page, b"block,pmin,pmax,mot,mdt,was"),
-        1 => with_word(page, b"held,vec,mlc,suc,starts,hours,mwh"),
-        2 => with_word(page, b"year"),
-        3 => with_word(page, b"month"),
-        4 => with_word(page, b"day"),
-        _ => with_word(page, b"window"),
-    }
-}
-
-fn with_values(page: Page, case: Case, part: u64) -> Page {
-    let allowed = case.allowed;
-    match part {
-        0 => with_unit(page, case),
-        1 => with_rest(page, case),
-        2 => with_figure(page, wide16(allowed.year)),
-        3 => with_figure(page, wide8(allowed.month)),
-        4 => with_figure(page, wide8(allowed.day)),
-        _ => with_figure(page, wide32(allowed.word)),
-    }
-}
-
-fn with_unit(page: Page, case: Case) -> Page {
-    let sizes = with_figure(
-        with_figure(with_figure(page, wide8(case.block)), wide8(case.pmin)),
-        wide8(case.pmax),
-    );
-    let times = with_figure(with_figure(sizes, wide8(case.mot)), wide8(case.mdt));
-    with_figure(times, one_if(case.was_on))
-}
-
-fn with_rest(page: Page, case: Case) -> Page {
-    let starts = case.starts;
-    let hours = case.hours;
-    let mwh = case.mwh;
-    let held = with_figure(page, wide8(case.held));
-    let costs = with_figure(
-        with_figure(with_figure(held, wide16(case.vec)), wide32(case.mlc)),
-        wide32(case.suc),
-    );
-    with_cap(with_cap(with_cap(costs, starts), hours), mwh)
-}
-
-fn with_figure(page: Page, figure: u64) -> Page {
-    with_number(with_comma(page), figure)
-}
-
-fn with_cap(page: Page, cap: Cap) -> Page {
-    if cap.limited {
-        return with_figure(page, wide32(cap.most));
-    }
-    with_word(with_comma(page), b"none")
-}
-
-fn with_prices(page: Page, case: Case) -> Page {
-    let n = enumerator::intervals_of(case);
-    let up = case.up;
-    let down = case.down;
-    let mut p = page;
-    let mut i = 0;
-    while i < n {
-        p = with_byte(with_price(p, wide16(up[i]), wide16(down)), 10);
-        i += 1;
-    }
-    p
-}
-
-fn with_price(page: Page, up: u64, down: u64) -> Page {
-    if up < down {
-        return with_number(with_byte(page, 45), down - up);
-    }
-    with_number(page, up - down)
-}
-
-// ---- bytes: what a page has no room for is left out
-
-// A comma, but where a line begins.
-fn with_comma(page: Page) -> Page {
-    let at = used_of(page);
-    if at == 0 {
-        return page;
-    }
-    if page.bytes[at - 1] == 10 {
-        return page;
-    }
-    with_byte(page, 44)
-}
-
-fn with_byte(page: Page, byte: u8) -> Page {
-    let mut p = page;
-    let at = p.used;
-    if at < PAGE {
-        p.bytes[at] = byte;
-        p.used = at + 1;
-    }
-    p
-}
-
-fn with_word(page: Page, word: &[u8]) -> Page {
-    let mut p = page;
-    let mut i = 0;
-    while i < word.len() {
-        p = with_byte(p, word[i]);
-        i += 1;
-    }
-    p
-}
-
-// A number of at most ten digits, from the first that is not a needless 0.
-fn with_number(page: Page, number: u64) -> Page {
-    let mut p = page;
-    let mut power = 1000000000;
-    while 0 < power {
-        if (power <= number) | (power == 1) {
-            p = with_byte(p, (48 + number / power % 10) as u8);
+fn put_names(page: &mut Page, sheet: Sheet) {
+    for part in sheet.sequence {
+        if stands(part, sheet.four) {
+            page.push_comma();
+            page.push_all(names_of(part));
         }
-        power /= 10;
     }
-    p
+    page.push(b'\n');
+}
+
+fn names_of(part: Part) -> &'static [u8] {
+    match part {
+        Part::Unit => b"block,pmin,pmax,mot,mdt,was",
+        Part::Rest => b"held,vec,mlc,suc,starts,hours,mwh",
+        Part::Year => b"year",
+        Part::Month => b"month",
+        Part::Day => b"day",
+        Part::Window => b"window",
+    }
+}
+
+fn put_values(page: &mut Page, case: Case, hours: Allowed, sheet: Sheet) {
+    for part in sheet.sequence {
+        if stands(part, sheet.four) {
+            put_part(page, part, case, hours);
+        }
+    }
+    page.push(b'\n');
+}
+
+fn put_part(page: &mut Page, part: Part, case: Case, hours: Allowed) {
+    match part {
+        Part::Unit => put_unit(page, case),
+        Part::Rest => put_rest(page, case),
+        Part::Year => page.push_figure(u64::from(hours.year)),
+        Part::Month => page.push_figure(u64::from(hours.month)),
+        Part::Day => page.push_figure(u64::from(hours.day)),
+        Part::Window => page.push_figure(u64::from(hours.word)),
+    }
+}
+
+fn put_unit(page: &mut Page, case: Case) {
+    for size in [case.block, case.pmin, case.pmax, case.mot, case.mdt] {
+        page.push_figure(u64::from(size));
+    }
+    page.push_figure(one_if(case.was_on));
+}
+
+fn put_rest(page: &mut Page, case: Case) {
+    page.push_figure(u64::from(case.held));
+    page.push_figure(u64::from(case.vec));
+    page.push_figure(u64::from(case.mlc));
+    page.push_figure(u64::from(case.suc));
+    let PerLimit { starts, hours, mwh } = case.limits;
+    for cap in [starts, hours, mwh] {
+        put_cap(page, cap);
+    }
+}
+
+fn put_cap(page: &mut Page, cap: Option<u32>) {
+    match cap {
+        Some(most) => page.push_figure(u64::from(most)),
+        None => {
+            page.push_comma();
+            page.push_all(b"none");
+        }
+    }
+}
+
+fn put_prices(page: &mut Page, case: Case) {
+    let n = enumerator::intervals_of(case);
+    for up in &case.up[..n] {
+        if *up < case.down {
+            page.push(b'-');
+        }
+        page.push_number(u64::from(up.abs_diff(case.down)));
+        page.push(b'\n');
+    }
+}
+
+// ---- bytes
+
+impl Page {
+    fn new() -> Page {
+        Page {
+            bytes: [0; PAGE],
+            used: 0,
+        }
+    }
+
+    fn written(&self) -> &[u8] {
+        &self.bytes[..self.used]
+    }
+
+    fn push(&mut self, byte: u8) {
+        if self.used < PAGE {
+            self.bytes[self.used] = byte;
+            self.used += 1;
+        }
+    }
+
+    fn push_all(&mut self, word: &[u8]) {
+        for byte in word {
+            self.push(*byte);
+        }
+    }
+
+    // A comma, but where a line begins.
+    fn push_comma(&mut self) {
+        match self.written().last() {
+            None | Some(b'\n') => {}
+            Some(_) => self.push(b','),
+        }
+    }
+
+    fn push_figure(&mut self, figure: u64) {
+        self.push_comma();
+        self.push_number(figure);
+    }
+
+    // No write to a page fails.
+    fn push_number(&mut self, number: u64) {
+        let _ = write!(self, "{number}");
+    }
+}
+
+impl fmt::Write for Page {
+    fn write_str(&mut self, s: &str) -> fmt::Result {
+        self.push_all(s.as_bytes());
+        Ok(())
+    }
 }

@@ -1,11 +1,11 @@
 -- C11's vec, halves and the tops of all ranges, by the whole answer of `figures`, check and all.
+use Rattle.std.specs.Prelude.{Ok}
 use mathlib.Core.Path.{◌≡◌, refl}
 use mathlib.Core.List.{[], ◌∷◌}
 use Prim.Native.Nat.{ℕ}
 use Rattle.rounding.specs.Rounding.{rounded}
 use Rattle.costs.specs.declared.CostInputs.{CostInputs}
 use Rattle.commitment.specs.Bounds.{most_blocks}
-use Rattle.costs.specs.declared.Costed.TheVariants.{Figures}
 use Rattle.costs.specs.Bounds.{most_tariff, most_rate, most_heat, most_fuel, most_aux, most_minutes, most_adder}
 use Rattle.costs.specs.Ranges.{inputs_kept, segments_kept, inputs_checked}
 use Rattle.costs.specs.Answers.{costed, costed_vec}
@@ -40,8 +40,8 @@ halves gas gmc =
 -- 10.5 and 52.5, 10.5 and 53.5, 11.5 and 53.5
 pub at-halves :
     costed (halves 63 21) [] [] ∷ costed (halves 65 21) [] [] ∷ costed (halves 61 23) [] [] ∷ []
-    ≡ Figures (record { vec = 0; suc = 10; mlc = 52 }) ∷ Figures (record { vec = 0; suc = 10; mlc = 54 })
-    ∷ Figures (record { vec = 0; suc = 12; mlc = 54 }) ∷ []
+    ≡ Ok (record { vec = 0; suc = 10; mlc = 52 }) ∷ Ok (record { vec = 0; suc = 10; mlc = 54 })
+    ∷ Ok (record { vec = 0; suc = 12; mlc = 54 }) ∷ []
 unfolding costed inputs_checked inputs_kept segments_kept rounded
 at-halves = refl
 
@@ -66,6 +66,6 @@ tops =
       load_adder = most_adder;
     }
 
-pub at-the-tops : costed tops [] [] ≡ Figures (record { vec = 0; suc = 2270000000; mlc = 545000000 })
+pub at-the-tops : costed tops [] [] ≡ Ok (record { vec = 0; suc = 2270000000; mlc = 545000000 })
 unfolding costed inputs_checked inputs_kept segments_kept rounded
 at-the-tops = refl

@@ -1,4 +1,5 @@
 -- What the check of the inputs says, as orders of numbers; and so how large the products of the code get.
+use Rattle.std.specs.Prelude.{Ok}
 use mathlib.Core.Path.{◌≡◌}
 use mathlib.Core.Bool.{true, ◌&&◌}
 use mathlib.Core.List.{List}
@@ -12,7 +13,6 @@ use Rattle.costs.specs.Bounds.{most_tariff, most_rate, most_heat, most_segments,
 use Rattle.commitment.specs.Bounds.{most_mw, most_blocks}
 use Rattle.costs.specs.declared.CostInputs.{CostInputs}
 use Rattle.commitment.specs.declared.Cause.TheVariants.{Range, Shape, Segments, Length}
-use Rattle.commitment.specs.declared.Checked.TheVariants.{Passed}
 use Rattle.lists.specs.Every.{every}
 use Rattle.costs.specs.Figures.{total_mw}
 use Rattle.costs.specs.Ranges.{one_to, count_kept, sizes_kept, tariffs_kept, rates_kept, start_kept}
@@ -115,7 +115,7 @@ pub record Accepted (k : CostInputs) (mws heats : List ℕ) : Type 0 where
   pub total : total_mw mws ≡ range_mw k
   pub lengths : length mws ≡ length heats
 
-pub accepted : (k : CostInputs) (mws heats : List ℕ) → inputs_checked k mws heats ≡ Passed → Accepted k mws heats
+pub accepted : (k : CostInputs) (mws heats : List ℕ) → inputs_checked k mws heats ≡ Ok tt → Accepted k mws heats
 unfolding inputs_checked
 accepted k mws heats e =
     let ranges = unless-passed (inputs_kept k && segments_kept mws heats) Range _ e in

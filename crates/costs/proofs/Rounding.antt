@@ -1,4 +1,5 @@
 -- Each figure given is its fraction rounded once, a half to the even neighbour.
+use Rattle.std.specs.Prelude.{Err, Ok}
 use mathlib.Core.Path.{◌≡◌, refl, subst}
 use mathlib.Core.Bool.{true}
 use mathlib.Core.List.{List, [], ◌∷◌}
@@ -8,12 +9,10 @@ use lib.Dec.{lit<}
 use Rattle.rounding.proofs.Rounding.{rounded-half-even}
 use Rattle.commitment.specs.Bounds.{most_mw}
 use Rattle.costs.specs.declared.CostInputs.{CostInputs}
-use Rattle.commitment.specs.declared.Checked.{Checked}
-use Rattle.commitment.specs.declared.Checked.TheVariants as checked
+use Rattle.commitment.specs.Types.{Checked}
 use Rattle.lists.specs.Every.{every}
 use Rattle.costs.specs.Figures.{vec_fraction, suc_fraction, mlc_fraction}
 use Rattle.costs.specs.declared.CostFigures.{CostFigures}
-use Rattle.costs.specs.declared.Costed.TheVariants.{Figures}
 use Rattle.costs.specs.Ranges.{one_to, inputs_checked}
 use Rattle.costs.specs.Rounding.{RoundedOnce}
 use Rattle.costs.specs.Answers.{costed_by, three_figures, costed}
@@ -26,11 +25,11 @@ vec-positive k [] heats e = lit< tt
 vec-positive k (mw ∷ mws) heats e = (vec-worth k (mw ∷ mws) heats (omega arith) (total-some most_mw (mw ∷ mws) e (omega arith))).positive
 
 -- what was answered is what was worked out
-figured : (found : Checked) (worked answer : CostFigures) → costed_by found worked ≡ Figures answer → (found ≡ checked.Passed) × (worked ≡ answer)
-figured checked.Passed worked answer e = (refl, cc)
-figured (checked.Refused cause) worked answer e = let z : ◌≡◌ {A = ℕ} 0 1 = cc in absurd (omega arith)
+figured : (found : Checked) (worked answer : CostFigures) → costed_by found worked ≡ Ok answer → (found ≡ Ok tt) × (worked ≡ answer)
+figured (Ok _) worked answer e = (refl, cc)
+figured (Err cause) worked answer e = let z : ◌≡◌ {A = ℕ} 0 1 = cc in absurd (omega arith)
 
-pub rounded-once : (k : CostInputs) (mws heats : List ℕ) (figures : CostFigures) → costed k mws heats ≡ Figures figures → RoundedOnce k mws heats figures
+pub rounded-once : (k : CostInputs) (mws heats : List ℕ) (figures : CostFigures) → costed k mws heats ≡ Ok figures → RoundedOnce k mws heats figures
 unfolding costed
 rounded-once k mws heats figures e =
     let f = figured (inputs_checked k mws heats) (three_figures k mws heats) figures e in

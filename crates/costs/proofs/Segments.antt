@@ -1,14 +1,13 @@
 -- Sums over the segments: one segment more, and how large they get.
-use mathlib.Core.Path.{◌≡◌, ap}
+use mathlib.Core.Path.{◌≡◌, refl, sym, ap, ap₂, ◌∙◌}
 use mathlib.Core.Bool.{true}
 use mathlib.Core.List.{List, [], ◌∷◌}
 use Prim.Native.Nat.{ℕ, zero, suc, ◌+◌, ◌*◌, ◌^◌, ◌≤◌, ◌<◌}
 use native.Mathlib.Nat.{mul-le-mul, mul-le-mul_left, mul-le-mul_right}
 use native.Mathlib.Omega.{arith}
-use lib.ListN.{length, drop, get_or}
+use lib.ListN.{length}
 use Rattle.costs.specs.Bounds.{most_heat}
 use Rattle.commitment.specs.Bounds.{most_mw}
-use Rattle.lists.proofs.Fills.{drop-next}
 use Rattle.costs.specs.declared.CostInputs.{CostInputs}
 use Rattle.lists.specs.Every.{every}
 use Rattle.costs.specs.Figures.{total_mw}
@@ -19,29 +18,29 @@ use Rattle.costs.proofs.Ranges.{one-to, Accepted, heat-sizes, range-mw}
 
 -- ---- one segment more
 
-pub total-next : (mws : List ℕ) (i : ℕ) → i < length mws → total_mw (drop i mws) ≡ get_or mws i 0 + total_mw (drop (i + 1) mws)
-total-next mws i h = ap total_mw (drop-next mws i 0 h)
-
-at_least_one : (most : ℕ) (xs : List ℕ) (i : ℕ) → every (one_to most) xs ≡ true → i < length xs → 1 ≤ get_or xs i 0
-at_least_one most [] i e h = absurd (omega arith)
-at_least_one most (x ∷ xs) zero e h = (one-to most x (both (one_to most x) (every (one_to most) xs) e).0).0
-at_least_one most (x ∷ xs) (suc i) e h = at_least_one most xs i (both (one_to most x) (every (one_to most) xs) e).1 (omega arith)
-
--- what the segment at i adds, and that its MW do not make it less
-pub record Next (price om : ℕ) (mws heats : List ℕ) (i : ℕ) : Type 0 where
-  pub sum :
-      weighted_units price om (drop i mws) (drop i heats)
-      ≡ get_or mws i 0 * segment_units price om (get_or heats i 0) + weighted_units price om (drop (i + 1) mws) (drop (i + 1) heats)
-  pub unit : segment_units price om (get_or heats i 0) ≤ get_or mws i 0 * segment_units price om (get_or heats i 0)
+-- what the first of the segments left adds, that its MW do not make it less, and that those behind it are as these were
+pub record Next (price om mw heat : ℕ) (mws heats mws' heats' : List ℕ) : Type 0 where
+  pub sum : weighted_units price om mws heats ≡ mw * segment_units price om heat + weighted_units price om mws' heats'
+  pub unit : segment_units price om heat ≤ mw * segment_units price om heat
+  pub kept : every (one_to most_mw) mws' ≡ true
+  pub even : length mws' ≡ length heats'
 
 pub weighted-next :
-    (price om most : ℕ) (mws heats : List ℕ) (i : ℕ) → every (one_to most) mws ≡ true → i < length mws → i < length heats →
-    Next price om mws heats i
-weighted-next price om most mws heats i e h j =
+    (price om mw heat : ℕ) (mws heats mws' heats' : List ℕ) → mws ≡ mw ∷ mws' → heats ≡ heat ∷ heats' →
+    every (one_to most_mw) mws ≡ true → length mws ≡ length heats → Next price om mw heat mws heats mws' heats'
+weighted-next price om mw heat mws heats mws' heats' m h e n =
+    let f = both (one_to most_mw mw) (every (one_to most_mw) mws') (ap (every (one_to most_mw)) (sym m) ∙ e) in
+    let long : suc (length mws') ≡ suc (length heats') = ap length (sym m) ∙ n ∙ ap length h in
     record {
-      sum = rw (drop-next mws i 0 h, drop-next heats i 0 j);
-      unit = omega (arith, mul-le-mul_right (segment_units price om (get_or heats i 0)) (at_least_one most mws i e h));
+      sum = ap₂ (weighted_units price om) m h;
+      unit = omega (arith, mul-le-mul_right (segment_units price om heat) (one-to most_mw mw f.0).0);
+      kept = f.1;
+      even = omega (arith, long);
     }
+
+pub weighted-none : (price om : ℕ) (mws heats : List ℕ) → length mws ≡ 0 → weighted_units price om mws heats ≡ 0
+weighted-none price om [] heats e = refl
+weighted-none price om (mw ∷ mws) heats e = absurd (omega arith)
 
 -- ---- how large
 

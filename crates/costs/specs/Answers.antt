@@ -1,13 +1,11 @@
 -- The answer of `figures` (specification 15): the three figures, or the first cause; with its number and its figures in every case.
-use Rattle.std.specs.Prelude.{List, ℕ}
+use Rattle.std.specs.Prelude.{List, ℕ, Ok, Err}
 use Rattle.costs.specs.declared.CostInputs.{CostInputs}
-use Rattle.commitment.specs.declared.Checked.{Checked}
-use Rattle.commitment.specs.declared.Checked.TheVariants as checked
+use Rattle.commitment.specs.Types.{Checked}
 use Rattle.commitment.specs.Causes.{number_of}
 use Rattle.costs.specs.Figures.{vec_of, suc_of, mlc_of}
 use Rattle.costs.specs.declared.CostFigures.{CostFigures}
-use Rattle.costs.specs.declared.Costed.{Costed}
-use Rattle.costs.specs.declared.Costed.TheVariants.{Figures, Refused}
+use Rattle.costs.specs.Types.{Costed}
 use Rattle.costs.specs.Ranges.{inputs_checked}
 
 -- ---- the answer
@@ -18,26 +16,22 @@ three_figures k mws heats = record { vec = vec_of k mws heats; suc = suc_of k; m
 
 -- the figures where the check finds nothing
 abbrev pub costed_by : Checked → CostFigures → Costed
-costed_by checked.Passed figures = Figures figures
-costed_by (checked.Refused cause) figures = Refused cause
+costed_by (Ok _) figures = Ok figures
+costed_by (Err cause) figures = Err cause
 
 unfoldable pub costed : CostInputs → List ℕ → List ℕ → Costed
 costed k mws heats = costed_by (inputs_checked k mws heats) (three_figures k mws heats)
 
 -- ---- its number and its figures: on a refusal every other number is 0
 
-abbrev pub costed_number : Costed → ℕ
-costed_number (Figures figures) = 0
-costed_number (Refused cause) = number_of cause
-
 abbrev pub costed_vec : Costed → ℕ
-costed_vec (Figures figures) = figures.vec
-costed_vec (Refused cause) = 0
+costed_vec (Ok figures) = figures.vec
+costed_vec (Err cause) = 0
 
 abbrev pub costed_suc : Costed → ℕ
-costed_suc (Figures figures) = figures.suc
-costed_suc (Refused cause) = 0
+costed_suc (Ok figures) = figures.suc
+costed_suc (Err cause) = 0
 
 abbrev pub costed_mlc : Costed → ℕ
-costed_mlc (Figures figures) = figures.mlc
-costed_mlc (Refused cause) = 0
+costed_mlc (Ok figures) = figures.mlc
+costed_mlc (Err cause) = 0

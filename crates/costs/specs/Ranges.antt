@@ -2,7 +2,7 @@
 use Rattle.std.specs.Prelude.{◌≡◌, Bool, true, ◌&&◌, List, [], ◌∷◌, ℕ, ◌-◌, ◌*◌, leb, eqb, length}
 use Rattle.costs.specs.declared.CostInputs.{CostInputs}
 use Rattle.commitment.specs.declared.Cause.TheVariants.{Range, Shape, Segments, Length}
-use Rattle.commitment.specs.declared.Checked.{Checked}
+use Rattle.commitment.specs.Types.{Checked}
 use Rattle.commitment.specs.Causes.{Check, ◌else◌, first_of}
 use Rattle.lists.specs.Every.{every}
 use Rattle.commitment.specs.Bounds.{most_mw, most_blocks}

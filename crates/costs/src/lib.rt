@@ -3,8 +3,7 @@
 
 #![tactic(auto)]
 
-ghost use Rattle.std.specs.Prelude.{◌≡◌, true, ◌*◌, ◌^◌, ◌<◌, ◌≤◌, length};
-ghost use Rattle.commitment.specs.declared.Checked.TheVariants.{Passed};
+ghost use Rattle.std.specs.Prelude.{◌≡◌, true, ◌*◌, ◌^◌, ◌<◌, ◌≤◌, length, Ok};
 ghost use Rattle.lists.specs.Every.{every};
 ghost use Rattle.commitment.specs.Bounds.{most_mw};
 ghost use Rattle.costs.specs.Figures.{vec_of, suc_of, mlc_of, total_mw};
@@ -16,7 +15,7 @@ ghost use Rattle.costs.specs.Answers.{costed, three_figures};
 ghost use Rattle.costs.specs.Sizes.{HeatSizes, StartSizes, LoadSizes};
 ghost use Rattle.costs.specs.Numerators.{heat_price, weighted_units, suc_units, mlc_units};
 
-use commitment::{Cause, Checked, MOST_BLOCKS, MOST_MW};
+use commitment::{Cause, MOST_BLOCKS, MOST_MW};
 
 // The ends of the ranges that the unit record does not have. specs/Bounds.antt has the same.
 pub const MOST_TARIFF: u64 = 10000;
@@ -64,79 +63,70 @@ pub struct CostFigures {
     pub mlc: u64,
 }
 
-// What `figures` answers. specs/Answers.antt gives the number and the figures of each case.
-#[derive(Clone, Copy)]
-pub enum Costed {
-    Figures(CostFigures),
-    Refused(Cause),
-}
-
 // The three figures, or the first cause for which there are none: 3, 4, 6 or 7.
-pub fn figures(inputs: CostInputs, mws: &[u64], heats: &[u64]) -> Costed
+pub fn figures(inputs: CostInputs, mws: &[u64], heats: &[u64]) -> Result<CostFigures, Cause>
     ensures { result ≡ costed inputs mws.now heats.now }
 {
-    let found = check_inputs(inputs, mws, heats);
-    match found {
-        Checked::Refused(cause) => Costed::Refused(cause),
-        Checked::Passed => Costed::Figures(three_figures(inputs, mws, heats)),
-    }
+    check_inputs(inputs, mws, heats)?;
+    Ok(three_figures(inputs, mws, heats))
 }
 
 // Of inputs that passed the check, so that every product fits.
 fn three_figures(inputs: CostInputs, mws: &[u64], heats: &[u64]) -> CostFigures
-    requires { inputs_checked inputs mws.now heats.now ≡ Passed }
+    requires { inputs_checked inputs mws.now heats.now ≡ Ok tt }
     ensures { result ≡ three_figures inputs mws.now heats.now }
 {
-    let vec = vec_of(inputs, mws, heats);
-    let suc = suc_of(inputs);
-    let mlc = mlc_of(inputs);
-    CostFigures { vec, suc, mlc }
+    CostFigures {
+        vec: vec_of(inputs, mws, heats),
+        suc: suc_of(inputs),
+        mlc: mlc_of(inputs),
+    }
 }
 
 // ---- the check
 
 // 3 comes first: figures in their ranges can be multiplied.
-fn check_inputs(inputs: CostInputs, mws: &[u64], heats: &[u64]) -> Checked
+fn check_inputs(inputs: CostInputs, mws: &[u64], heats: &[u64]) -> Result<(), Cause>
     ensures { result ≡ inputs_checked inputs mws.now heats.now }
 {
     if !(inputs_kept(inputs) & segments_kept(mws, heats)) {
-        return Checked::Refused(Cause::Range);
+        return Err(Cause::Range);
     }
     check_outputs(inputs, mws, heats)
 }
 
 // 4, of sizes in their ranges.
-fn check_outputs(inputs: CostInputs, mws: &[u64], heats: &[u64]) -> Checked
+fn check_outputs(inputs: CostInputs, mws: &[u64], heats: &[u64]) -> Result<(), Cause>
     requires { Ranged inputs mws.now heats.now }
     ensures { result ≡ first_of (output_checks inputs mws.now heats.now) }
 {
     if !outputs_kept(inputs) {
-        return Checked::Refused(Cause::Shape);
+        return Err(Cause::Shape);
     }
     check_total(inputs, mws, heats)
 }
 
 // Outputs that are kept have a range of MW, and the segments a sum.
-fn check_total(inputs: CostInputs, mws: &[u64], heats: &[u64]) -> Checked
+fn check_total(inputs: CostInputs, mws: &[u64], heats: &[u64]) -> Result<(), Cause>
     requires { (Ranged inputs mws.now heats.now) × (outputs_kept inputs ≡ true) }
     ensures { result ≡ first_of (total_checks inputs mws.now heats.now) }
 {
     let total = total_mw(mws);
     let range = (inputs.pmax - inputs.pmin) * inputs.block;
     if total != range {
-        return Checked::Refused(Cause::Segments);
+        return Err(Cause::Segments);
     }
     check_lengths(mws.len(), heats.len())
 }
 
 // The last cause.
-fn check_lengths(mws: usize, heats: usize) -> Checked
+fn check_lengths(mws: usize, heats: usize) -> Result<(), Cause>
     ensures { result ≡ first_of (length_checks mws heats) }
 {
     if mws != heats {
-        return Checked::Refused(Cause::Length);
+        return Err(Cause::Length);
     }
-    Checked::Passed
+    Ok(())
 }
 
 fn inputs_kept(inputs: CostInputs) -> bool
@@ -193,14 +183,7 @@ fn segments_kept(mws: &[u64], heats: &[u64]) -> bool
 pub fn every_one_to(most: u64, list: &[u64]) -> bool
     ensures { result ≡ every (one_to most) list.now }
 {
-    let mut i = 0;
-    while i < list.len() {
-        if !one_to(most, list[i]) {
-            return false;
-        }
-        i += 1;
-    }
-    true
+    list.iter().all(|n| one_to(most, *n))
 }
 
 fn one_to(most: u64, n: u64) -> bool
@@ -222,13 +205,7 @@ fn total_mw(mws: &[u64]) -> u64
     requires { total_mw mws.now ≤ most_mw * most_segments }
     ensures { result ≡ total_mw mws.now }
 {
-    let mut total = 0;
-    let mut i = 0;
-    while i < mws.len() {
-        total += mws[i];
-        i += 1;
-    }
-    total
+    mws.iter().sum()
 }
 
 // ---- the figures
@@ -246,7 +223,7 @@ const START_UNITS: u64 = 120 * RATE_UNITS;
 
 // (1)
 fn vec_of(inputs: CostInputs, mws: &[u64], heats: &[u64]) -> u64
-    requires { inputs_checked inputs mws.now heats.now ≡ Passed }
+    requires { inputs_checked inputs mws.now heats.now ≡ Ok tt }
     ensures { result ≡ vec_of inputs mws.now heats.now }
 {
     if mws.len() == 0 {
@@ -274,11 +251,8 @@ fn weighted_units(price: u64, om: u64, mws: &[u64], heats: &[u64]) -> u64
     ensures { result ≡ weighted_units price om mws.now heats.now }
 {
     let mut sum = 0;
-    let mut i = 0;
-    while i < mws.len() {
-        let mw = mws[i];
-        sum += mw * (heats[i] * price + om * UNITS);
-        i += 1;
+    for (mw, heat) in mws.iter().zip(heats) {
+        sum += mw * (heat * price + om * UNITS);
     }
     sum
 }

@@ -1,4 +1,5 @@
 -- The request's examples by the definitions, check and all.
+use Rattle.std.specs.Prelude.{Err, Ok}
 use mathlib.Core.Path.{◌≡◌, refl}
 use mathlib.Core.List.{List, [], ◌∷◌}
 use Prim.Native.Nat.{ℕ, ◌*◌}
@@ -8,8 +9,7 @@ use Rattle.rounding.specs.Rounding.{roundedℤ}
 use Rattle.commitment.specs.declared.Cause.TheVariants.{Range, Levels, Length}
 use Rattle.curves.specs.declared.CurveInputs.{CurveInputs}
 use Rattle.curves.specs.declared.Segment.{Segment}
-use Rattle.curves.specs.declared.Curved.{Curved}
-use Rattle.curves.specs.declared.Curved.TheVariants.{Segments, Refused}
+use Rattle.curves.specs.Types.{Curved}
 use Rattle.curves.specs.Ranges.{points_kept, curve_checked}
 use Rattle.curves.specs.Curve.{incremental_rate, own_price, segment, final_curve}
 use Rattle.curves.specs.Answers.{curved}
@@ -57,6 +57,6 @@ answer levels rates room = curved (inputs 550 280 50 2500) levels rates room
 pub answered :
     answer levels rates 2 ∷ answer levels rates 1 ∷ answer (2 ∷ 1 ∷ []) rates 0 ∷ answer (2 ∷ 3 ∷ []) rates 9
     ∷ answer (3 ∷ 3 ∷ 501 ∷ []) rates 0 ∷ []
-    ≡ Segments 2 ∷ Refused Length ∷ Refused Levels ∷ Refused Length ∷ Refused Range ∷ []
+    ≡ Ok 2 ∷ Err Length ∷ Err Levels ∷ Err Length ∷ Err Range ∷ []
 unfolding curved curve_checked points_kept final_curve own_price roundedℤ maxℤ
 answered = refl

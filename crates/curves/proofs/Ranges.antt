@@ -1,9 +1,11 @@
 -- What the check of the inputs says, as orders of numbers.
-use mathlib.Core.Path.{◌≡◌, refl}
-use mathlib.Core.Bool.{true, false, ◌&&◌}
+use Rattle.std.specs.Prelude.{Ok}
+use mathlib.Core.Path.{◌≡◌, refl, sym}
+use mathlib.Core.Bool.{and-false, Bool, true, false, ◌&&◌}
 use mathlib.Core.List.{List, [], ◌∷◌}
 use Prim.Native.Nat.{ℕ, zero, suc, ◌+◌, ◌-◌, ◌≤◌, ◌<◌}
 use native.Mathlib.Numerals.{add-one}
+use native.Mathlib.Numerals.{unary_clauses}
 use native.Mathlib.Omega.{arith}
 use borrow.Author.Tests.{leb-true, ltb-true, eqb-true, lt-ltb, le-ltb}
 use lib.Dec.{leb, ltb, eqb}
@@ -13,7 +15,6 @@ use Rattle.lists.proofs.Conjunctions.{both}
 use Rattle.lists.proofs.Every.{every-at}
 use Rattle.lists.proofs.Fills.{drop-next}
 use Rattle.commitment.specs.declared.Cause.TheVariants.{Range, Levels, Length}
-use Rattle.commitment.specs.declared.Checked.TheVariants.{Passed}
 use Rattle.commitment.specs.Bounds.{most_mw}
 use Rattle.commitment.proofs.Causes.{unless-passed}
 use Rattle.costs.specs.Bounds.{most_tariff, most_heat}
@@ -24,18 +25,26 @@ use Rattle.curves.specs.Bounds.{fewest_points, most_points, most_bid_adder}
 use Rattle.curves.specs.Ranges.{inputs_kept, count_kept, points_kept, rising_from, rising, lengths_kept, curve_checked}
 use Rattle.curves.specs.Sizes.{InputSizes, PointSizes}
 
--- ---- levels that rise, one more
+-- ---- levels that rise
 
-pub rising-start : (levels : List ℕ) → rising_from (get_or levels 0 0) (drop 1 levels) ≡ rising levels
-rising-start [] = refl
-rising-start (level ∷ levels) = refl
-
-module _ (level : ℕ) (levels : List ℕ) (i : ℕ) (h : i < length levels) where
-  pub rising-on : level < get_or levels i 0 → rising_from (get_or levels i 0) (drop (i + 1) levels) ≡ rising_from level (drop i levels)
-  rising-on l = rw (drop-next levels i 0 h) (simp (lt-ltb level (get_or levels i 0) l))
-
-  pub rising-stops : get_or levels i 0 ≤ level → false ≡ rising_from level (drop i levels)
-  rising-stops l = rw (drop-next levels i 0 h) (simp (le-ltb level (get_or levels i 0) l))
+-- each is below the next, or one is not
+pub rises :
+    (levels : List ℕ) (r : Bool) → (r ≡ true → (i : ℕ) → i + 1 < length levels → get_or levels i 0 < get_or levels (i + 1) 0) →
+    (r ≡ false → (i : ℕ) × (i + 1 < length levels) × (get_or levels (i + 1) 0 ≤ get_or levels i 0)) → r ≡ rising levels
+rises [] true up down = refl
+rises [] false up down = absurd (let h = (down refl).1 in omega arith)
+rises (level ∷ levels) true up down = sym (climbs level levels (λ i h. simp unary_clauses at (up refl i (omega arith))))
+  where
+    climbs : (level : ℕ) (levels : List ℕ) → ((i : ℕ) → i < length levels → get_or (level ∷ levels) i 0 < get_or levels i 0) → rising_from level levels ≡ true
+    climbs level [] up = refl
+    climbs level (next ∷ levels) up =
+        simp (lt-ltb level next (up 0 (omega arith))) (climbs next levels (λ i h. up (suc i) (omega arith)))
+rises (level ∷ levels) false up down = let d = down refl in sym (falls level levels d.0 (omega (arith, d.1)) (simp unary_clauses at d.2))
+  where
+    falls : (level : ℕ) (levels : List ℕ) (i : ℕ) → i < length levels → get_or levels i 0 ≤ get_or (level ∷ levels) i 0 → rising_from level levels ≡ false
+    falls level [] i h l = absurd (omega arith)
+    falls level (next ∷ levels) zero h l = simp (le-ltb level next l)
+    falls level (next ∷ levels) (suc i) h l = simp (falls next levels i (omega arith) l) (and-false (ltb level next))
 
 -- each level is below the next
 pub rises-at : (levels : List ℕ) (i : ℕ) → rising levels ≡ true → i + 1 < length levels → get_or levels i 0 < get_or levels (i + 1) 0
@@ -93,7 +102,7 @@ pub record Accepted (k : CurveInputs) (levels rates : List ℕ) (room : ℕ) : T
   pub fits : length levels - 1 ≤ room
 
 pub accepted :
-    (k : CurveInputs) (levels rates : List ℕ) (room : ℕ) → curve_checked k levels rates room ≡ Passed →
+    (k : CurveInputs) (levels rates : List ℕ) (room : ℕ) → curve_checked k levels rates room ≡ Ok tt →
     Accepted k levels rates room
 unfolding curve_checked
 accepted k levels rates room e =

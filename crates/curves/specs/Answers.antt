@@ -1,12 +1,10 @@
 -- The answer of `curve_into` and the three lent lists after it (specification 14, 15).
-use Rattle.std.specs.Prelude.{List, map, ◌++◌, ℕ, min, ℤ, length, drop}
-use Rattle.commitment.specs.declared.Checked.{Checked}
-use Rattle.commitment.specs.declared.Checked.TheVariants as checked
+use Rattle.std.specs.Prelude.{List, map, ◌++◌, ℕ, min, ℤ, length, drop, Ok, Err}
+use Rattle.commitment.specs.Types.{Checked}
 use Rattle.commitment.specs.Causes.{number_of}
 use Rattle.curves.specs.declared.CurveInputs.{CurveInputs}
 use Rattle.curves.specs.declared.Segment.{Segment}
-use Rattle.curves.specs.declared.Curved.{Curved}
-use Rattle.curves.specs.declared.Curved.TheVariants.{Segments, Refused}
+use Rattle.curves.specs.Types.{Curved}
 use Rattle.curves.specs.Ranges.{curve_checked}
 use Rattle.curves.specs.Curve.{final_curve}
 
@@ -17,8 +15,8 @@ room froms tos prices = min (length froms) (min (length tos) (length prices))
 -- ---- the answer
 
 abbrev pub curved_by : Checked → List Segment → Curved
-curved_by checked.Passed curve = Segments (length curve)
-curved_by (checked.Refused cause) curve = Refused cause
+curved_by (Ok _) curve = Ok (length curve)
+curved_by (Err cause) curve = Err cause
 
 unfoldable pub curved : CurveInputs → List ℕ → List ℕ → ℕ → Curved
 curved k levels rates entries = curved_by (curve_checked k levels rates entries) (final_curve k levels rates)
@@ -29,8 +27,8 @@ abbrev pub filled : {A : Type 0} → (Segment → A) → List Segment → List A
 filled part curve was = map part curve ++ drop (length curve) was
 
 abbrev pub left_by : {A : Type 0} → Checked → (Segment → A) → List Segment → List A → List A
-left_by checked.Passed part curve was = filled part curve was
-left_by (checked.Refused cause) part curve was = was
+left_by (Ok _) part curve was = filled part curve was
+left_by (Err cause) part curve was = was
 
 unfoldable pub curve_left : {A : Type 0} → CurveInputs → List ℕ → List ℕ → ℕ → (Segment → A) → List A → List A
 curve_left k levels rates entries part was = left_by (curve_checked k levels rates entries) part (final_curve k levels rates) was
@@ -56,10 +54,6 @@ prices_left k levels rates froms tos prices = curve_left k levels rates (room fr
 
 -- ---- its number and its count: 0 on a refusal
 
-abbrev pub curved_number : Curved → ℕ
-curved_number (Segments count) = 0
-curved_number (Refused cause) = number_of cause
-
 abbrev pub curved_count : Curved → ℕ
-curved_count (Segments count) = count
-curved_count (Refused cause) = 0
+curved_count (Ok count) = count
+curved_count (Err cause) = 0

@@ -2,7 +2,7 @@
 use Rattle.std.specs.Prelude.{Bool, true, ◌&&◌, List, [], ◌∷◌, ℕ, ◌-◌, leb, ltb, eqb, length}
 use Rattle.lists.specs.Every.{every}
 use Rattle.commitment.specs.declared.Cause.TheVariants.{Range, Levels, Length}
-use Rattle.commitment.specs.declared.Checked.{Checked}
+use Rattle.commitment.specs.Types.{Checked}
 use Rattle.commitment.specs.Bounds.{most_mw}
 use Rattle.commitment.specs.Causes.{Check, ◌else◌, first_of}
 use Rattle.costs.specs.Bounds.{most_tariff, most_heat}

@@ -3,8 +3,7 @@
 
 #![tactic(auto)]
 
-ghost use Rattle.std.specs.Prelude.{◌≡◌, true, cond, ◌+◌, ◌<◌, length, set, get_or};
-ghost use Rattle.commitment.specs.declared.Checked.TheVariants.{Passed};
+ghost use Rattle.std.specs.Prelude.{◌≡◌, true, cond, ◌+◌, ◌<◌, length, set, get_or, Ok};
 ghost use Rattle.curves.specs.Ranges as ranges;
 ghost use Rattle.commitment.specs.Causes.{first_of};
 ghost use Rattle.curves.specs.Ranges.{inputs_kept, count_kept, points_kept, level_checks, length_checks, curve_checked};
@@ -15,7 +14,7 @@ ghost use Rattle.curves.specs.Sizes.{InputSizes, PointSizes};
 ghost use Rattle.curves.specs.Passes as passes;
 ghost use Rattle.curves.specs.Passes.{own_at, open_after, stored};
 
-use commitment::{Cause, Checked, MOST_MW};
+use commitment::{Cause, MOST_MW};
 use costs::{HEAT_UNITS, MOST_HEAT, MOST_TARIFF};
 
 // The ends of the ranges that bid curves alone have. specs/Bounds.antt has the same.
@@ -43,14 +42,7 @@ pub struct Segment {
     pub price: i64,
 }
 
-// What `curve_into` answers. specs/Answers.antt gives the number and the count of each case.
-#[derive(Clone, Copy)]
-pub enum Curved {
-    Segments(usize),
-    Refused(Cause),
-}
-
-// The final curve, a segment in the same place of the three lists; or 3, 11 or 7.
+// The final curve, a segment in the same place of the three lists, and how many there are; or 3, 11 or 7.
 pub fn curve_into(
     inputs: CurveInputs,
     levels: &[u64],
@@ -58,7 +50,7 @@ pub fn curve_into(
     froms: &mut [u64],
     tos: &mut [u64],
     prices: &mut [i64],
-) -> Curved
+) -> Result<usize, Cause>
     ensures value { result
         ≡ curved inputs levels.now rates.now (answers.room froms.old tos.old prices.old) }
     ensures froms_after { froms.new
@@ -69,44 +61,42 @@ pub fn curve_into(
         ≡ prices_left inputs levels.now rates.now froms.old tos.old prices.old }
 {
     let room = integers::smaller(froms.len(), integers::smaller(tos.len(), prices.len()));
-    match check_curve(inputs, levels, rates, room) {
-        Checked::Refused(cause) => Curved::Refused(cause),
-        Checked::Passed => Curved::Segments(fill(inputs, levels, rates, froms, tos, prices)),
-    }
+    check_curve(inputs, levels, rates, room)?;
+    Ok(fill(inputs, levels, rates, froms, tos, prices))
 }
 
 // ---- the check
 
 // 3 comes first: lists in their ranges can be walked.
-fn check_curve(inputs: CurveInputs, levels: &[u64], rates: &[u64], room: usize) -> Checked
+fn check_curve(inputs: CurveInputs, levels: &[u64], rates: &[u64], room: usize) -> Result<(), Cause>
     ensures { result ≡ curve_checked inputs levels.now rates.now room }
 {
     if !(inputs_kept(inputs) & points_kept(levels, rates)) {
-        return Checked::Refused(Cause::Range);
+        return Err(Cause::Range);
     }
     check_levels(levels, rates, room)
 }
 
 // Levels that rise differ, so that a price can be divided by their difference.
-fn check_levels(levels: &[u64], rates: &[u64], room: usize) -> Checked
+fn check_levels(levels: &[u64], rates: &[u64], room: usize) -> Result<(), Cause>
     requires { points_kept levels.now rates.now ≡ true }
     ensures { result ≡ first_of (level_checks levels.now rates.now room) }
 {
     if !rising(levels) {
-        return Checked::Refused(Cause::Levels);
+        return Err(Cause::Levels);
     }
     check_lengths(levels, rates, room)
 }
 
 // There are points, so that one can be taken from their number.
-fn check_lengths(levels: &[u64], rates: &[u64], room: usize) -> Checked
+fn check_lengths(levels: &[u64], rates: &[u64], room: usize) -> Result<(), Cause>
     requires { points_kept levels.now rates.now ≡ true }
     ensures { result ≡ first_of (length_checks levels.now rates.now room) }
 {
     if !((levels.len() == rates.len()) & (levels.len() - 1 <= room)) {
-        return Checked::Refused(Cause::Length);
+        return Err(Cause::Length);
     }
-    Checked::Passed
+    Ok(())
 }
 
 fn inputs_kept(inputs: CurveInputs) -> bool
@@ -138,14 +128,7 @@ fn count_kept(n: usize) -> bool
 fn rising(levels: &[u64]) -> bool
     ensures { result ≡ ranges.rising levels.now }
 {
-    let mut i = 1;
-    while i < levels.len() {
-        if levels[i] <= levels[i - 1] {
-            return false;
-        }
-        i += 1;
-    }
-    true
+    levels.windows(2).all(|pair| pair[0] < pair[1])
 }
 
 // ---- the curve
@@ -159,7 +142,7 @@ fn fill(
     tos: &mut [u64],
     prices: &mut [i64],
 ) -> usize
-    requires { curve_checked inputs levels.now rates.now (answers.room froms.old tos.old prices.old) ≡ Passed }
+    requires { curve_checked inputs levels.now rates.now (answers.room froms.old tos.old prices.old) ≡ Ok tt }
     ensures value { result ≡ length (final_curve inputs levels.now rates.now) }
     ensures froms_after { froms.new ≡ filled from_of (final_curve inputs levels.now rates.now) froms.old }
     ensures tos_after { tos.new ≡ filled to_of (final_curve inputs levels.now rates.now) tos.old }
@@ -194,11 +177,9 @@ fn open_after(closed: bool, last: Segment, next: Segment) -> Segment
     if closed {
         return next;
     }
-    let price = last.price;
     Segment {
-        from: last.from,
         to: next.to,
-        price,
+        ..last
     }
 }
 
@@ -231,10 +212,9 @@ fn put(segment: Segment, at: usize, froms: &mut [u64], tos: &mut [u64], prices: 
     ensures tos_after { tos.new ≡ set tos.old at segment.to }
     ensures prices_after { prices.new ≡ set prices.old at segment.price }
 {
-    let price = segment.price;
     froms[at] = segment.from;
     tos[at] = segment.to;
-    prices[at] = price;
+    prices[at] = segment.price;
 }
 
 // ---- a segment's own price

@@ -1,5 +1,5 @@
 -- The tally: numbers of 64 bits that count, and what a case, its expected answer and the calls' answers add to them.
-use Rattle.std.specs.Prelude.{ℕ, ◌+◌, ◌%◌, ◌^◌, Bool, cond, not, replicate}
+use Rattle.std.specs.Prelude.{ℕ, ◌+◌, ◌%◌, ◌^◌, Bool, cond, not, replicate, [], ◌∷◌, fold}
 use Rattle.enumeration.specs.declared.tally.Agreed.{Agreed}
 use Rattle.enumeration.specs.declared.tally.Tally.{Tally}
 
@@ -22,12 +22,10 @@ nothing =
       dates = replicate 5 0;
       texts = replicate 3 0;
       limited = replicate 8 0;
-      starts = replicate 6 0;
-      hours = replicate 6 0;
-      mwh = replicate 6 0;
+      worths = record { starts = replicate 6 0; hours = replicate 6 0; mwh = replicate 6 0 };
     }
 
 -- each call that does not agree is a difference
 abbrev pub differing : ℕ → Agreed → ℕ
 differing count agreed =
-    counted (counted (counted (counted count (not agreed.plan)) (not agreed.value)) (not agreed.report)) (not agreed.assess)
+    fold (λ n agrees. counted n (not agrees)) count (agreed.plan ∷ agreed.value ∷ agreed.report ∷ agreed.assess ∷ [])

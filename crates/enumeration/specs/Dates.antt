@@ -1,7 +1,9 @@
 -- The days on which time changes, and which dates exist.
-use Rattle.std.specs.Prelude.{ℕ, ◌+◌, ◌*◌, ◌/◌, ◌%◌, Bool, cond, not, ◌&&◌, ◌||◌, ◌==◌, nat_le, nat_lt}
+use Rattle.std.specs.Prelude.{ℕ, ◌+◌, ◌*◌, ◌/◌, ◌%◌, Bool, true, cond, Option, None, Some, ◌&&◌, ◌||◌, ◌==◌, nat_le, nat_lt}
 use Rattle.enumeration.specs.declared.enumerator.Allowed.{Allowed}
 use Rattle.enumeration.specs.declared.enumerator.Case.{Case}
+use Rattle.enumeration.specs.declared.expectation.Refusal.{Refusal}
+use Rattle.enumeration.specs.declared.expectation.Refusal.TheVariants.{Date}
 
 -- Zeller's congruence, for a year from 2000 to 2099 and a month from March on
 abbrev pub is_sunday : Allowed → Bool
@@ -21,10 +23,14 @@ of_thirty month = month == 4 || month == 6 || month == 9 || month == 11
 abbrev pub days_of : Allowed → ℕ
 days_of a = cond (a.month == 2) (28 + cond (a.year % 4 == 0) 1 0) (cond (of_thirty a.month) 30 31)
 
+abbrev on_a_day : Option Allowed → Bool
+on_a_day None = true
+on_a_day (Some a) = nat_le a.day (days_of a)
+
 -- a date that is given is one of its month
 unfoldable pub date_exists : Case → Bool
-date_exists case = not case.allowed.given || nat_le case.allowed.day (days_of case.allowed)
+date_exists case = on_a_day case.allowed
 
--- a call's number, or 12 where the date does not exist
-abbrev pub refusal_of : Case → ℕ → ℕ
-refusal_of case number = cond (date_exists case) number 12
+-- a call's refusal, or that of a date that does not exist
+abbrev pub refusal_of : Case → Refusal → Refusal
+refusal_of case refusal = cond (date_exists case) refusal Date

@@ -1,36 +1,45 @@
 // Every list of outputs of a small case, tried in order (specification 7) and judged by the rules of specification 4 to 6. It shares nothing with the planner.
 // Money is kept as what is earned and what is spent, two natural numbers, so that no sum is signed.
 
-ghost use Rattle.std.specs.Prelude.{◌≡◌, ◌+◌, ◌*◌, ◌/◌, ◌^◌, ◌<◌, ◌≤◌};
+ghost use Rattle.std.specs.Prelude.{◌≡◌, ◌+◌, ◌*◌, ◌/◌, ◌^◌, ◌<◌, ◌≤◌, length};
 ghost use Rattle.enumeration.specs.Lists.{room, most_outputs, intervals_of, outputs_of, output_of, lists_of, in_front};
 ghost use Rattle.enumeration.specs.Dates.{is_sunday, goes_forward, goes_back, days_of, date_exists};
 ghost use Rattle.enumeration.specs.Expecting.{Summed, OneMore, cap_of, earnings, WorthOf};
+ghost use Rattle.enumeration.specs.Limits.{for_limit, with_limit};
 
-use crate::numbers::{difference, one_if, times, wide8, wide16, wide32};
+use crate::found::Found;
+use crate::numbers::{difference, one_if, times};
 
 // The intervals that a list has room for, so that the third hour of the day is reached, and the outputs of an interval. specs/Lists.antt has the same.
 pub const ROOM: usize = 9;
 
 const MOST_OUTPUTS: u64 = 64;
 
-// A limitation: at most so much, where it is limited.
-#[derive(Clone, Copy)]
-pub struct Cap {
-    pub limited: bool,
-    pub most: u32,
+#[derive(Clone, Copy, PartialEq, Eq)]
+pub enum Which {
+    Starts,
+    Hours,
+    Mwh,
 }
 
-// The permitted hours, where they are given: the date whose midnight opens interval 1, and the word whose bit h allows clock hour h.
+// A value for each limitation.
+#[derive(Clone, Copy, PartialEq, Eq)]
+pub struct PerLimit<T> {
+    pub starts: T,
+    pub hours: T,
+    pub mwh: T,
+}
+
+// The permitted hours: the date whose midnight opens interval 1, and the word whose bit h allows clock hour h.
 #[derive(Clone, Copy)]
 pub struct Allowed {
-    pub given: bool,
     pub year: u16,
     pub month: u8,
     pub day: u8,
     pub word: u32,
 }
 
-// A case in plain numbers. The price of interval i + 1 is up[i] − down.
+// A case in plain numbers: each limitation and the permitted hours where there are any. The price of interval i + 1 is up[i] − down.
 #[derive(Clone, Copy)]
 pub struct Case {
     pub intervals: u8,
@@ -44,26 +53,14 @@ pub struct Case {
     pub vec: u16,
     pub mlc: u32,
     pub suc: u32,
-    pub starts: Cap,
-    pub hours: Cap,
-    pub mwh: Cap,
-    pub allowed: Allowed,
+    pub limits: PerLimit<Option<u32>>,
+    pub allowed: Option<Allowed>,
     pub up: [u16; ROOM],
     pub down: u16,
 }
 
-// A list that keeps the case, by its number, with what it earns and spends; whether another one ties with it.
-#[derive(Clone, Copy)]
-pub struct Found {
-    pub any: bool,
-    pub tied: bool,
-    pub number: u64,
-    pub earned: u64,
-    pub spent: u64,
-}
-
-// What the intervals of a list add up to, and whether the last of them is on.
-#[derive(Clone, Copy)]
+// What the intervals of a list add up to, and whether the last of them is on. Its bounds stand in contracts and not here, since they grow with the intervals.
+#[derive(Clone, Copy, Default)]
 pub struct Sums {
     pub on: bool,
     pub starts: u64,
@@ -73,20 +70,38 @@ pub struct Sums {
     pub spent: u64,
 }
 
-#[derive(Clone, Copy)]
-pub enum Which {
-    Starts,
-    Hours,
-    Mwh,
-}
-
 // What a limitation is worth: the four outcomes (specification 9).
-#[derive(Clone, Copy)]
+#[derive(Clone, Copy, PartialEq, Eq)]
 pub enum Worth {
     None,
     Empty,
     Never,
     Gap(i64),
+}
+
+impl<T: Copy> PerLimit<T> {
+    pub fn of(self, which: Which) -> T
+        ensures { result ≡ for_limit self which }
+    {
+        match which {
+            Which::Starts => self.starts,
+            Which::Hours => self.hours,
+            Which::Mwh => self.mwh,
+        }
+    }
+
+    // With another value for one limitation, the other two as they are.
+    pub fn with(self, which: Which, value: T) -> PerLimit<T>
+        ensures { result ≡ with_limit self which value }
+    {
+        let mut limits = self;
+        match which {
+            Which::Starts => limits.starts = value,
+            Which::Hours => limits.hours = value,
+            Which::Mwh => limits.mwh = value,
+        }
+        limits
+    }
 }
 
 // ---- the lists, by number
@@ -95,27 +110,17 @@ pub enum Worth {
 pub fn intervals_of(case: Case) -> usize
     ensures { (result ≡ intervals_of case) × (result ≤ room) }
 {
-    let n = case.intervals as usize;
-    if ROOM < n {
-        return ROOM;
-    }
-    n
+    usize::from(case.intervals).min(ROOM)
 }
 
 // Off, or pmin to pmax blocks.
 fn outputs_of(case: Case) -> u64
     ensures { (result ≡ outputs_of case) × (1 ≤ result) × (result ≤ most_outputs) }
 {
-    let low = wide8(case.pmin);
-    let high = wide8(case.pmax);
-    if high < low {
+    if case.pmax < case.pmin {
         return 1;
     }
-    let outputs = high - low + 2;
-    if MOST_OUTPUTS < outputs {
-        return MOST_OUTPUTS;
-    }
-    outputs
+    (u64::from(case.pmax - case.pmin) + 2).min(MOST_OUTPUTS)
 }
 
 // Output 0 is off, output 1 is pmin × block, and so on up.
@@ -126,34 +131,25 @@ fn output_of(case: Case, choice: u64) -> u64
     if choice == 0 {
         return 0;
     }
-    (wide8(case.pmin) + choice - 1) * wide8(case.block)
+    (u64::from(case.pmin) + choice - 1) * u64::from(case.block)
 }
 
 // How many lists there are.
 pub fn lists_of(case: Case) -> u64
     ensures { result ≡ lists_of case }
 {
-    let n = intervals_of(case);
-    let outputs = outputs_of(case);
-    let mut lists = 1;
-    let mut i = 0;
-    while i < n {
-        lists *= outputs;
-        i += 1;
-    }
-    lists
+    outputs_of(case).pow(intervals_of(case) as u32)
 }
 
-// The number's digits, the first interval's the most significant: counting up goes by the order of schedules.
+// The number's digits, the first interval's the most significant: counting up goes by the order of schedules. An array and no slice: the contract
+// says what stands past the intervals, too.
 pub fn list_of(case: Case, number: u64) -> [u32; ROOM]
     ensures { result ≡ in_front case number 0 }
 {
     let outputs = outputs_of(case);
     let mut list = [0u32; ROOM];
     let mut rest = number;
-    let mut i = intervals_of(case);
-    while 0 < i {
-        i -= 1;
+    for i in (0..intervals_of(case)).rev() {
         list[i] = output_of(case, rest % outputs) as u32;
         rest /= outputs;
     }
@@ -163,83 +159,61 @@ pub fn list_of(case: Case, number: u64) -> [u32; ROOM]
 // ---- keeping the case (specification 5), by the times and by the limitations
 
 // Every spell on, or every spell off, that the other state ends lasts at least so many intervals, those before interval 1 included.
-fn spells_last(n: usize, list: [u32; ROOM], on: bool, before: u64, least: u64) -> bool
-    requires { (n ≤ room) × (before < 2 ^ 8) }
-{
+fn spells_last(list: &[u32], on: bool, before: u64, least: u64) -> bool {
     let mut spell = before;
-    let mut i = 0;
-    while i < n {
-        let stays = (0 < list[i]) == on;
-        if !stays & (0 < spell) & (spell < least) {
+    for output in list {
+        let stays = (0 < *output) == on;
+        if !stays && 0 < spell && spell < least {
             return false;
         }
-        spell = spell_after(spell, stays);
-        i += 1;
+        spell = if stays { spell.saturating_add(1) } else { 0 };
     }
     true
 }
 
-fn spell_after(spell: u64, stays: bool) -> u64
-    requires { spell < 2 ^ 32 }
-    ensures { result ≤ spell + 1 }
-{
-    if stays {
-        return spell + 1;
-    }
-    0
-}
-
 // The intervals spent before interval 1 in the state asked for.
-fn held_in(case: Case, on: bool) -> u64
-    ensures { result < 2 ^ 8 }
-{
+fn held_in(case: Case, on: bool) -> u64 {
     if case.was_on == on {
-        return wide8(case.held);
+        u64::from(case.held)
+    } else {
+        0
     }
-    0
 }
 
 // Starts are counted by ones; hours and MWh in quarters, four to the unit.
-fn within(cap: Cap, unit: u64, count: u64) -> bool
+fn within(cap: Option<u32>, unit: u64, count: u64) -> bool
     requires { unit ≤ 4 }
 {
-    !cap.limited | (count <= times(wide32(cap.most), unit))
+    cap.is_none_or(|most| count <= times(u64::from(most), unit))
 }
 
-fn times_kept(case: Case, list: [u32; ROOM]) -> bool {
-    let n = intervals_of(case);
-    let mot = wide8(case.mot);
-    let mdt = wide8(case.mdt);
-    spells_last(n, list, true, held_in(case, true), mot)
-        & spells_last(n, list, false, held_in(case, false), mdt)
+fn times_kept(case: Case, list: &[u32]) -> bool {
+    spells_last(list, true, held_in(case, true), u64::from(case.mot))
+        && spells_last(list, false, held_in(case, false), u64::from(case.mdt))
 }
 
 fn limits_kept(case: Case, sums: Sums) -> bool
     requires { Summed room sums }
 {
-    let starts = case.starts;
-    let hours = case.hours;
-    let mwh = case.mwh;
-    within(starts, 1, sums.starts) & within(hours, 4, sums.running) & within(mwh, 4, sums.output)
+    let limits = case.limits;
+    within(limits.starts, 1, sums.starts)
+        && within(limits.hours, 4, sums.running)
+        && within(limits.mwh, 4, sums.output)
 }
 
 // ---- the permitted hours
 
 // Off in each interval whose clock hour is not allowed.
-fn hours_kept(case: Case, list: [u32; ROOM]) -> bool {
-    let n = intervals_of(case);
-    let allowed = case.allowed;
-    if !allowed.given {
+fn hours_kept(case: Case, list: &[u32]) -> bool
+    requires { length list.now ≤ room }
+{
+    let Some(allowed) = case.allowed else {
         return true;
-    }
-    let mut i = 0;
-    while i < n {
-        if 0 < list[i] {
-            if !may_run(allowed, (i / 4) as u64) {
-                return false;
-            }
+    };
+    for (i, output) in list.iter().enumerate() {
+        if 0 < *output && !may_run(allowed, (i / 4) as u64) {
+            return false;
         }
-        i += 1;
     }
     true
 }
@@ -249,7 +223,7 @@ fn may_run(allowed: Allowed, passed: u64) -> bool
     requires { passed < 20 }
 {
     let hour = hour_after(allowed, passed);
-    (wide32(allowed.word) >> hour) % 2 == 1
+    (u64::from(allowed.word) >> hour) % 2 == 1
 }
 
 // From midnight on the hours are 0 and 1, and then 2; on one Sunday of March 3 comes after 1, on one of November 1 again.
@@ -287,61 +261,47 @@ pub fn goes_back(allowed: Allowed) -> bool
 fn is_sunday(allowed: Allowed) -> bool
     ensures { result ≡ is_sunday allowed }
 {
-    let year = wide16(allowed.year) % 100;
-    let month = wide8(allowed.month);
-    (wide8(allowed.day) + 13 * (month + 1) / 5 + year + year / 4) % 7 == 1
+    let year = u64::from(allowed.year) % 100;
+    let month = u64::from(allowed.month);
+    (u64::from(allowed.day) + 13 * (month + 1) / 5 + year + year / 4) % 7 == 1
 }
 
 // A date that is given is one of its month.
+#[tactic(auto, unfolding(crate::specs::Dates::date_exists))]
 pub fn date_exists(case: Case) -> bool
     ensures { result ≡ date_exists case }
 {
-    let allowed = case.allowed;
-    !allowed.given | (wide8(allowed.day) <= days_of(allowed))
+    match case.allowed {
+        None => true,
+        Some(allowed) => u64::from(allowed.day) <= days_of(allowed),
+    }
 }
 
 // From 2004 to 2096 every fourth year is leap.
 fn days_of(allowed: Allowed) -> u64
     ensures { result ≡ days_of allowed }
 {
-    let month = allowed.month;
-    match month {
+    match allowed.month {
         2 => 28 + one_if(allowed.year % 4 == 0),
-        4 => 30,
-        6 => 30,
-        9 => 30,
-        11 => 30,
+        4 | 6 | 9 | 11 => 30,
         _ => 31,
     }
 }
 
 // ---- what a list adds up to: the counts of the limitations, and formula 7
 
-fn sums_of(case: Case, list: [u32; ROOM]) -> Sums
+fn sums_of(case: Case, list: &[u32]) -> Sums
+    requires { length list.now ≤ room }
     ensures { Summed room result }
 {
-    let n = intervals_of(case);
-    let mut sums = nothing_yet(case.was_on);
-    let mut i = 0;
-    while i < n {
-        let price = case.up[i];
-        sums = with_interval(case, sums, wide32(list[i]), wide16(price));
-        i += 1;
+    let mut sums = Sums {
+        on: case.was_on,
+        ..Sums::default()
+    };
+    for (output, up) in list.iter().zip(case.up.iter()) {
+        sums = with_interval(case, sums, u64::from(*output), u64::from(*up));
     }
     sums
-}
-
-fn nothing_yet(was_on: bool) -> Sums
-    ensures { Summed 0 result }
-{
-    Sums {
-        on: was_on,
-        starts: 0,
-        running: 0,
-        output: 0,
-        earned: 0,
-        spent: 0,
-    }
 }
 
 // An interval on after one that is off is a start.
@@ -357,11 +317,11 @@ fn with_interval(case: Case, sums: Sums, output: u64, price: u64) -> Sums
         running: sums.running + one_if(on),
         output: sums.output + output,
         earned: sums.earned + times(output, price),
-        spent: sums.spent + times(wide32(case.suc), 4 * start) + spent_on(case, output),
+        spent: sums.spent + times(u64::from(case.suc), 4 * start) + spent_on(case, output),
     }
 }
 
-// An interval's output: what lowers its price, vec above the lowest output, and mlc.
+// An interval's output: what lowers its price, vec above the lowest output, and mlc. No output on is below the lowest.
 fn spent_on(case: Case, output: u64) -> u64
     requires { output < 2 ^ 32 }
     ensures { result < 2 ^ 50 }
@@ -369,75 +329,39 @@ fn spent_on(case: Case, output: u64) -> u64
     if output == 0 {
         return 0;
     }
-    let least = output_of(case, 1);
-    times(output, wide16(case.down))
-        + times(over(output, least), wide16(case.vec))
-        + wide32(case.mlc)
-}
-
-// No output on is below the least; the test spares a proof of it.
-fn over(output: u64, least: u64) -> u64
-    ensures { result ≤ output }
-{
-    if output < least {
-        return 0;
-    }
-    output - least
+    let above = output.saturating_sub(output_of(case, 1));
+    times(output, u64::from(case.down)) + times(above, u64::from(case.vec)) + u64::from(case.mlc)
 }
 
 // ---- the first best
 
 // Only a list that keeps the times and the hours is added up.
-pub fn judged(case: Case, number: u64) -> Found
-    ensures { (result.earned < 2 ^ 60) × (result.spent < 2 ^ 60) }
-{
-    let list = list_of(case, number);
-    if !(date_exists(case) & times_kept(case, list) & hours_kept(case, list)) {
-        return nothing();
+pub fn judged(case: Case, number: u64) -> Option<Found> {
+    let outputs = list_of(case, number);
+    let list = &outputs[..intervals_of(case)];
+    if !(date_exists(case) && times_kept(case, list) && hours_kept(case, list)) {
+        return None;
     }
     let sums = sums_of(case, list);
     if !limits_kept(case, sums) {
-        return nothing();
+        return None;
     }
-    Found {
-        any: true,
+    Some(Found {
         tied: false,
         number,
         earned: sums.earned,
         spent: sums.spent,
-    }
-}
-
-fn nothing() -> Found
-    ensures { (result.earned < 2 ^ 60) × (result.spent < 2 ^ 60) }
-{
-    Found {
-        any: false,
-        tied: false,
-        number: 0,
-        earned: 0,
-        spent: 0,
-    }
+    })
 }
 
 // The better of two, the first where they tie.
-fn better(first: Found, next: Found) -> Found
-    requires { (first.earned < 2 ^ 60) × (first.spent < 2 ^ 60) × (next.earned < 2 ^ 60) × (next.spent < 2 ^ 60) }
-    ensures { (result.earned < 2 ^ 60) × (result.spent < 2 ^ 60) }
-{
-    if !next.any {
-        return first;
-    }
-    if !first.any {
-        return next;
-    }
+fn better(first: Found, next: Found) -> Found {
     let one = first.earned + next.spent;
     let other = next.earned + first.spent;
     if one < other {
         return next;
     }
     Found {
-        any: true,
         tied: first.tied | (one == other),
         number: first.number,
         earned: first.earned,
@@ -445,22 +369,25 @@ fn better(first: Found, next: Found) -> Found
     }
 }
 
+// The better of what was found and what comes next.
+fn best_with(best: Option<Found>, next: Option<Found>) -> Option<Found> {
+    match (best, next) {
+        (Some(first), Some(next)) => Some(better(first, next)),
+        (None, next) => next,
+        (best, None) => best,
+    }
+}
+
 // By counting up, so that of lists that tie the first stays.
-pub fn best_of(case: Case) -> Found
-    ensures { (result.earned < 2 ^ 60) × (result.spent < 2 ^ 60) }
-{
-    let lists = lists_of(case);
-    let mut best = nothing();
-    let mut number = 0;
-    while number < lists {
-        best = better(best, judged(case, number));
-        number += 1;
+pub fn best_of(case: Case) -> Option<Found> {
+    let mut best = None;
+    for number in 0..lists_of(case) {
+        best = best_with(best, judged(case, number));
     }
     best
 }
 
 pub fn profit_of(found: Found) -> i64
-    requires { (found.earned < 2 ^ 60) × (found.spent < 2 ^ 60) }
     ensures { result ≡ earnings found }
 {
     difference(found.earned, found.spent)
@@ -468,52 +395,37 @@ pub fn profit_of(found: Found) -> i64
 
 // ---- valuing a limitation (specification 9)
 
-fn cap_of(case: Case, which: Which) -> Cap
-    ensures { result ≡ cap_of case which }
-{
-    match which {
-        Which::Starts => case.starts,
-        Which::Hours => case.hours,
-        Which::Mwh => case.mwh,
-    }
-}
-
-// The case with one limitation at another figure, the other two whole.
-fn with_figure(case: Case, which: Which, figure: u32) -> Case {
-    let cap = Cap {
-        limited: true,
-        most: figure,
-    };
+// The best with one limitation at another figure, the other two whole.
+fn best_at(case: Case, which: Which, figure: u32) -> Option<Found> {
     let mut lowered = case;
-    match which {
-        Which::Starts => lowered.starts = cap,
-        Which::Hours => lowered.hours = cap,
-        Which::Mwh => lowered.mwh = cap,
-    }
-    lowered
+    lowered.limits = case.limits.with(which, Some(figure));
+    best_of(lowered)
 }
 
 fn nine_tenths(figure: u32) -> u32
     ensures { result ≡ figure * 9 / 10 }
 {
-    (figure as u64 * 9 / 10) as u32
+    (u64::from(figure) * 9 / 10) as u32
 }
 
 pub fn worth_of(case: Case, which: Which) -> Worth
     ensures { WorthOf (cap_of case which) result }
 {
-    let cap = cap_of(case, which);
-    if !cap.limited {
+    let Some(most) = case.limits.of(which) else {
         return Worth::None;
-    }
-    let figure = nine_tenths(cap.most);
+    };
+    let figure = nine_tenths(most);
     if figure == 0 {
         return Worth::Empty;
     }
-    let first = best_of(with_figure(case, which, figure));
-    let lower = best_of(with_figure(case, which, figure - 1));
-    if !lower.any {
-        return Worth::Never;
+    match (
+        best_at(case, which, figure),
+        best_at(case, which, figure - 1),
+    ) {
+        (Some(first), Some(lower)) => Worth::Gap(difference(
+            first.earned + lower.spent,
+            first.spent + lower.earned,
+        )),
+        _ => Worth::Never,
     }
-    Worth::Gap(difference(first.earned + lower.spent, first.spent + lower.earned))
 }

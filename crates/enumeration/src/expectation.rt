@@ -4,70 +4,92 @@ ghost use Rattle.std.specs.Prelude.{◌≡◌};
 ghost use Rattle.enumeration.specs.Lists.{in_front, untouched};
 ghost use Rattle.enumeration.specs.Dates.{refusal_of};
 ghost use Rattle.enumeration.specs.Expecting.{ExpectedOf, Refused};
+ghost use Rattle.enumeration.specs.Refusals.{number_of};
 
 use crate::enumerator;
-use crate::enumerator::{Case, ROOM, Which, Worth};
-use crate::numbers::wide32;
+use crate::enumerator::{Case, PerLimit, ROOM, Which, Worth};
 
 // What no output of a small case is: entries that a call leaves as they were still hold it.
 pub const UNTOUCHED: u64 = 7777;
 
-// A plan, or 9 or 12.
+// Why a small case, its text or a schedule of it is refused.
+#[derive(Clone, Copy, PartialEq, Eq)]
+pub enum Refusal {
+    Name,
+    Date,
+    Scratch,
+    NoSchedule,
+    NotKept,
+}
+
+impl From<Refusal> for u64 {
+    ghost from_gives = { λ refusal number. number ≡ number_of refusal };
+
+    fn from(refusal: Refusal) -> u64 {
+        match refusal {
+            Refusal::Name => 2,
+            Refusal::Scratch => 8,
+            Refusal::NoSchedule => 9,
+            Refusal::NotKept => 10,
+            Refusal::Date => 12,
+        }
+    }
+}
+
+// What is said of a plan besides its schedule.
 #[derive(Clone, Copy)]
-pub struct Expected {
-    pub planned: bool,
-    pub refusal: u64,
+pub struct Plan {
     pub tied: bool,
     pub profit: i64,
+    pub worths: PerLimit<Worth>,
+}
+
+// The entries of the slice lent for the schedule, and the plan or why there is none.
+#[derive(Clone, Copy)]
+pub struct Expected {
     pub schedule: [u64; ROOM],
-    pub starts: Worth,
-    pub hours: Worth,
-    pub mwh: Worth,
+    pub answer: Result<Plan, Refusal>,
 }
 
 pub fn expected_of(case: Case) -> Expected
     ensures { ExpectedOf case result }
 {
-    let best = enumerator::best_of(case);
-    if !best.any {
-        return refused(refusal_of(case, 9));
-    }
+    let Some(best) = enumerator::best_of(case) else {
+        return refused(refusal_of(case, Refusal::NoSchedule));
+    };
     Expected {
-        planned: true,
-        refusal: 0,
-        tied: best.tied,
-        profit: enumerator::profit_of(best),
         schedule: schedule_of(case, best.number),
-        starts: enumerator::worth_of(case, Which::Starts),
-        hours: enumerator::worth_of(case, Which::Hours),
-        mwh: enumerator::worth_of(case, Which::Mwh),
+        answer: Ok(Plan {
+            tied: best.tied,
+            profit: enumerator::profit_of(best),
+            worths: PerLimit {
+                starts: enumerator::worth_of(case, Which::Starts),
+                hours: enumerator::worth_of(case, Which::Hours),
+                mwh: enumerator::worth_of(case, Which::Mwh),
+            },
+        }),
     }
 }
 
 // A refused call leaves the schedule as it was.
-pub fn refused(number: u64) -> Expected
-    ensures { Refused number result }
+pub fn refused(refusal: Refusal) -> Expected
+    ensures { Refused refusal result }
 {
     Expected {
-        planned: false,
-        refusal: number,
-        tied: false,
-        profit: 0,
         schedule: [UNTOUCHED; ROOM],
-        starts: Worth::None,
-        hours: Worth::None,
-        mwh: Worth::None,
+        answer: Err(refusal),
     }
 }
 
-// The number of the call's refusal, or 12 where the date does not exist.
-pub fn refusal_of(case: Case, number: u64) -> u64
-    ensures { result ≡ refusal_of case number }
+// The call's refusal, or that the date does not exist.
+pub fn refusal_of(case: Case, refusal: Refusal) -> Refusal
+    ensures { result ≡ refusal_of case refusal }
 {
     if enumerator::date_exists(case) {
-        return number;
+        refusal
+    } else {
+        Refusal::Date
     }
-    12
 }
 
 // The list in the front of a slice that was lent.
@@ -77,10 +99,8 @@ pub fn schedule_of(case: Case, number: u64) -> [u64; ROOM]
     let list = enumerator::list_of(case, number);
     let n = enumerator::intervals_of(case);
     let mut schedule = [UNTOUCHED; ROOM];
-    let mut i = 0;
-    while i < n {
-        schedule[i] = wide32(list[i]);
-        i += 1;
+    for (i, output) in list[..n].iter().enumerate() {
+        schedule[i] = u64::from(*output);
     }
     schedule
 }

@@ -9,40 +9,51 @@ ghost use Rattle.enumeration.specs.Fillings.{left_at, cells_from};
 ghost use Rattle.enumeration.specs.Fillings as fillings;
 
 use crate::enumerator;
-use crate::enumerator::{Cap, Case};
-use crate::numbers::{difference, times, wide8, wide32};
+use crate::enumerator::Case;
+use crate::numbers::{difference, times};
 
-// Each case is tried with so many lengths.
-pub const LENGTHS: u64 = 4;
+// The lengths that each case is tried with: the long table, two layers, and one cell less than each.
+pub const LENGTHS: [Length; 4] = [
+    Length::Long,
+    Length::UnderLong,
+    Length::TwoLayers,
+    Length::UnderTwoLayers,
+];
+
+#[derive(Clone, Copy, PartialEq, Eq)]
+pub enum Length {
+    Long,
+    UnderLong,
+    TwoLayers,
+    UnderTwoLayers,
+}
 
 // The cells lent, and how many of them planning uses: none where it is refused for want of cells.
 #[derive(Clone, Copy)]
 pub struct Lent {
     pub cells: usize,
-    pub used: usize,
+    pub used: Option<usize>,
 }
 
 // ---- the lengths
 
-// What a case is lent, the number saying which length.
-pub fn lent_of(case: Case, number: u64) -> Lent
-    ensures { result ≡ lent_of case number }
+pub fn lent_of(case: Case, length: Length) -> Lent
+    ensures { result ≡ lent_of case length }
 {
     let layer = layer_of(case);
     let two = 2 * layer;
     let long = times(layer, intervals_of(case) + 1);
-    lend(long, two, length_of(long, two, number))
+    lend(long, two, length_of(long, two, length))
 }
 
-// The long table, two layers, and one cell less than each.
-fn length_of(long: u64, two: u64, number: u64) -> u64
-    ensures { result ≡ length_of long two number }
+fn length_of(long: u64, two: u64, length: Length) -> u64
+    ensures { result ≡ length_of long two length }
 {
-    match number {
-        0 => long,
-        1 => one_less(long),
-        2 => two,
-        _ => one_less(two),
+    match length {
+        Length::Long => long,
+        Length::UnderLong => one_less(long),
+        Length::TwoLayers => two,
+        Length::UnderTwoLayers => one_less(two),
     }
 }
 
@@ -50,7 +61,7 @@ fn length_of(long: u64, two: u64, number: u64) -> u64
 fn one_less(cells: u64) -> u64
     ensures { result ≡ one_less cells }
 {
-    std::num::wrapping_sub_u64(cells, 1)
+    cells.wrapping_sub(1)
 }
 
 fn lend(long: u64, two: u64, cells: u64) -> Lent
@@ -58,21 +69,18 @@ fn lend(long: u64, two: u64, cells: u64) -> Lent
 {
     Lent {
         cells: cells as usize,
-        used: used_of(long, two, cells) as usize,
+        used: used_of(long, two, cells),
     }
 }
 
 // The long table where it fits, else two layers.
-fn used_of(long: u64, two: u64, cells: u64) -> u64
+fn used_of(long: u64, two: u64, cells: u64) -> Option<usize>
     ensures { result ≡ used_of long two cells }
 {
     if long <= cells {
-        return long;
+        return Some(long as usize);
     }
-    if two <= cells {
-        return two;
-    }
-    0
+    (two <= cells).then_some(two as usize)
 }
 
 fn intervals_of(case: Case) -> u64
@@ -81,18 +89,17 @@ fn intervals_of(case: Case) -> u64
     enumerator::intervals_of(case) as u64
 }
 
+#[tactic(auto, unfolding(crate::specs::Lengths::layer_of))]
 // A cell for each state and for each number of starts, on-intervals and blocks that can be left.
 fn layer_of(case: Case) -> u64
     ensures { (result ≡ layer_of case) × (result < 2 ^ 32) }
 {
     let n = intervals_of(case);
-    let starts = case.starts;
-    let hours = case.hours;
-    let states = wide8(case.mot) + wide8(case.mdt);
+    let limits = case.limits;
     cells_of(
-        states,
-        most_left(starts, 1, 1, n),
-        most_left(hours, 4, 1, n),
+        u64::from(case.mot) + u64::from(case.mdt),
+        most_left(limits.starts, 1, 1, n),
+        most_left(limits.hours, 4, 1, n),
         blocks_of(case, n),
     )
 }
@@ -106,29 +113,32 @@ fn cells_of(states: u64, starts: u64, ons: u64, blocks: u64) -> u64
 
 fn blocks_of(case: Case, n: u64) -> u64
     requires { n ≤ room }
-    ensures { (result ≡ most_left case.mwh 4 case.block (n * case.pmax)) × (result < 2 ^ 12) }
+    ensures { (result ≡ most_left case.limits.mwh 4 case.block (n * case.pmax)) × (result < 2 ^ 12) }
 {
-    let mwh = case.mwh;
-    most_left(mwh, 4, wide8(case.block), n * wide8(case.pmax))
+    most_left(
+        case.limits.mwh,
+        4,
+        u64::from(case.block),
+        n * u64::from(case.pmax),
+    )
 }
 
+#[tactic(auto, unfolding(crate::specs::Lengths::most_left))]
 // Counted up: so many, each of that size, as the limitation has room for, but no more than the intervals can use.
-fn most_left(cap: Cap, unit: u64, size: u64, usable: u64) -> u64
+fn most_left(cap: Option<u32>, unit: u64, size: u64, usable: u64) -> u64
     requires { (unit ≤ 4) × (size < 2 ^ 8) × (usable < 2 ^ 12) }
     ensures { (result ≡ most_left cap unit size usable) × (result ≤ usable) }
 {
-    if !cap.limited {
+    let Some(most) = cap else {
         return 0;
-    }
-    let room = times(wide32(cap.most), unit);
-    let mut count = 0;
-    while count < usable {
+    };
+    let room = times(u64::from(most), unit);
+    for count in 0..usable {
         if room < times(count + 1, size) {
             return count;
         }
-        count += 1;
     }
-    count
+    usable
 }
 
 // ---- the cells
@@ -144,10 +154,8 @@ fn filling(place: usize) -> i64
 pub fn fill(scratch: &mut [i64])
     ensures { scratch.new ≡ cells_from fillings.filling 0 (length scratch.old) }
 {
-    let mut i = 0;
-    while i < scratch.len() {
-        scratch[i] = filling(i);
-        i += 1;
+    for (i, cell) in scratch.iter_mut().enumerate() {
+        *cell = filling(i);
     }
 }
 
@@ -155,12 +163,10 @@ pub fn fill(scratch: &mut [i64])
 pub fn is_left(scratch: &[i64], used: usize) -> bool
     ensures { (result ≡ true) ↔ (scratch.now ≡ cells_from (left_at used) 0 (length scratch.now)) }
 {
-    let mut i = 0;
-    while i < scratch.len() {
-        if scratch[i] != left_at(i, used) {
+    for (i, cell) in scratch.iter().enumerate() {
+        if *cell != left_at(i, used) {
             return false;
         }
-        i += 1;
     }
     true
 }

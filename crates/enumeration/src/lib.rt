@@ -5,6 +5,7 @@
 
 pub mod enumerator;
 pub mod expectation;
+pub mod found;
 pub mod generator;
 pub mod lending;
 pub mod numbers;

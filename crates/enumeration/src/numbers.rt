@@ -3,25 +3,7 @@
 ghost use Rattle.std.specs.Prelude.{◌≡◌, ◌*◌, ◌^◌, ◌<◌, ◌≤◌, pos, ◌-ℤ◌, if◌then◌else◌};
 ghost use Rattle.enumeration.specs.Counting as counting;
 
-// Each of these three says in its contract how large the number is at most.
-pub fn wide8(x: u8) -> u64
-    ensures { (result ≡ x) × (result < 2 ^ 8) }
-{
-    x as u64
-}
-
-pub fn wide16(x: u16) -> u64
-    ensures { (result ≡ x) × (result < 2 ^ 16) }
-{
-    x as u64
-}
-
-pub fn wide32(x: u32) -> u64
-    ensures { (result ≡ x) × (result < 2 ^ 32) }
-{
-    x as u64
-}
-
+// By hand: there is no From<bool> for u64.
 pub fn one_if(yes: bool) -> u64
     ensures { (result ≡ (if yes then 1 else 0)) × (result ≤ 1) }
 {
@@ -41,18 +23,12 @@ pub fn difference(a: u64, b: u64) -> i64
     requires { (a < 2 ^ 62) × (b < 2 ^ 62) }
     ensures { result ≡ pos a -ℤ pos b }
 {
-    if b <= a {
-        return (a - b) as i64;
-    }
-    -((b - a) as i64)
+    a as i64 - b as i64
 }
 
 // A count, one higher where `yes`.
 pub fn counted(count: u64, yes: bool) -> u64
     ensures { result ≡ counting.counted count yes }
 {
-    if yes {
-        return std::num::wrapping_add_u64(count, 1);
-    }
-    count
+    if yes { count.wrapping_add(1) } else { count }
 }

@@ -1,9 +1,10 @@
 // Lines on standard output, for the programs that try the calls.
 
+use std::fmt::Display;
 use std::io;
 
 // A name with its comma, a number, a line end.
-pub fn line(rt: &impl Print, name: &[u8], number: u64) -> io::Result<()> {
+pub fn line(rt: &impl Print, name: &[u8], number: impl Display + Drop) -> io::Result<()> {
     text(rt, name)?;
     rt.println(number)
 }

@@ -1,15 +1,17 @@
 // How many cases there were of each kind, so that a kind that never occurs shows.
 
-ghost use Rattle.std.specs.Prelude.{◌≡◌, ◌<◌, true, not, ◌==◌};
+ghost use Rattle.std.specs.Prelude.{◌≡◌, ◌<◌, true, not, ◌==◌, is_ok};
 ghost use Rattle.enumeration.specs.Counting as counting;
+ghost use Rattle.enumeration.specs.Expecting.{number_in};
 
 use crate::enumerator;
-use crate::enumerator::{Case, Worth};
-use crate::expectation::Expected;
+use crate::enumerator::{Case, PerLimit, Worth};
+use crate::expectation::{Expected, Refusal};
 use crate::numbers::{counted, one_if};
+use std::cmp::Ordering;
 
-// `dates` goes by the date of the permitted hours, `texts` by the number that reading says, `limited` by which limitations there are;
-// `starts`, `hours` and `mwh` by their outcomes in the cases planned.
+// `dates` goes by the date of the permitted hours, `texts` by what reading says, `limited` by which limitations there are; `worths` by the outcomes of each
+// limitation in the cases planned.
 #[derive(Clone, Copy)]
 pub struct Tally {
     pub cases: u64,
@@ -24,9 +26,7 @@ pub struct Tally {
     pub dates: [u64; 5],
     pub texts: [u64; 3],
     pub limited: [u64; 8],
-    pub starts: [u64; 6],
-    pub hours: [u64; 6],
-    pub mwh: [u64; 6],
+    pub worths: PerLimit<[u64; 6]>,
 }
 
 // Whether each call says the same.
@@ -38,25 +38,30 @@ pub struct Agreed {
     pub assess: bool,
 }
 
-pub fn nothing() -> Tally
-    ensures { result ≡ counting.nothing }
-{
-    Tally {
-        cases: 0,
-        planned: 0,
-        refused: 0,
-        missing: 0,
-        negative: 0,
-        tied: 0,
-        was_on: 0,
-        was_off: 0,
-        differences: 0,
-        dates: [0; 5],
-        texts: [0; 3],
-        limited: [0; 8],
-        starts: [0; 6],
-        hours: [0; 6],
-        mwh: [0; 6],
+// Nothing is counted yet. Not a derive: an array has no Default.
+impl Default for Tally {
+    ghost is_default = { λ tally. tally ≡ counting.nothing };
+
+    fn default() -> Tally {
+        Tally {
+            cases: 0,
+            planned: 0,
+            refused: 0,
+            missing: 0,
+            negative: 0,
+            tied: 0,
+            was_on: 0,
+            was_off: 0,
+            differences: 0,
+            dates: [0; 5],
+            texts: [0; 3],
+            limited: [0; 8],
+            worths: PerLimit {
+                starts: [0; 6],
+                hours: [0; 6],
+                mwh: [0; 6],
+            },
+        }
     }
 }
 
@@ -76,25 +81,21 @@ pub fn with_case(tally: Tally, case: Case) -> Tally
     t
 }
 
-// 1 for starts, 2 for hours, 4 for mwh, added up.
+// The column of the table that is printed: 1 for starts, 2 for hours, 4 for mwh, added up.
 fn limits_in(case: Case) -> usize
     ensures { result < 8 }
 {
-    let starts = case.starts;
-    let hours = case.hours;
-    let mwh = case.mwh;
-    let limits = one_if(starts.limited) + 2 * one_if(hours.limited) + 4 * one_if(mwh.limited);
-    limits as usize
+    let PerLimit { starts, hours, mwh } = case.limits;
+    (one_if(starts.is_some()) + 2 * one_if(hours.is_some()) + 4 * one_if(mwh.is_some())) as usize
 }
 
-// No hours, a date that does not exist, a date on which time does not change, the Sunday of March, that of November.
+// The column: no hours, a date that does not exist, a date on which time does not change, the Sunday of March, that of November.
 fn date_in(case: Case) -> usize
     ensures { result < 5 }
 {
-    let allowed = case.allowed;
-    if !allowed.given {
+    let Some(allowed) = case.allowed else {
         return 0;
-    }
+    };
     if !enumerator::date_exists(case) {
         return 1;
     }
@@ -109,43 +110,45 @@ fn date_in(case: Case) -> usize
 
 fn has_negative_price(case: Case) -> bool {
     let n = enumerator::intervals_of(case);
-    let up = case.up;
-    let mut i = 0;
-    while i < n {
-        if up[i] < case.down {
-            return true;
-        }
-        i += 1;
-    }
-    false
+    case.up[..n].iter().any(|up| *up < case.down)
 }
 
 pub fn with_expected(tally: Tally, expected: Expected) -> Tally
-    ensures { (result.planned ≡ counting.counted tally.planned expected.planned)
-        × (result.refused ≡ counting.counted tally.refused (expected.refusal == 9))
-        × (result.missing ≡ counting.counted tally.missing (expected.refusal == 12)) × (result.differences ≡ tally.differences) }
+    ensures { (result.planned ≡ counting.counted tally.planned (is_ok expected.answer))
+        × (result.refused ≡ counting.counted tally.refused (number_in expected == 9))
+        × (result.missing ≡ counting.counted tally.missing (number_in expected == 12)) × (result.differences ≡ tally.differences) }
 {
     let mut t = tally;
-    t.planned = counted(t.planned, expected.planned);
-    t.refused = counted(t.refused, expected.refusal == 9);
-    t.missing = counted(t.missing, expected.refusal == 12);
-    t.tied = counted(t.tied, expected.tied);
-    if !expected.planned {
-        return t;
+    match expected.answer {
+        Ok(plan) => {
+            t.planned = counted(t.planned, true);
+            t.tied = counted(t.tied, plan.tied);
+            t.worths = with_worths(t.worths, plan.worths);
+        }
+        Err(refusal) => {
+            t.refused = counted(t.refused, refusal == Refusal::NoSchedule);
+            t.missing = counted(t.missing, refusal == Refusal::Date);
+        }
     }
-    let starts = expected.starts;
-    let hours = expected.hours;
-    let mwh = expected.mwh;
-    let at = column_of(starts);
-    t.starts[at] = counted(t.starts[at], true);
-    let at = column_of(hours);
-    t.hours[at] = counted(t.hours[at], true);
-    let at = column_of(mwh);
-    t.mwh[at] = counted(t.mwh[at], true);
     t
 }
 
-// A gap below 0 has a column, so that it would show.
+fn with_worths(counts: PerLimit<[u64; 6]>, worths: PerLimit<Worth>) -> PerLimit<[u64; 6]> {
+    PerLimit {
+        starts: with_worth(counts.starts, worths.starts),
+        hours: with_worth(counts.hours, worths.hours),
+        mwh: with_worth(counts.mwh, worths.mwh),
+    }
+}
+
+fn with_worth(counts: [u64; 6], worth: Worth) -> [u64; 6] {
+    let mut outcomes = counts;
+    let at = column_of(worth);
+    outcomes[at] = counted(outcomes[at], true);
+    outcomes
+}
+
+// The column: a gap below 0 has one, so that it would show.
 fn column_of(worth: Worth) -> usize
     ensures { result < 6 }
 {
@@ -153,15 +156,11 @@ fn column_of(worth: Worth) -> usize
         Worth::None => 0,
         Worth::Empty => 1,
         Worth::Never => 2,
-        Worth::Gap(gap) => {
-            if gap < 0 {
-                return 3;
-            }
-            if gap == 0 {
-                return 4;
-            }
-            5
-        }
+        Worth::Gap(gap) => match gap.cmp(&0) {
+            Ordering::Less => 3,
+            Ordering::Equal => 4,
+            Ordering::Greater => 5,
+        },
     }
 }
 
@@ -170,10 +169,9 @@ pub fn with_agreed(tally: Tally, agreed: Agreed) -> Tally
     ensures { (result.differences ≡ counting.differing tally.differences agreed) × (result.cases ≡ tally.cases) }
 {
     let mut t = tally;
-    t.differences = differing(t.differences, agreed.plan);
-    t.differences = differing(t.differences, agreed.value);
-    t.differences = differing(t.differences, agreed.report);
-    t.differences = differing(t.differences, agreed.assess);
+    t.differences = [agreed.plan, agreed.value, agreed.report, agreed.assess]
+        .iter()
+        .fold(t.differences, |count, agrees| differing(count, *agrees));
     t
 }
 
@@ -184,22 +182,23 @@ fn differing(differences: u64, agrees: bool) -> u64
 }
 
 // A text that is read otherwise is a difference, too.
-pub fn with_text(tally: Tally, refusal: u64, agrees: bool) -> Tally
+pub fn with_text(tally: Tally, reading: Result<(), Refusal>, agrees: bool) -> Tally
     ensures { (result.differences ≡ counting.counted tally.differences (not agrees)) × (result.cases ≡ tally.cases) }
 {
-    let at = text_in(refusal);
+    let at = text_in(reading);
     let mut t = tally;
     t.texts[at] = counted(t.texts[at], true);
     t.differences = differing(t.differences, agrees);
     t
 }
 
-fn text_in(refusal: u64) -> usize
+// The column.
+fn text_in(reading: Result<(), Refusal>) -> usize
     ensures { result < 3 }
 {
-    match refusal {
-        0 => 0,
-        2 => 1,
-        _ => 2,
+    match reading {
+        Ok(()) => 0,
+        Err(Refusal::Name) => 1,
+        Err(_) => 2,
     }
 }

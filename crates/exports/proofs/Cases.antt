@@ -1,13 +1,12 @@
 -- Each figure of the C record and each kind of outcome through one example, there and back: a figure in another's place would show.
+use Rattle.std.specs.Prelude.{Some}
 use mathlib.Core.Path.{◌≡◌, refl}
 use mathlib.Core.List.{List, [], ◌∷◌, map}
 use lib.IntN.{pos, negsuc}
 use Rattle.calendar.specs.Dates.{date}
-use Rattle.commitment.specs.declared.Limit.TheVariants.{None, At}
 use Rattle.commitment.specs.declared.Outcome.{Outcome}
 use Rattle.commitment.specs.declared.Outcome.TheVariants as outcome
 use Rattle.commitment.specs.declared.Outcomes.{Outcomes}
-use Rattle.commitment.specs.declared.Permit.TheVariants.{Within}
 use Rattle.commitment.specs.declared.UnitRecord.{UnitRecord}
 use Rattle.exports.specs.declared.numbers.OutcomeNumbers.{OutcomeNumbers}
 use Rattle.exports.specs.declared.numbers.OutcomesNumbers.{OutcomesNumbers}
@@ -43,8 +42,8 @@ unit =
       generator = record { block = 1; pmin = 2; pmax = 3; mot = 4; mdt = 5 };
       costs = record { vec = 8; mlc = 9; suc = 10 };
       opening = record { was = 6; held = 7 };
-      limits = record { starts = At 11; hours = At 12; mwh = At 13 };
-      permit = Within (record { date = date 14 15 16; word = 17 });
+      limits = record { starts = Some 11; hours = Some 12; mwh = Some 13 };
+      permit = Some (record { date = date 14 15 16; word = 17 });
     }
 
 record-there-and-back : (record_of dated ≡ unit) × (unit_numbers unit ≡ dated)

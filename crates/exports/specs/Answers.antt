@@ -1,27 +1,25 @@
 -- The answers of the calls in numbers (specification 16): that of the cause, or 0, and the values; on a refusal every other number is 0, and
 -- limitations and outcomes are none.
-use Rattle.std.specs.Prelude.{ℕ}
-use Rattle.assessment.specs.declared.Assessed.{Assessed}
-use Rattle.assessment.specs.Assessed.{assessed_number, assessed_profit}
-use Rattle.casefile.specs.declared.CaseRead.{CaseRead}
-use Rattle.casefile.specs.declared.CaseRead.TheVariants as read
-use Rattle.commitment.specs.declared.Checked.{Checked}
-use Rattle.commitment.specs.declared.Checked.TheVariants.{Passed, Refused}
-use Rattle.checking.specs.declared.clock.ClockRead.{ClockRead}
-use Rattle.checking.specs.Clock.{clock_number, hour_in}
-use Rattle.commitment.specs.Causes.{number_of}
-use Rattle.costs.specs.declared.Costed.{Costed}
-use Rattle.costs.specs.Answers.{costed_number, costed_vec, costed_suc, costed_mlc}
-use Rattle.curves.specs.declared.Curved.{Curved}
-use Rattle.curves.specs.Answers.{curved_number, curved_count}
-use Rattle.listing.specs.declared.Written.{Written}
-use Rattle.listing.specs.Listing.{written_number, bytes_in}
-use Rattle.planner.specs.declared.Planned.{Planned}
-use Rattle.planner.specs.declared.Reported.{Reported}
-use Rattle.planner.specs.declared.Valued.{Valued}
-use Rattle.planner.specs.Planning.{planned_number, planned_count, planned_profit}
-use Rattle.planner.specs.Reporting.{reported_number, reported_count, reported_profit, reported_outcomes}
-use Rattle.planner.specs.Valuing.{valued_number, valued_outcomes}
+use Rattle.std.specs.Prelude.{ℕ, Ok, Err}
+use Rattle.assessment.specs.Types.{Assessed}
+use Rattle.assessment.specs.Assessed.{assessed_profit}
+use Rattle.casefile.specs.Types.{CaseRead, case_with}
+use Rattle.commitment.specs.Types.{Checked}
+use Rattle.checking.specs.Types.{ClockRead}
+use Rattle.checking.specs.Clock.{hour_in}
+use Rattle.commitment.specs.Causes.{number_of, answered_number}
+use Rattle.costs.specs.Types.{Costed}
+use Rattle.costs.specs.Answers.{costed_vec, costed_suc, costed_mlc}
+use Rattle.curves.specs.Types.{Curved}
+use Rattle.curves.specs.Answers.{curved_count}
+use Rattle.listing.specs.Types.{Written}
+use Rattle.listing.specs.Listing.{bytes_in}
+use Rattle.planner.specs.Types.{Planned}
+use Rattle.planner.specs.Types.{Reported}
+use Rattle.planner.specs.Types.{Valued}
+use Rattle.planner.specs.Planning.{planned_count, planned_profit}
+use Rattle.planner.specs.Reporting.{reported_count, reported_profit, reported_outcomes}
+use Rattle.planner.specs.Valuing.{valued_outcomes}
 use Rattle.exports.specs.declared.numbers.AssessNumbers.{AssessNumbers}
 use Rattle.exports.specs.declared.numbers.CaseNumbers.{CaseNumbers}
 use Rattle.exports.specs.declared.numbers.CellsNumbers.{CellsNumbers}
@@ -36,51 +34,51 @@ use Rattle.exports.specs.declared.numbers.WrittenNumbers.{WrittenNumbers}
 use Rattle.exports.specs.Records.{unit_numbers, no_numbers, outcomes_numbers}
 
 abbrev pub case_numbers : CaseRead → CaseNumbers
-case_numbers (read.Case unit count) = record { number = 0; count = count; unit = unit_numbers unit }
-case_numbers (read.Refused cause) = record { number = number_of cause; count = 0; unit = no_numbers }
+case_numbers (Ok case) = record { number = 0; count = case.count; unit = unit_numbers case.unit }
+case_numbers (Err cause) = record { number = number_of cause; count = 0; unit = no_numbers }
 
 abbrev pub figures_numbers : Costed → FiguresNumbers
 figures_numbers answer =
-    record { number = costed_number answer; vec = costed_vec answer; suc = costed_suc answer; mlc = costed_mlc answer }
+    record { number = answered_number answer; vec = costed_vec answer; suc = costed_suc answer; mlc = costed_mlc answer }
 
 abbrev pub curve_numbers : Curved → CurveNumbers
-curve_numbers answer = record { number = curved_number answer; count = curved_count answer }
+curve_numbers answer = record { number = answered_number answer; count = curved_count answer }
 
 abbrev pub assess_numbers : Assessed → AssessNumbers
-assess_numbers answer = record { number = assessed_number answer; profit = assessed_profit answer }
+assess_numbers answer = record { number = answered_number answer; profit = assessed_profit answer }
 
 abbrev pub plan_numbers : Planned → PlanNumbers
 plan_numbers answer =
-    record { number = planned_number answer; count = planned_count answer; profit = planned_profit answer }
+    record { number = answered_number answer; count = planned_count answer; profit = planned_profit answer }
 
 abbrev pub value_numbers : Valued → ValueNumbers
-value_numbers answer = record { number = valued_number answer; outcomes = outcomes_numbers (valued_outcomes answer) }
+value_numbers answer = record { number = answered_number answer; outcomes = outcomes_numbers (valued_outcomes answer) }
 
 abbrev pub report_numbers : Reported → ReportNumbers
 report_numbers answer =
     record {
-      number = reported_number answer;
+      number = answered_number answer;
       count = reported_count answer;
       profit = reported_profit answer;
       outcomes = outcomes_numbers (reported_outcomes answer);
     }
 
 abbrev pub clock_numbers : ClockRead → ClockNumbers
-clock_numbers answer = record { number = clock_number answer; hour = hour_in answer }
+clock_numbers answer = record { number = answered_number answer; hour = hour_in answer }
 
 -- ---- the clock hours of a slice of so many entries, where the check of its date and intervals passes
 
 abbrev pub hours_numbers : Checked → ℕ → HoursNumbers
-hours_numbers Passed entries = record { number = 0; count = entries }
-hours_numbers (Refused cause) entries = record { number = number_of cause; count = 0 }
+hours_numbers (Ok _) entries = record { number = 0; count = entries }
+hours_numbers (Err cause) entries = record { number = number_of cause; count = 0 }
 
 -- ---- the cells that a case of so many intervals needs, and those of its long table, where its check passes
 
 abbrev pub cells_numbers : Checked → ℕ → ℕ → CellsNumbers
-cells_numbers Passed needed long = record { number = 0; needed = needed; table = long }
-cells_numbers (Refused cause) needed long = record { number = number_of cause; needed = 0; table = 0 }
+cells_numbers (Ok _) needed long = record { number = 0; needed = needed; table = long }
+cells_numbers (Err cause) needed long = record { number = number_of cause; needed = 0; table = 0 }
 
 -- ---- a text written into a buffer
 
 abbrev pub written_numbers : Written → WrittenNumbers
-written_numbers answer = record { number = written_number answer; bytes = bytes_in answer }
+written_numbers answer = record { number = answered_number answer; bytes = bytes_in answer }

@@ -1,18 +1,15 @@
 -- The unit record and the outcomes in numbers (specification 16).
-use Rattle.std.specs.Prelude.{cond, ◌&&◌, ℕ, eqb, ℤ, pos}
-use Rattle.commitment.specs.declared.Limit.{Limit}
-use Rattle.commitment.specs.declared.Limit.TheVariants as limit
+use Rattle.std.specs.Prelude.{cond, ◌&&◌, ℕ, eqb, ℤ, pos, Some, None}
+use Rattle.commitment.specs.Types.{Limit}
 use Rattle.commitment.specs.declared.Outcome.{Outcome}
 use Rattle.commitment.specs.declared.Outcome.TheVariants as outcome
 use Rattle.commitment.specs.declared.Outcomes.{Outcomes}
 use Rattle.calendar.specs.declared.Date.{Date}
 use Rattle.calendar.specs.Dates.{date}
-use Rattle.commitment.specs.declared.Permit.{Permit}
-use Rattle.commitment.specs.declared.Permit.TheVariants.{AnyHour, Within}
+use Rattle.commitment.specs.Types.{Permit}
 use Rattle.commitment.specs.declared.Window.{Window}
 use Rattle.commitment.specs.declared.UnitRecord.{UnitRecord}
-use Rattle.listing.specs.declared.HourWord.{HourWord}
-use Rattle.listing.specs.declared.HourWord.TheVariants as hours
+use Rattle.listing.specs.Types.{HourWord}
 use Rattle.exports.specs.declared.numbers.UnitNumbers.{UnitNumbers}
 use Rattle.exports.specs.declared.numbers.OutcomeNumbers.{OutcomeNumbers}
 use Rattle.exports.specs.declared.numbers.OutcomesNumbers.{OutcomesNumbers}
@@ -23,24 +20,24 @@ abbrev pub none : ℕ
 none = 18446744073709551615
 
 abbrev pub limit_from : ℕ → Limit
-limit_from number = cond (eqb number none) limit.None (limit.At number)
+limit_from number = cond (eqb number none) None (Some number)
 
 abbrev pub limit_number : Limit → ℕ
-limit_number limit.None = none
-limit_number (limit.At number) = number
+limit_number None = none
+limit_number (Some number) = number
 
 -- ---- the permit: all four at `none` is without a date and word; some of them are beyond the ranges
 
 abbrev pub permit_from : Date → ℕ → Permit
 permit_from d word =
-    cond (eqb d.year none && eqb d.month none && eqb d.day none && eqb word none) AnyHour (Within (record { date = d; word = word }))
+    cond (eqb d.year none && eqb d.month none && eqb d.day none && eqb word none) None (Some (record { date = d; word = word }))
 
 abbrev pub window_numbers : Permit → Window
-window_numbers AnyHour = record { date = date none none none; word = none }
-window_numbers (Within w) = w
+window_numbers None = record { date = date none none none; word = none }
+window_numbers (Some w) = w
 
 abbrev pub word_from : ℕ → HourWord
-word_from word = cond (eqb word none) hours.None (hours.Word word)
+word_from word = cond (eqb word none) None (Some word)
 
 -- ---- the record
 

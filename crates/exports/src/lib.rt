@@ -23,7 +23,6 @@ ghost use Rattle.exports.specs.Answers.{assess_numbers, case_numbers, cells_numb
 ghost use Rattle.exports.specs.Answers.{plan_numbers, report_numbers, value_numbers, written_numbers};
 
 use calendar::Date;
-use commitment::Checked;
 use costs::CostInputs;
 use curves::CurveInputs;
 use numbers::{
@@ -91,13 +90,13 @@ pub extern "C" fn ralwinga_cells(unit: UnitNumbers, intervals: usize) -> CellsNu
 {
     let record = numbers::record_of(unit);
     match checking::check_case(record, true, intervals) {
-        Checked::Passed => CellsNumbers {
+        Ok(()) => CellsNumbers {
             number: 0,
             needed: budgets::cells_needed(record, intervals),
             table: budgets::cells_long(record, intervals),
         },
-        Checked::Refused(cause) => CellsNumbers {
-            number: commitment::number_of(cause),
+        Err(cause) => CellsNumbers {
+            number: u64::from(cause),
             needed: 0,
             table: 0,
         },

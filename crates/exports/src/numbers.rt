@@ -4,18 +4,11 @@ ghost use Rattle.std.specs.Prelude.{◌≡◌};
 ghost use Rattle.exports.specs.Records as records;
 ghost use Rattle.exports.specs.Answers as answers;
 
-use assessment::Assessed;
 use calendar::Date;
-use casefile::CaseRead;
-use checking::clock::ClockRead;
-use commitment::{
-    Checked, Costs, Generator, Limit, Limits, Opening, Outcome, Outcomes, Permit, UnitRecord,
-    Window,
-};
-use costs::Costed;
-use curves::Curved;
-use listing::{HourWord, Written};
-use planner::{Planned, Reported, Valued};
+use casefile::Case;
+use commitment::{Cause, Costs, Generator, Limits, Opening, Outcome, Outcomes, UnitRecord, Window};
+use costs::CostFigures;
+use planner::{BestPlan, Report};
 
 // `none` as a number: of a limitation, and in each of the four of a permit for any hour.
 pub const NONE: u64 = 18446744073709551615;
@@ -146,64 +139,50 @@ pub struct WrittenNumbers {
 
 // ---- records
 
-// NONE stands for a limitation that is not there, which an enum says in Rattle.
-fn limit_from(number: u64) -> Limit
+// NONE stands for a limitation that is not there, which an Option says in Rattle.
+fn limit_from(number: u64) -> Option<u64>
     ensures { result ≡ records.limit_from number }
 {
-    if number == NONE {
-        Limit::None
-    } else {
-        Limit::At(number)
-    }
+    if number == NONE { None } else { Some(number) }
 }
 
 // The way back, for a text that was read.
-fn limit_number(limit: Limit) -> u64
+fn limit_number(limit: Option<u64>) -> u64
     ensures { result ≡ records.limit_number limit }
 {
-    match limit {
-        Limit::None => NONE,
-        Limit::At(number) => number,
-    }
+    limit.unwrap_or(NONE)
 }
 
 // Without a date and word where all four are none; where some of them are, the window is beyond its ranges.
-fn permit_from(date: Date, word: u64) -> Permit
+fn permit_from(date: Date, word: u64) -> Option<Window>
     ensures { result ≡ records.permit_from date word }
 {
     if (date.year == NONE) & (date.month == NONE) & (date.day == NONE) & (word == NONE) {
-        Permit::AnyHour
+        None
     } else {
-        Permit::Within(Window { date, word })
+        Some(Window { date, word })
     }
 }
 
 // The window of a permit, none in each figure where it is for any hour.
-fn window_numbers(permit: Permit) -> Window
+fn window_numbers(permit: Option<Window>) -> Window
     ensures { result ≡ records.window_numbers permit }
 {
-    match permit {
-        Permit::AnyHour => Window {
-            date: Date {
-                year: NONE,
-                month: NONE,
-                day: NONE,
-            },
-            word: NONE,
+    permit.unwrap_or(Window {
+        date: Date {
+            year: NONE,
+            month: NONE,
+            day: NONE,
         },
-        Permit::Within(window) => window,
-    }
+        word: NONE,
+    })
 }
 
 // NONE stands for a listing without the line of hours.
-pub fn word_from(word: u64) -> HourWord
+pub fn word_from(word: u64) -> Option<u64>
     ensures { result ≡ records.word_from word }
 {
-    if word == NONE {
-        HourWord::None
-    } else {
-        HourWord::Word(word)
-    }
+    limit_from(word)
 }
 
 // The host has one flat record; the library has its groups.
@@ -251,11 +230,7 @@ fn unit_numbers(unit: UnitRecord) -> UnitNumbers
     let k = unit.costs;
     let opening = unit.opening;
     let limits = unit.limits;
-    let starts = limits.starts;
-    let hours = limits.hours;
-    let mwh = limits.mwh;
-    let permit = unit.permit;
-    let window = window_numbers(permit);
+    let window = window_numbers(unit.permit);
     let date = window.date;
     UnitNumbers {
         block: g.block,
@@ -268,9 +243,9 @@ fn unit_numbers(unit: UnitRecord) -> UnitNumbers
         vec: k.vec,
         mlc: k.mlc,
         suc: k.suc,
-        starts: limit_number(starts),
-        hours: limit_number(hours),
-        mwh: limit_number(mwh),
+        starts: limit_number(limits.starts),
+        hours: limit_number(limits.hours),
+        mwh: limit_number(limits.mwh),
         year: date.year,
         month: date.month,
         day: date.day,
@@ -345,48 +320,45 @@ pub fn outcomes_from(outcomes: OutcomesNumbers) -> Outcomes
 fn outcomes_numbers(outcomes: Outcomes) -> OutcomesNumbers
     ensures { result ≡ records.outcomes_numbers outcomes }
 {
-    let starts = outcomes.starts;
-    let hours = outcomes.hours;
-    let mwh = outcomes.mwh;
     OutcomesNumbers {
-        starts: outcome_numbers(starts),
-        hours: outcome_numbers(hours),
-        mwh: outcome_numbers(mwh),
+        starts: outcome_numbers(outcomes.starts),
+        hours: outcome_numbers(outcomes.hours),
+        mwh: outcome_numbers(outcomes.mwh),
     }
 }
 
 // ---- answers: 0 or the number of the cause, and on a refusal 0 in all else
 
 // A refused reading has no record to turn into numbers.
-pub fn of_case(answer: CaseRead) -> CaseNumbers
+pub fn of_case(answer: Result<Case, Cause>) -> CaseNumbers
     ensures { result ≡ answers.case_numbers answer }
 {
     match answer {
-        CaseRead::Case { unit, count } => CaseNumbers {
+        Ok(case) => CaseNumbers {
             number: 0,
-            count,
-            unit: unit_numbers(unit),
+            count: case.count,
+            unit: unit_numbers(case.unit),
         },
-        CaseRead::Refused(cause) => CaseNumbers {
-            number: commitment::number_of(cause),
+        Err(cause) => CaseNumbers {
+            number: u64::from(cause),
             count: 0,
             unit: no_numbers(),
         },
     }
 }
 
-pub fn of_figures(answer: Costed) -> FiguresNumbers
+pub fn of_figures(answer: Result<CostFigures, Cause>) -> FiguresNumbers
     ensures { result ≡ answers.figures_numbers answer }
 {
     match answer {
-        Costed::Figures(figures) => FiguresNumbers {
+        Ok(figures) => FiguresNumbers {
             number: 0,
             vec: figures.vec,
             suc: figures.suc,
             mlc: figures.mlc,
         },
-        Costed::Refused(cause) => FiguresNumbers {
-            number: commitment::number_of(cause),
+        Err(cause) => FiguresNumbers {
+            number: u64::from(cause),
             vec: 0,
             suc: 0,
             mlc: 0,
@@ -394,87 +366,84 @@ pub fn of_figures(answer: Costed) -> FiguresNumbers
     }
 }
 
-pub fn of_curve(answer: Curved) -> CurveNumbers
-    ensures { result ≡ answers.curve_numbers answer }
+pub fn of_curve(segments: Result<usize, Cause>) -> CurveNumbers
+    ensures { result ≡ answers.curve_numbers segments }
 {
-    match answer {
-        Curved::Segments(count) => CurveNumbers { number: 0, count },
-        Curved::Refused(cause) => CurveNumbers {
-            number: commitment::number_of(cause),
-            count: 0,
-        },
+    CurveNumbers {
+        number: commitment::number_in(&segments),
+        count: segments.unwrap_or(0),
     }
 }
 
-pub fn of_assessment(answer: Assessed) -> AssessNumbers
+pub fn of_assessment(answer: Result<i64, Cause>) -> AssessNumbers
     ensures { result ≡ answers.assess_numbers answer }
 {
     AssessNumbers {
-        number: assessment::number_of(answer),
+        number: commitment::number_in(&answer),
         profit: assessment::profit_of(answer),
     }
 }
 
-pub fn of_clock(answer: ClockRead) -> ClockNumbers
+pub fn of_clock(answer: Result<u64, Cause>) -> ClockNumbers
     ensures { result ≡ answers.clock_numbers answer }
 {
     ClockNumbers {
-        number: checking::clock::number_of(answer),
-        hour: checking::clock::hour_in(answer),
+        number: commitment::number_in(&answer),
+        hour: answer.unwrap_or(0),
     }
 }
 
 // The hours of a lent slice, as many as it has entries.
-pub fn of_hours(answer: Checked, entries: usize) -> HoursNumbers
+pub fn of_hours(answer: Result<(), Cause>, entries: usize) -> HoursNumbers
     ensures { result ≡ answers.hours_numbers answer entries }
 {
     match answer {
-        Checked::Passed => HoursNumbers {
+        Ok(()) => HoursNumbers {
             number: 0,
             count: entries,
         },
-        Checked::Refused(cause) => HoursNumbers {
-            number: commitment::number_of(cause),
+        Err(cause) => HoursNumbers {
+            number: u64::from(cause),
             count: 0,
         },
     }
 }
 
-pub fn of_plan(answer: Planned) -> PlanNumbers
+pub fn of_plan(answer: Result<BestPlan, Cause>) -> PlanNumbers
     ensures { result ≡ answers.plan_numbers answer }
 {
     PlanNumbers {
-        number: planner::contents::planned_number(answer),
+        number: commitment::number_in(&answer),
         count: planner::contents::planned_count(answer),
         profit: planner::contents::planned_profit(answer),
     }
 }
 
-pub fn of_value(answer: Valued) -> ValueNumbers
+pub fn of_value(answer: Result<Outcomes, Cause>) -> ValueNumbers
     ensures { result ≡ answers.value_numbers answer }
 {
     ValueNumbers {
-        number: planner::contents::valued_number(answer),
+        number: commitment::number_in(&answer),
         outcomes: outcomes_numbers(planner::contents::valued_outcomes(answer)),
     }
 }
 
-pub fn of_report(answer: Reported) -> ReportNumbers
+pub fn of_report(answer: Result<Report, Cause>) -> ReportNumbers
     ensures { result ≡ answers.report_numbers answer }
 {
     ReportNumbers {
-        number: planner::contents::reported_number(answer),
+        number: commitment::number_in(&answer),
         count: planner::contents::reported_count(answer),
         profit: planner::contents::reported_profit(answer),
         outcomes: outcomes_numbers(planner::contents::reported_outcomes(answer)),
     }
 }
 
-pub fn of_written(answer: Written) -> WrittenNumbers
+pub fn of_written(answer: Result<usize, Cause>) -> WrittenNumbers
     ensures { result ≡ answers.written_numbers answer }
 {
     WrittenNumbers {
-        number: listing::number_in(answer),
-        bytes: listing::bytes_in(answer),
+        number: commitment::number_in(&answer),
+        bytes: answer.unwrap_or(0),
     }
 }

@@ -1,4 +1,5 @@
 -- A cell's number tells whether there is a schedule, and its profit.
+use Rattle.std.specs.Prelude.{None, Some}
 use mathlib.Core.Path.{◌≡◌, refl, ap}
 use Prim.Native.Nat.{ℕ, ◌^◌, ◌≤◌}
 use native.Mathlib.Nat.{zero-mul, zero-add}
@@ -9,8 +10,7 @@ use lib.ListN.{length}
 use Rattle.integers.proofs.Linear.{up, dn, zarith}
 use Rattle.integers.proofs.Order.{lt-lt_z, le-lt_z}
 use Rattle.integers.proofs.Ranges.{within-abs}
-use Rattle.commitment.specs.declared.BestProfit.{BestProfit}
-use Rattle.commitment.specs.declared.BestProfit.TheVariants.{Nothing, Profit}
+use Rattle.commitment.specs.Types.{BestProfit}
 use Rattle.commitment.specs.Bounds.{most_intervals}
 use Rattle.optimality.specs.declared.Figures.{Figures}
 use Rattle.optimality.specs.declared.Cell.{Cell}
@@ -29,9 +29,9 @@ unfolding dn
 dn-halfway = refl
 
 pub told_is : (n : ℕ) (v : BestProfit) (a : ℤ) → n ≤ most_intervals → Holds n v a → told a ≡ v
-told_is n Nothing a short h = rw (lt-lt_z a halfway (omega (zarith, above-infeasible n short, h.1, up-halfway, dn-halfway)))
-told_is n (Profit p) a short h =
-    rw (le-lt_z a halfway (omega (zarith, within-abs p, h.0, h.1, up-halfway, dn-halfway))) (ap Profit h.0)
+told_is n None a short h = rw (lt-lt_z a halfway (omega (zarith, above-infeasible n short, h.1, up-halfway, dn-halfway)))
+told_is n (Some p) a short h =
+    rw (le-lt_z a halfway (omega (zarith, within-abs p, h.0, h.1, up-halfway, dn-halfway))) (ap Some h.0)
 
 -- a cell of a layer at the front tells its best profit
 pub front-told : (f : Figures) (ends : Cell → BestProfit) (quarters : List Quarter) (cells : List ℤ) (c : Cell)

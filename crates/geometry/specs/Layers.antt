@@ -1,8 +1,7 @@
 -- What a cell's number says, and when a table is filled.
-use Rattle.std.specs.Prelude.{cond, List, ℕ, ◌+◌, ◌*◌, ◌^◌, ◌≤◌, ℤ, pos, neg_ℤ, nat_abs, ◌+ℤ◌, length, get_or, drop, ◌≤ℤ◌, ◌≡◌}
+use Rattle.std.specs.Prelude.{cond, List, ℕ, ◌+◌, ◌*◌, ◌^◌, ◌≤◌, ℤ, pos, neg_ℤ, nat_abs, ◌+ℤ◌, length, get_or, drop, ◌≤ℤ◌, ◌≡◌, Some, None}
 use Rattle.std.specs.Int.Signed.{lt_z}
-use Rattle.commitment.specs.declared.BestProfit.{BestProfit}
-use Rattle.commitment.specs.declared.BestProfit.TheVariants.{Nothing, Profit}
+use Rattle.commitment.specs.Types.{BestProfit}
 use Rattle.commitment.specs.Bounds.{most_mw, most_vec, most_mlc, most_suc, most_price, most_intervals}
 use Rattle.optimality.specs.declared.Figures.{Figures}
 use Rattle.optimality.specs.declared.Cell.{Cell}
@@ -21,7 +20,7 @@ abbrev pub halfway : ℤ
 halfway = neg_ℤ (pos (2 ^ 61))
 
 abbrev pub told : ℤ → BestProfit
-told number = cond (lt_z number halfway) Nothing (Profit number)
+told number = cond (lt_z number halfway) None (Some number)
 
 -- the most that a start costs, in quarter-cents, and the most that one interval can earn or lose
 abbrev pub most_pays : ℕ
@@ -32,8 +31,8 @@ swing = most_price * most_mw + most_vec * (most_mw + most_mw) + most_mlc + most_
 
 -- what a cell holds of its best profit, n intervals before the end
 abbrev pub Holds : ℕ → BestProfit → ℤ → Type 0
-Holds n Nothing r = (infeasible ≤ℤ r) × (r ≤ℤ (infeasible +ℤ pos (n * swing)))
-Holds n (Profit p) r = (r ≡ p) × (nat_abs p ≤ n * swing)
+Holds n None r = (infeasible ≤ℤ r) × (r ≤ℤ (infeasible +ℤ pos (n * swing)))
+Holds n (Some p) r = (r ≡ p) × (nat_abs p ≤ n * swing)
 
 -- ---- layers
 

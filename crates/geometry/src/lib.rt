@@ -10,7 +10,6 @@ ghost use Rattle.geometry.specs.Geometry.{row, span, section, width};
 ghost use Rattle.geometry.specs.Geometry as geometry;
 ghost use Rattle.geometry.specs.Layers as layers;
 
-use commitment::BestProfit;
 use optimality::{Budgets, Cell, Figures};
 
 // What a cell without a schedule holds, or a little more; no profit comes near, and half of it tells the two apart.
@@ -89,11 +88,11 @@ pub fn cell_of(f: Figures, i: usize) -> Cell
 }
 
 // The best profit that a cell's number stands for.
-pub fn told(number: i64) -> BestProfit
+pub fn told(number: i64) -> Option<i64>
     ensures { result ≡ layers.told number }
 {
     if number < HALFWAY {
-        return BestProfit::Nothing;
+        return None;
     }
-    BestProfit::Profit(number)
+    Some(number)
 }

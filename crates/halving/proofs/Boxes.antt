@@ -1,4 +1,5 @@
 -- A cell's own budgets for tops: no step reads the tops, so plans are the same, in a table that is no larger.
+use Rattle.std.specs.Prelude.{None, Some}
 use mathlib.Core.Path.{◌≡◌, refl, sym, ap, ◌∙◌}
 use mathlib.Core.Bool.{Bool, true, false}
 use mathlib.Core.List.{List, ◌++◌}
@@ -9,8 +10,8 @@ use borrow.Author.Tests.{ltb-true, ltb-false}
 use lib.Dec.{ltb}
 use lib.IntN.{ℤ}
 use lib.ListN.{length, take, drop}
-use Rattle.commitment.specs.declared.BestProfit.{BestProfit}
-use Rattle.commitment.specs.declared.windows.Hours.{Hours}
+use Rattle.commitment.specs.Types.{BestProfit}
+use Rattle.commitment.specs.Types.{Hours}
 use Rattle.commitment.specs.Best.{Plan, schedule_of}
 use Rattle.commitment.specs.Tries.{tries_over}
 use Rattle.optimality.specs.declared.Cell.{Cell}
@@ -20,8 +21,7 @@ use Rattle.optimality.specs.Cells.{Sound, InTable, plan_at, value_at}
 use Rattle.optimality.proofs.Within.{within-itself, with-sound}
 use Rattle.geometry.specs.Geometry.{row, span, section, width}
 use Rattle.halving.specs.declared.Task.{Task}
-use Rattle.halving.specs.declared.End.{End}
-use Rattle.halving.specs.declared.End.TheVariants.{Anywhere, In}
+use Rattle.halving.specs.Types.{End}
 use Rattle.halving.specs.Tasks.{boxed, frame, ends_by, Reachable, quarters_here, Asked, Given, TaskAsked, Leaf, PassAsked, Marked, Halves, Solved}
 
 module _ (f : Figures) (c : Cell) where
@@ -73,8 +73,8 @@ module _ (f : Figures) (prices : List ℤ) (hours : Hours) (room : ℕ) (t : Tas
       }
     where
       reached : (e : End) → Reachable f e → Reachable g e
-      reached Anywhere h = h
-      reached (In s) h = h
+      reached None h = h
+      reached (Some s) h = h
 
   given : Given g prices hours t schedule
   given =

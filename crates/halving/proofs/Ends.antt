@@ -1,4 +1,5 @@
 -- The layer after the last interval says where a plan may end.
+use Rattle.std.specs.Prelude.{None, Some}
 use mathlib.Core.Path.{◌≡◌, refl, sym, ap, ◌∙◌}
 use mathlib.Core.Bool.{Bool, true, false, true≢false, cond, ◌&&◌}
 use mathlib.Core.List.{List, []}
@@ -11,7 +12,6 @@ use lib.IntN.{ℤ, pos}
 use lib.ListN.{length, set}
 use lib.Seq.{get_or-set_same, get_or-set_other}
 use Rattle.lists.proofs.Conjunctions.{both}
-use Rattle.commitment.specs.declared.BestProfit.TheVariants.{Nothing, Profit}
 use Rattle.optimality.specs.declared.Cell.{Cell}
 use Rattle.optimality.specs.declared.Figures.{Figures}
 use Rattle.optimality.specs.Cells.{InTable, cell, states}
@@ -63,7 +63,7 @@ module _ (f : Figures) (s : ℕ) (inside : s < states f) where
     ended = set barred (at + s * section f) (pos 0)
 
     module _ (long : length barred ≡ length was) where
-      here : (c : Cell) → c ≡ bare → Holds 0 (Profit (pos 0)) (stored_at f ended at c)
+      here : (c : Cell) → c ≡ bare → Holds 0 (Some (pos 0)) (stored_at f ended at c)
       here c e =
           let place : at + index f c ≡ at + s * section f = ap (λ (z : Cell). at + index f z) e ∙ ap (λ (n : ℕ). at + n) bare-place in
           rw place (get_or-set_same barred (at + s * section f) (pos 0) (pos 0) (omega (arith, long, room, bare-lt)), omega arith)
@@ -74,14 +74,14 @@ module _ (f : Figures) (s : ℕ) (inside : s < states f) where
           let same : index f c ≡ index f bare = omega (arith, e, bare-place) in
           sym (cell-there f c i) ∙ ap (cell_of f) same ∙ cell-there f bare bare-inside
 
-      other : (c : Cell) → InTable f c → (c ≡ bare → ⊥) → Holds 0 Nothing (stored_at f ended at c)
+      other : (c : Cell) → InTable f c → (c ≡ bare → ⊥) → Holds 0 None (stored_at f ended at c)
       other c i differs =
           rw (
             get_or-set_other barred (at + s * section f) (at + index f c) (pos 0) (pos 0) (λ e. differs (placed c i (omega (arith, e)))),
             put-inside was at (width f) infeasible room (index f c) (index-lt f c i),
           ) (holds-none 0 (omega arith))
 
-      either : (c : Cell) → InTable f c → (t : Bool) → is_bare s c ≡ t → Holds 0 (cond t (Profit (pos 0)) Nothing) (stored_at f ended at c)
+      either : (c : Cell) → InTable f c → (t : Bool) → is_bare s c ≡ t → Holds 0 (cond t (Some (pos 0)) None) (stored_at f ended at c)
       either c i true e = here c (bare-is s c e)
       either c i false e = other c i (λ k. true≢false (sym (ap (is_bare s) k ∙ is-bare s) ∙ e))
 

@@ -1,4 +1,5 @@
 -- The halves of a plan, cut where it stands at the middle: each is the plan of its own task, and together they are the whole.
+use Rattle.std.specs.Prelude.{None, Some}
 use mathlib.Core.Path.{◌≡◌, sym, ap, ap₂, subst, ◌∙◌}
 use mathlib.Core.List.{List, [], ◌∷◌, ◌++◌}
 use Prim.Native.Nat.{ℕ, zero, suc, ◌+◌, ◌-◌, ◌*◌, ◌≤◌, ◌<◌}
@@ -7,9 +8,8 @@ use native.Mathlib.Omega.{arith}
 use lib.IntN.{ℤ, pos}
 use lib.ListN.{length, take, drop, take-append-drop}
 use lib.Seq.{take-take, drop-drop}
-use Rattle.commitment.specs.declared.BestProfit.{BestProfit}
-use Rattle.commitment.specs.declared.BestProfit.TheVariants.{Nothing}
-use Rattle.commitment.specs.declared.windows.Hours.{Hours}
+use Rattle.commitment.specs.Types.{BestProfit}
+use Rattle.commitment.specs.Types.{Hours}
 use Rattle.commitment.specs.Best.{Plan, plan, profit_of, schedule_of}
 use Rattle.commitment.specs.Bounds.{most_blocks}
 use Rattle.commitment.specs.Tries.{tries_over}
@@ -33,8 +33,7 @@ use Rattle.marks.specs.Standing.{Stands, MarkedBy, ends_in, spent}
 use Rattle.marks.proofs.Halving.{spends-within, earlier-half}
 use Rattle.marks.specs.declared.Frame.{Frame}
 use Rattle.halving.specs.declared.Task.{Task}
-use Rattle.halving.specs.declared.End.{End}
-use Rattle.halving.specs.declared.End.TheVariants.{Anywhere, In}
+use Rattle.halving.specs.Types.{End}
 use Rattle.halving.specs.Tasks.{boxed, frame, ends_by, Reachable, midway, plan_of, early_half, late_half, Asked, TaskAsked, Solved, Marked, Halves, MarkKept}
 use Rattle.halving.proofs.Boxes.{boxed-width}
 use Rattle.halving.proofs.Parts.{both-written}
@@ -60,7 +59,7 @@ between-parts quarters from at to early late =
 
 -- a plan has a profit
 pub planned : (f : Figures) (ends : Cell → BestProfit) (quarters : List Quarter) (c : Cell) (s : List ℕ) (p : ℤ) → plan_at f ends quarters c ≡ plan s p
-    → value_at f ends quarters c ≡ Nothing → ⊥
+    → value_at f ends quarters c ≡ None → ⊥
 planned f ends quarters c s p e none = no-earning (sym none ∙ sym (plan-value f ends quarters c) ∙ ap profit_of e)
 
 -- the middle lies before the end, and where there are two intervals or more behind the beginning
@@ -151,7 +150,7 @@ module _ (g : Frame) (prices : List ℤ) (room : ℕ) (t : Task) (cells : List �
         record {
           given =
               record {
-                asked = asked_in from mid (In at.state) (omega (arith, apart)) (omega (arith, apart)) stands.inside.state;
+                asked = asked_in from mid (Some at.state) (omega (arith, apart)) (omega (arith, apart)) stands.inside.state;
                 here = spent-inside;
                 some = planned f (ends_in at.state) (between quarters from mid) (spent c at) stands.outputs stands.earned early-plan;
                 long = omega (arith, apart, long);
@@ -218,7 +217,7 @@ module _ (f : Figures) (prices : List ℤ) (hours : Hours) where
   pub whole : between (quarters_in hours prices) 0 (length prices) ≡ quarters_in hours prices
   whole = between-all (quarters_in hours prices) (length prices) (sym (quarters-length (opens hours) 0 prices))
 
-  pub first-layer : (w : ℕ) (cells : List ℤ) → Marked (frame f w hours) prices 0 (length prices) Anywhere cells
+  pub first-layer : (w : ℕ) (cells : List ℤ) → Marked (frame f w hours) prices 0 (length prices) None cells
       → Layer f anywhere (quarters_in hours prices) (in_front f cells)
   first-layer w cells m =
       let half = div-le_self (length prices - 0) 2 in

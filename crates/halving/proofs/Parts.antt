@@ -10,7 +10,7 @@ use lib.ListN.{length, get_or, take, drop, length-take, length-drop, length-appe
 use lib.Seq.{get_or-take, get_or-drop, drop-drop, length-take-le, drop-append-add, take-append_seam}
 use borrow.Rule.Slice.PartMut.{put_mid}
 use Rattle.lists.proofs.Fills.{tail-back}
-use Rattle.commitment.specs.declared.windows.Hours.{Hours}
+use Rattle.commitment.specs.Types.{Hours}
 use Rattle.commitment.specs.Ranges.{Priced}
 use Rattle.commitment.specs.Windows.{opens}
 use Rattle.optimality.specs.Machine.{quarter, quarters_from}

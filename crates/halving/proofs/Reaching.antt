@@ -1,13 +1,13 @@
 -- A plan up to a layer that stands: it ends in the cell that its own is marked with, and is the plan of the task that ends there with nothing left.
+use Rattle.std.specs.Prelude.{None, Some}
 use mathlib.Core.Path.{◌≡◌, refl, sym, ap, ap₂, ◌∙◌, subst}
 use mathlib.Core.List.{List, [], ◌∷◌, ◌++◌, append-nil}
 use Prim.Native.Nat.{ℕ, ◌+◌, ◌-◌, ◌≤◌}
 use native.Mathlib.Omega.{arith}
 use lib.IntN.{ℤ, pos, ◌+ℤ◌}
 use lib.ListN.{length, take, drop}
-use Rattle.commitment.specs.declared.BestProfit.{BestProfit}
-use Rattle.commitment.specs.declared.BestProfit.TheVariants.{Nothing, Profit}
-use Rattle.commitment.specs.declared.windows.Hours.{Hours}
+use Rattle.commitment.specs.Types.{BestProfit}
+use Rattle.commitment.specs.Types.{Hours}
 use Rattle.commitment.specs.Best.{Plan, plan, nothing, schedule_of}
 use Rattle.commitment.specs.Bounds.{most_intervals}
 use Rattle.commitment.specs.Tries.{tries_over}
@@ -29,7 +29,6 @@ use Rattle.marks.specs.Standing.{Stands, MarkedBy, SweepAsked, Numbered, ends_in
 use Rattle.marks.specs.declared.Frame.{Frame}
 use Rattle.marks.proofs.Halving.{spends-within, earlier-half}
 use Rattle.halving.specs.declared.Task.{Task}
-use Rattle.halving.specs.declared.End.TheVariants.{In}
 use Rattle.halving.specs.declared.ahead.Leg.{Leg}
 use Rattle.halving.specs.declared.ahead.Reached.{Reached}
 use Rattle.halving.specs.Tasks.{boxed, plan_of, TaskAsked, Solved, MarkKept}
@@ -38,17 +37,17 @@ use Rattle.halving.proofs.Boxes.{boxed-width}
 use Rattle.halving.proofs.Joining.{planned}
 
 -- a plan of no intervals is what its cell is worth
-plan-end : (f : Figures) (ends : Cell → BestProfit) (c : Cell) (s : List ℕ) (p : ℤ) → plan_at f ends [] c ≡ plan s p → (s ≡ []) × (ends c ≡ Profit p)
+plan-end : (f : Figures) (ends : Cell → BestProfit) (c : Cell) (s : List ℕ) (p : ℤ) → plan_at f ends [] c ≡ plan s p → (s ≡ []) × (ends c ≡ Some p)
 unfolding plan_at
 plan-end f ends c s p e = by (ends c) e
   where
-    by : (v : BestProfit) → ended v ≡ plan s p → (s ≡ []) × (v ≡ Profit p)
-    by Nothing h = absurd (not-plan h)
-    by (Profit q) h = (sym (ap schedule_of h), cc)
+    by : (v : BestProfit) → ended v ≡ plan s p → (s ≡ []) × (v ≡ Some p)
+    by None h = absurd (not-plan h)
+    by (Some q) h = (sym (ap schedule_of h), cc)
 
 -- the task that ends in a cell with nothing left
 abbrev pub leg_task : Leg → Cell → Task
-leg_task l at = record { from = l.from; to = l.to; cell = spent l.cell at; end = In at.state }
+leg_task l at = record { from = l.from; to = l.to; cell = spent l.cell at; end = Some at.state }
 
 module _ (g : Frame) (was prices : List ℤ) (room : ℕ) (l : Leg) (schedule : ℕ) (asked : LegAsked g was prices room l schedule) where
   abbrev f : Figures
@@ -94,7 +93,7 @@ module _ (g : Frame) (was prices : List ℤ) (room : ℕ) (l : Leg) (schedule : 
       }
 
   module _ (now : List ℤ) (numbered : Numbered f w was now quarters) (worth : Cell → BestProfit) (n : ℕ) (few : n + (l.to - l.from) ≤ most_intervals)
-      (layer : LayerAt f n worth (value_of f w was)) (some : value_at f worth quarters c ≡ Nothing → ⊥) where
+      (layer : LayerAt f n worth (value_of f w was)) (some : value_at f worth quarters c ≡ None → ⊥) where
     -- the cell where the plan ends
     pub mark : MarkedBy f worth quarters [] (λ x. pos (index f x)) c (mark_of f w now c)
     mark =

@@ -1,7 +1,6 @@
 -- A plan up to a layer that stands in front of the scratch and says what every cell is worth where the prices end.
-use Rattle.std.specs.Prelude.{◌≡◌, List, ◌++◌, ℕ, ◌+◌, ◌-◌, ◌*◌, ◌≤◌, ℤ, ◌+ℤ◌, length, take, drop}
-use Rattle.commitment.specs.declared.BestProfit.{BestProfit}
-use Rattle.commitment.specs.declared.BestProfit.TheVariants.{Nothing, Profit}
+use Rattle.std.specs.Prelude.{◌≡◌, List, ◌++◌, ℕ, ◌+◌, ◌-◌, ◌*◌, ◌≤◌, ℤ, ◌+ℤ◌, length, take, drop, Some, None}
+use Rattle.commitment.specs.Types.{BestProfit}
 use Rattle.commitment.specs.Best.{plan}
 use Rattle.commitment.specs.Bounds.{most_blocks, most_intervals}
 use Rattle.commitment.specs.Ranges.{Priced}
@@ -39,7 +38,7 @@ pub record LegAsked (g : Frame) (cells prices : List ℤ) (room : ℕ) (l : Leg)
   pub ahead : ℕ
   pub few : ahead + (l.to - l.from) ≤ most_intervals
   pub layer : LayerAt g.figures ahead worth (value_of g.figures g.width cells)
-  pub some : value_at g.figures worth (quarters_over g prices l) l.cell ≡ Nothing → ⊥
+  pub some : value_at g.figures worth (quarters_over g prices l) l.cell ≡ None → ⊥
 
 -- the best plan stands in its place of the schedule and leads to the cell given, and the rest is as it was; so many outputs were tried
 pub record ReachedBy (g : Frame) (prices : List ℤ) (l : Leg) (worth : Cell → BestProfit) (was now : List ℕ) (r : Reached) : Type 0 where
@@ -48,7 +47,7 @@ pub record ReachedBy (g : Frame) (prices : List ℤ) (l : Leg) (worth : Cell →
   pub earned : ℤ
   pub leads : walk Cell Quarter (in_quarter (cell_step g.figures)) (quarters_over g prices l) l.cell outputs ≡ go earned r.cell
   pub profit : ℤ
-  pub later : worth r.cell ≡ Profit profit
+  pub later : worth r.cell ≡ Some profit
   pub best : plan_at g.figures worth (quarters_over g prices l) l.cell ≡ plan outputs (earned +ℤ profit)
   pub written : now ≡ take l.from was ++ (outputs ++ drop l.to was)
   pub tried : r.tries ≡ tries_over g.figures.block g.figures.pmin outputs
@@ -58,4 +57,4 @@ pub record ReachedBy (g : Frame) (prices : List ℤ) (l : Leg) (worth : Cell →
 abbrev pub RunsTo : Frame → List ℤ → Leg → List ℤ → List ℕ → List ℕ → Reached → Type 0
 RunsTo g prices l cells was now r =
     (worth : Cell → BestProfit) (n : ℕ) → n + (l.to - l.from) ≤ most_intervals → LayerAt g.figures n worth (value_of g.figures g.width cells)
-    → (value_at g.figures worth (quarters_over g prices l) l.cell ≡ Nothing → ⊥) → ReachedBy g prices l worth was now r
+    → (value_at g.figures worth (quarters_over g prices l) l.cell ≡ None → ⊥) → ReachedBy g prices l worth was now r

@@ -1,8 +1,7 @@
 -- A task: the prices from one interval on to another, a cell to start from, and an end. Its plan, and what solving it asks and gives.
-use Rattle.std.specs.Prelude.{◌≡◌, List, ◌++◌, ℕ, ◌+◌, ◌-◌, ◌*◌, ◌/◌, ◌≤◌, ◌<◌, ℤ, pos, length, get_or, take, drop}
-use Rattle.commitment.specs.declared.BestProfit.{BestProfit}
-use Rattle.commitment.specs.declared.BestProfit.TheVariants.{Nothing}
-use Rattle.commitment.specs.declared.windows.Hours.{Hours}
+use Rattle.std.specs.Prelude.{◌≡◌, List, ◌++◌, ℕ, ◌+◌, ◌-◌, ◌*◌, ◌/◌, ◌≤◌, ◌<◌, ℤ, pos, length, get_or, take, drop, Some, None}
+use Rattle.commitment.specs.Types.{BestProfit}
+use Rattle.commitment.specs.Types.{Hours}
 use Rattle.commitment.specs.Best.{Plan, schedule_of}
 use Rattle.commitment.specs.Bounds.{most_blocks, most_intervals}
 use Rattle.commitment.specs.Ranges.{Priced}
@@ -19,8 +18,7 @@ use Rattle.marks.specs.Lines.{value_of, mark_of}
 use Rattle.marks.specs.declared.Frame.{Frame}
 use Rattle.marks.specs.Standing.{MarkedLayer, ends_in, spent}
 use Rattle.halving.specs.declared.Task.{Task}
-use Rattle.halving.specs.declared.End.{End}
-use Rattle.halving.specs.declared.End.TheVariants.{Anywhere, In}
+use Rattle.halving.specs.Types.{End}
 
 -- the figures with a cell's own budgets
 abbrev pub boxed : Figures → Cell → Figures
@@ -28,12 +26,12 @@ boxed f c = with_most f c.left
 
 -- where plans end, and that some cell of the table is there
 abbrev pub ends_by : End → Cell → BestProfit
-ends_by Anywhere = anywhere
-ends_by (In s) = ends_in s
+ends_by None = anywhere
+ends_by (Some s) = ends_in s
 
 abbrev pub Reachable : Figures → End → Type 0
-Reachable f Anywhere = Unit
-Reachable f (In s) = s < states f
+Reachable f None = Unit
+Reachable f (Some s) = s < states f
 
 -- the cells of a table that is filled aside
 abbrev pub near : ℕ
@@ -50,7 +48,7 @@ midway from to = from + (to - from) / 2
 -- its halves, where the plan stands in a cell at the middle: before it from what the plan spends there, to end in that state with nothing left; behind it
 -- from that cell to the task's own end
 abbrev pub early_half : Task → ℕ → Cell → Task
-early_half t mid at = record { from = t.from; to = mid; cell = spent t.cell at; end = In at.state }
+early_half t mid at = record { from = t.from; to = mid; cell = spent t.cell at; end = Some at.state }
 
 abbrev pub late_half : Task → ℕ → Cell → Task
 late_half t mid at = record { from = mid; to = t.to; cell = at; end = t.end }
@@ -64,7 +62,7 @@ module _ (f : Figures) (prices : List ℤ) (hours : Hours) where
   plan_of t = plan_at f (ends_by t.end) (quarters_here t.from t.to) t.cell
 
   abbrev pub HasPlan : Task → Type 0
-  HasPlan t = value_at f (ends_by t.end) (quarters_here t.from t.to) t.cell ≡ Nothing → ⊥
+  HasPlan t = value_at f (ends_by t.end) (quarters_here t.from t.to) t.cell ≡ None → ⊥
 
   -- prices, and an end that can be
   pub record Asked (from to : ℕ) (end : End) : Type 0 where
@@ -149,7 +147,7 @@ frame f w hours = record { figures = f; width = w; hours = hours }
 -- after its first pass: the first layer in front, and the marks behind it
 pub record FirstPass (f : Figures) (prices : List ℤ) (hours : Hours) (w : ℕ) (cells : List ℤ) : Type 0 where
   pub layer : Layer f anywhere (quarters_in hours prices) (in_front f cells)
-  pub marked : Marked (frame f w hours) prices 0 (length prices) Anywhere cells
+  pub marked : Marked (frame f w hours) prices 0 (length prices) None cells
 
 abbrev pub CaseAsked : Figures → List ℤ → Hours → ℕ → ℕ → Type 0
-CaseAsked f prices hours w cells = PassAsked (frame f w hours) prices 0 (length prices) Anywhere cells
+CaseAsked f prices hours w cells = PassAsked (frame f w hours) prices 0 (length prices) None cells

@@ -7,7 +7,7 @@ ghost use Rattle.marks.specs.Standing.{SweepAsked, Numbered};
 ghost use Rattle.halving.specs.Tasks.{Untouched};
 ghost use Rattle.halving.specs.Reaching.{LegAsked, RunsTo};
 
-use crate::{BUFFER, End, Task};
+use crate::{BUFFER, Task};
 use marks::{Frame, passes};
 use optimality::Cell;
 
@@ -61,7 +61,7 @@ pub fn plan_to(
         from,
         to,
         cell: crate::spent(c, at),
-        end: End::In(at.state),
+        end: Some(at.state),
     };
     let tries = crate::solve(cells, room, f, prices, hours, task, schedule);
     Reached { cell: at, tries }

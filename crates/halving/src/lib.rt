@@ -8,8 +8,7 @@
 
 pub mod ahead;
 
-ghost use Rattle.std.specs.Prelude.{◌≡◌, [], ◌++◌, ◌+◌, ◌-◌, ◌*◌, ◌≤◌, ◌<◌, pos, nat_abs, length, drop};
-ghost use Rattle.commitment.specs.declared.BestProfit.TheVariants.{Nothing};
+ghost use Rattle.std.specs.Prelude.{◌≡◌, [], ◌++◌, ◌+◌, ◌-◌, ◌*◌, ◌≤◌, ◌<◌, pos, nat_abs, length, drop, None};
 ghost use Rattle.commitment.specs.Best.{schedule_of};
 ghost use Rattle.commitment.specs.Tries.{tries_over};
 ghost use Rattle.optimality.specs.Machine.{anywhere};
@@ -23,7 +22,7 @@ ghost use Rattle.halving.specs.Tasks.{near, ends_by, Reachable, Untouched, TaskA
 ghost use Rattle.halving.specs.Tasks.{CaseAsked, FirstPass, early_half, late_half};
 ghost use Rattle.halving.specs.Tasks as tasks;
 
-use commitment::windows::Hours;
+use commitment::windows::Allowed;
 use geometry::INFEASIBLE;
 use intervals::rows;
 use marks::{Frame, passes};
@@ -35,20 +34,13 @@ const BUFFER: usize = 1024;
 // The cells of a table that is filled aside, where it has no more: as many as the buffers of a pass together, so that the stack takes no more for it.
 const NEAR: usize = 2048;
 
-// Where a plan may end: in any cell, or in a state with nothing left.
-#[derive(Clone, Copy)]
-pub enum End {
-    Anywhere,
-    In(usize),
-}
-
-// The prices from one interval on to another, a cell to start from, and an end.
+// The prices from one interval on to another, a cell to start from, and the state in which the plan ends with nothing left; or it may end in any cell.
 #[derive(Clone, Copy)]
 pub struct Task {
     pub from: usize,
     pub to: usize,
     pub cell: Cell,
-    pub end: End,
+    pub end: Option<usize>,
 }
 
 // The figures with a cell's own budgets: more is never left on the way from it.
@@ -96,14 +88,14 @@ fn midway(from: usize, to: usize) -> usize
 }
 
 // The layer after the last interval: 0 where a plan may end.
-fn put_end(cells: &mut [i64], at: usize, w: usize, f: Figures, end: End)
+fn put_end(cells: &mut [i64], at: usize, w: usize, f: Figures, end: Option<usize>)
     requires { (Sound f) × (w ≡ width f) × (at + w ≤ length cells.old) × (Reachable f end) }
     ensures layer { Layer f (ends_by end) [] (stored_at f cells.new at) }
     ensures apart { Apart cells.old cells.new at w }
 {
     match end {
-        End::Anywhere => rows::put(cells, at, w, 0),
-        End::In(s) => {
+        None => rows::put(cells, at, w, 0),
+        Some(s) => {
             rows::put(&mut *cells, at, w, INFEASIBLE);
             let i = at + s * geometry::section_cells(f);
             cells[i] = 0;
@@ -112,7 +104,7 @@ fn put_end(cells: &mut [i64], at: usize, w: usize, f: Figures, end: End)
 }
 
 // The first layer of so many intervals, and for every cell the number of the cell where its plan stands at the middle.
-fn pass(cells: &mut [i64], g: Frame, prices: &[i64], from: usize, to: usize, end: End)
+fn pass(cells: &mut [i64], g: Frame, prices: &[i64], from: usize, to: usize, end: Option<usize>)
     requires { PassAsked g prices.now from to end (length cells.old) }
     ensures { Halved g prices.now from to end cells.old cells.new }
 {
@@ -178,7 +170,7 @@ fn early_half(t: Task, mid: usize, at: Cell) -> Task
     ensures { result ≡ early_half t mid at }
 {
     let cell = spent(t.cell, at);
-    let end = End::In(at.state);
+    let end = Some(at.state);
     Task {
         from: t.from,
         to: mid,
@@ -207,7 +199,7 @@ fn solve(
     room: usize,
     f: Figures,
     prices: &[i64],
-    hours: Hours,
+    hours: Option<Allowed>,
     t: Task,
     schedule: &mut [u64],
 ) -> usize
@@ -260,7 +252,7 @@ fn halves(
 }
 
 // The first pass over a whole case: the first layer in front, and behind it where the plans stand at the middle.
-pub fn first_pass(cells: &mut [i64], w: usize, f: Figures, prices: &[i64], hours: Hours)
+pub fn first_pass(cells: &mut [i64], w: usize, f: Figures, prices: &[i64], hours: Option<Allowed>)
     requires { CaseAsked f prices.now hours w (length cells.old) }
     ensures first_pass { FirstPass f prices.now hours w cells.new }
     ensures beyond { Beyond (w + w) cells.old cells.new }
@@ -270,7 +262,7 @@ pub fn first_pass(cells: &mut [i64], w: usize, f: Figures, prices: &[i64], hours
         width: w,
         hours,
     };
-    pass(cells, g, prices, 0, prices.len(), End::Anywhere);
+    pass(cells, g, prices, 0, prices.len(), None);
 }
 
 // The best plan from a cell that has one, in the front of the schedule, and how many outputs were tried for it.
@@ -279,13 +271,13 @@ pub fn plan_from(
     w: usize,
     f: Figures,
     prices: &[i64],
-    hours: Hours,
+    hours: Option<Allowed>,
     from: Cell,
     schedule: &mut [u64],
 ) -> usize
     requires case_asked { (CaseAsked f prices.now hours w (length cells.old)) × (FirstPass f prices.now hours w cells.old) × (InTable f from) }
     requires in_bounds { (2 ≤ length prices.now) × (length prices.now ≤ length schedule.old) }
-    requires fact { value_at f anywhere (quarters_in hours prices.now) from ≡ Nothing → ⊥ }
+    requires fact { value_at f anywhere (quarters_in hours prices.now) from ≡ None → ⊥ }
     ensures value { result ≡ tries_over f.block f.pmin (schedule_of (plan_at f anywhere (quarters_in hours prices.now) from)) }
     ensures schedule_after { schedule.new
         ≡ schedule_of (plan_at f anywhere (quarters_in hours prices.now) from) ++ drop (length prices.now) schedule.old }
@@ -296,7 +288,7 @@ pub fn plan_from(
         width: w,
         hours,
     };
-    let end = End::Anywhere;
+    let end = None;
     let task = Task {
         from: 0,
         to: prices.len(),

@@ -15,7 +15,7 @@ use Rattle.lists.proofs.Conjunctions.{both}
 use Rattle.commitment.proofs.Margins.{margin-within, most_margin}
 use Rattle.optimality.specs.declared.Figures.{Figures}
 use Rattle.optimality.specs.declared.Cell.{Cell}
-use Rattle.commitment.specs.declared.BestProfit.{BestProfit}
+use Rattle.commitment.specs.Types.{BestProfit}
 use Rattle.optimality.specs.Machine.{Quarter, quarter, go, allow, more, value_along}
 use Rattle.optimality.specs.Cells.{Sound, InTable, states, after_off, after_on, start_takes, start_pays, may_run, gain}
 use Rattle.optimality.specs.Cells.{off_cell, on_cell, rungs, value_at, off_value, on_value, on_best}

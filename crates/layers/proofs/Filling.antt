@@ -12,7 +12,7 @@ use lib.IntN.{ℤ, pos, nat_abs}
 use lib.ListN.{length, get_or, drop, length-drop, drop_of_length-le}
 use lib.Seq.{drop-cons}
 use Rattle.optimality.specs.declared.Cell.{Cell}
-use Rattle.commitment.specs.declared.BestProfit.{BestProfit}
+use Rattle.commitment.specs.Types.{BestProfit}
 use Rattle.optimality.specs.Machine.{anywhere, Quarter}
 use Rattle.commitment.specs.Bounds.{most_price, most_intervals}
 use Rattle.optimality.specs.declared.Figures.{Figures}

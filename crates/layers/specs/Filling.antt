@@ -1,10 +1,10 @@
 -- What a fill asks of its last layer, and what it makes of the layers before it.
 use Rattle.std.specs.Prelude.{◌≡◌, List, [], ℕ, ◌-◌, ◌*◌, ℤ, length, take, drop}
-use Rattle.commitment.specs.declared.BestProfit.{BestProfit}
+use Rattle.commitment.specs.Types.{BestProfit}
 use Rattle.optimality.specs.declared.Figures.{Figures}
 use Rattle.optimality.specs.declared.Cell.{Cell}
 use Rattle.optimality.specs.Machine.{Quarter, quarters_from}
-use Rattle.commitment.specs.declared.windows.Hours.{Hours}
+use Rattle.commitment.specs.Types.{Hours}
 use Rattle.commitment.specs.Windows.{opens}
 use Rattle.geometry.specs.Geometry.{width}
 use Rattle.geometry.specs.Layers.{stored_at, Layer, Filled}

@@ -21,12 +21,12 @@ ghost use Rattle.commitment.specs.Ranges.{Priced};
 ghost use Rattle.commitment.specs.Windows.{Clocked};
 
 use commitment::windows;
-use commitment::windows::Hours;
+use commitment::windows::Allowed;
 use intervals::rows;
 use optimality::Figures;
 
 // Every layer, from the last to the first. `w` is the cells of one. After the last interval a plan may end in any cell.
-pub fn fill_all(scratch: &mut [i64], w: usize, f: Figures, prices: &[i64], hours: Hours)
+pub fn fill_all(scratch: &mut [i64], w: usize, f: Figures, prices: &[i64], hours: Option<Allowed>)
     requires { (Room f (length prices.now) (length scratch.old)) × (w ≡ width f) × (Priced prices.now) × (Clocked hours) }
     ensures filled { Filled f anywhere (quarters_in hours prices.now) scratch.new }
     ensures beyond { Beyond ((length prices.now + 1) * w) scratch.old scratch.new }
@@ -36,7 +36,14 @@ pub fn fill_all(scratch: &mut [i64], w: usize, f: Figures, prices: &[i64], hours
 }
 
 // The layers before the last, which is there and says where a plan may end. The prices are those of the horizon from interval `first` on.
-pub fn fill(scratch: &mut [i64], w: usize, f: Figures, prices: &[i64], hours: Hours, first: usize)
+pub fn fill(
+    scratch: &mut [i64],
+    w: usize,
+    f: Figures,
+    prices: &[i64],
+    hours: Option<Allowed>,
+    first: usize,
+)
     requires room { (Room f (length prices.now) (length scratch.old)) × (w ≡ width f) × (Priced prices.now) × (Clocked hours) }
     requires ended { Ended f scratch.old (length prices.now * width f) }
     requires prices_bound { first + length prices.now ≤ most_intervals }

@@ -1,4 +1,5 @@
 -- Whether a text fits a buffer, and what then becomes of it.
+use Rattle.std.specs.Prelude.{Err, None, Some}
 use mathlib.Core.Path.{◌≡◌, refl}
 use mathlib.Core.Bool.{Bool, true, false, cond}
 use mathlib.Core.List.{List}
@@ -11,36 +12,34 @@ use lib.IntN.{ℤ}
 use lib.ListN.{length}
 use Rattle.commitment.specs.declared.Cause.TheVariants.{Range}
 use Rattle.commitment.specs.declared.Outcomes.{Outcomes}
-use Rattle.listing.specs.declared.Fit.{Fit}
-use Rattle.listing.specs.declared.Fit.TheVariants.{Bytes, TooLong}
-use Rattle.listing.specs.declared.HourWord.{HourWord}
-use Rattle.listing.specs.declared.Written.TheVariants as answers
+use Rattle.listing.specs.Types.{Fit}
+use Rattle.listing.specs.Types.{HourWord}
 use Rattle.listing.specs.Listing.{listing, fitted, written_by, buffer_after, word_kept, listing_written, listing_after, bytes_in}
 use Rattle.listing.specs.Writing.{written}
 
 -- so many bytes more
 abbrev pub lengthened : ℕ → Fit → Fit
-lengthened more (Bytes bytes) = Bytes (bytes + more)
-lengthened more TooLong = TooLong
+lengthened more (Some bytes) = Some (bytes + more)
+lengthened more None = None
 
 pub fit-more : (bytes more room : ℕ) → more ≤ room → fitted (bytes + more) room ≡ lengthened more (fitted bytes (room - more))
 fit-more bytes more room h = go (leb bytes (room - more)) refl
   where
-    go : (t : Bool) → leb bytes (room - more) ≡ t → fitted (bytes + more) room ≡ lengthened more (cond t (Bytes bytes) TooLong)
+    go : (t : Bool) → leb bytes (room - more) ≡ t → fitted (bytes + more) room ≡ lengthened more (cond t (Some bytes) None)
     go true e = simp (le-leb (bytes + more) room (omega (arith, leb-true bytes (room - more) e)))
     go false e = simp (lt-leb (bytes + more) room (omega (arith, leb-false bytes (room - more) e)))
 
-pub fit-room : (bytes room b : ℕ) → fitted bytes room ≡ Bytes b → (bytes ≡ b) × (b ≤ room)
+pub fit-room : (bytes room b : ℕ) → fitted bytes room ≡ Some b → (bytes ≡ b) × (b ≤ room)
 fit-room bytes room b = go (leb bytes room) refl
   where
-    go : (t : Bool) → leb bytes room ≡ t → cond t (Bytes bytes) TooLong ≡ Bytes b → (bytes ≡ b) × (b ≤ room)
+    go : (t : Bool) → leb bytes room ≡ t → cond t (Some bytes) None ≡ Some b → (bytes ≡ b) × (b ≤ room)
     go true e f = let same : bytes ≡ b = cc in (same, omega (arith, leb-true bytes room e))
     go false e f = let z : ◌≡◌ {A = ℕ} 0 1 = cc in absurd (omega arith)
 
-pub fit-long : (bytes room : ℕ) → fitted bytes room ≡ TooLong → room < bytes
+pub fit-long : (bytes room : ℕ) → fitted bytes room ≡ None → room < bytes
 fit-long bytes room = go (leb bytes room) refl
   where
-    go : (t : Bool) → leb bytes room ≡ t → cond t (Bytes bytes) TooLong ≡ TooLong → room < bytes
+    go : (t : Bool) → leb bytes room ≡ t → cond t (Some bytes) None ≡ None → room < bytes
     go true e f = let z : ◌≡◌ {A = ℕ} 0 1 = cc in absurd (omega arith)
     go false e f = leb-false bytes room e
 
@@ -55,7 +54,7 @@ after-refused text buffer h = simp (lt-leb (length text) (length buffer) h)
 pub bytes_fit : (bytes room : ℕ) → bytes_in (written_by (fitted bytes room)) ≤ room
 bytes_fit bytes room = go (leb bytes room) refl
   where
-    go : (t : Bool) → leb bytes room ≡ t → bytes_in (written_by (cond t (Bytes bytes) TooLong)) ≤ room
+    go : (t : Bool) → leb bytes room ≡ t → bytes_in (written_by (cond t (Some bytes) None)) ≤ room
     go true e = leb-true bytes room e
     go false e = omega arith
 
@@ -76,6 +75,6 @@ module _ (s : List ℕ) (p : ℤ) (o : Outcomes) (w : HourWord) where
   pub listing-fits : (room : ℕ) → bytes_in (listing_written s p o w room) ≤ room
   listing-fits room = go (word_kept w)
     where
-      go : (t : Bool) → bytes_in (cond t (written_by (fitted (length text) room)) (answers.Refused Range)) ≤ room
+      go : (t : Bool) → bytes_in (cond t (written_by (fitted (length text) room)) (Err Range)) ≤ room
       go true = bytes_fit (length text) room
       go false = omega arith

@@ -1,4 +1,5 @@
 -- How long the lines of the totals are.
+use Rattle.std.specs.Prelude.{None, Some}
 use mathlib.Core.Path.{◌≡◌}
 use mathlib.Core.List.{List, ◌∷◌, ◌++◌}
 use Prim.Native.Nat.{ℕ, suc, ◌+◌, ◌≤◌}
@@ -9,8 +10,7 @@ use Rattle.calendar.specs.Words.{hours_allowed}
 use Rattle.commitment.specs.declared.Outcome.{Outcome}
 use Rattle.commitment.specs.declared.Outcome.TheVariants.{None, Empty, Never, Gap}
 use Rattle.commitment.specs.declared.Outcomes.{Outcomes}
-use Rattle.listing.specs.declared.HourWord.{HourWord}
-use Rattle.listing.specs.declared.HourWord.TheVariants as hours
+use Rattle.listing.specs.Types.{HourWord}
 use Rattle.listing.specs.Numbers.{number, signed_number}
 use Rattle.listing.specs.Listing.{outcome_text, closed, profit_lead, window_lead, refused_lead}
 use Rattle.listing.specs.Listing.{interval_line, interval_lines, profit_line, outcome_lines, hours_line, window_line, listing, refusal}
@@ -57,8 +57,8 @@ hours-length word = omega (arith, closed-length window_lead (number (hours_allow
 
 -- `window,24` and the line end
 pub window-short : (w : HourWord) → length (window_line w) ≤ 10
-window-short hours.None = omega arith
-window-short (hours.Word word) =
+window-short None = omega arith
+window-short (Some word) =
     let most = hours-most word in
     omega (arith, hours-length word, number_digits 1 (hours_allowed word) (omega (arith, most)) (omega (arith, most)))
 

@@ -1,5 +1,5 @@
 -- The lines that the planning program prints (specification 12): each is a definition of its own, closed by byte 10.
-use Rattle.std.specs.Prelude.{Bool, true, cond, List, [], ◌∷◌, ◌++◌, ℕ, suc, leb, ltb, ℤ, length, drop}
+use Rattle.std.specs.Prelude.{Bool, true, cond, List, [], ◌∷◌, ◌++◌, ℕ, suc, leb, ltb, ℤ, length, drop, Some, None, Ok, Err}
 use Rattle.lists.specs.Text.{bytes}
 use Rattle.calendar.specs.Words.{hours_allowed, past_words}
 use Rattle.commitment.specs.declared.Cause.TheVariants.{Range, Length}
@@ -7,12 +7,9 @@ use Rattle.commitment.specs.declared.Outcome.{Outcome}
 use Rattle.commitment.specs.declared.Outcome.TheVariants.{None, Empty, Never, Gap}
 use Rattle.commitment.specs.declared.Outcomes.{Outcomes}
 use Rattle.commitment.specs.Causes.{number_of}
-use Rattle.listing.specs.declared.Fit.{Fit}
-use Rattle.listing.specs.declared.Fit.TheVariants.{Bytes, TooLong}
-use Rattle.listing.specs.declared.HourWord.{HourWord}
-use Rattle.listing.specs.declared.HourWord.TheVariants as hours
-use Rattle.listing.specs.declared.Written.{Written}
-use Rattle.listing.specs.declared.Written.TheVariants as written
+use Rattle.listing.specs.Types.{Fit}
+use Rattle.listing.specs.Types.{HourWord}
+use Rattle.listing.specs.Types.{Written}
 use Rattle.listing.specs.Numbers.{number, signed_number}
 
 abbrev pub interval_heading : List ℕ
@@ -74,8 +71,8 @@ abbrev pub hours_line : ℕ → List ℕ
 hours_line word = closed (window_lead ++ number (hours_allowed word))
 
 abbrev pub window_line : HourWord → List ℕ
-window_line hours.None = []
-window_line (hours.Word word) = hours_line word
+window_line None = []
+window_line (Some word) = hours_line word
 
 -- interval and MW, then profit, the three outcomes and the hours that the word allows
 unfoldable pub listing : List ℕ → ℤ → Outcomes → HourWord → List ℕ
@@ -90,12 +87,12 @@ refusal cause = closed (refused_lead ++ number cause)
 -- ---- a text in a lent buffer of so many bytes
 
 abbrev pub fitted : ℕ → ℕ → Fit
-fitted count room = cond (leb count room) (Bytes count) TooLong
+fitted count room = cond (leb count room) (Some count) None
 
 -- a buffer too short gets 7, the number of a slice too short, and is as it was
 abbrev pub written_by : Fit → Written
-written_by (Bytes count) = written.Bytes count
-written_by TooLong = written.Refused Length
+written_by (Some count) = Ok count
+written_by None = Err Length
 
 abbrev pub buffer_after : List ℕ → List ℕ → List ℕ
 buffer_after text buffer = cond (leb (length text) (length buffer)) (text ++ drop (length text) buffer) buffer
@@ -103,12 +100,12 @@ buffer_after text buffer = cond (leb (length text) (length buffer)) (text ++ dro
 -- ---- a listing: a word of more than 24 bits gets 3, and the buffer is as it was
 
 abbrev pub word_kept : HourWord → Bool
-word_kept hours.None = true
-word_kept (hours.Word word) = ltb word past_words
+word_kept None = true
+word_kept (Some word) = ltb word past_words
 
 abbrev pub listing_written : List ℕ → ℤ → Outcomes → HourWord → ℕ → Written
 listing_written schedule profit outcomes word room =
-    cond (word_kept word) (written_by (fitted (length (listing schedule profit outcomes word)) room)) (written.Refused Range)
+    cond (word_kept word) (written_by (fitted (length (listing schedule profit outcomes word)) room)) (Err Range)
 
 abbrev pub listing_after : List ℕ → ℤ → Outcomes → HourWord → List ℕ → List ℕ
 listing_after schedule profit outcomes word buffer =
@@ -116,10 +113,6 @@ listing_after schedule profit outcomes word buffer =
 
 -- ---- the number of an answer, 0 where the bytes were written, and how many these are, 0 on a refusal
 
-abbrev pub written_number : Written → ℕ
-written_number (written.Bytes count) = 0
-written_number (written.Refused cause) = number_of cause
-
 abbrev pub bytes_in : Written → ℕ
-bytes_in (written.Bytes count) = count
-bytes_in (written.Refused cause) = 0
+bytes_in (Ok count) = count
+bytes_in (Err cause) = 0

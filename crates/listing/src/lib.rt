@@ -7,57 +7,34 @@ ghost use Rattle.calendar.specs.Words.{past_words};
 ghost use Rattle.listing.specs.Numbers.{number, signed_number};
 ghost use Rattle.listing.specs.Listing.{outcome_text, closed, interval_line, interval_lines, profit_line, outcome_lines, listing, refusal};
 ghost use Rattle.listing.specs.Listing.{word_kept, hours_line, window_line, listing_written, listing_after};
-ghost use Rattle.listing.specs.Listing.{fitted, written_by, buffer_after, written_number, bytes_in};
+ghost use Rattle.listing.specs.Listing.{fitted, written_by, buffer_after};
 ghost use Rattle.listing.specs.Writing.{Put, written};
 
 use commitment::{Cause, Outcome, Outcomes};
 
-// The hour word of a case, where it has one.
-#[derive(Clone, Copy)]
-pub enum HourWord {
-    None,
-    Word(u64),
-}
-
-// What writing answers: so many bytes from the front, 3 for a word of more than 24 bits, or 7 for a buffer too short.
-#[derive(Clone, Copy)]
-pub enum Written {
-    Bytes(usize),
-    Refused(Cause),
-}
-
-// Whether a text fits a buffer, and its length.
-#[derive(Clone, Copy)]
-pub enum Fit {
-    Bytes(usize),
-    TooLong,
-}
-
-// The listing of a plan: interval and MW, then profit, the three outcomes and the hours that its word allows.
+// The listing of a plan: interval and MW, then profit, the three outcomes and the hours that its word allows, where it has one. So many bytes from the
+// front; or 3 for a word of more than 24 bits, or 7 for a buffer too short.
 pub fn write_listing(
     schedule: &[u64],
     profit: i64,
     outcomes: Outcomes,
-    word: HourWord,
+    word: Option<u64>,
     out: &mut [u8],
-) -> Written
+) -> Result<usize, Cause>
     ensures value { result ≡ listing_written schedule.now profit outcomes word (length out.old) }
     ensures out_after { out.new ≡ listing_after schedule.now profit outcomes word out.old }
 {
     if word_kept(word) {
         return write_kept(schedule, profit, outcomes, word, out);
     }
-    Written::Refused(Cause::Range)
+    Err(Cause::Range)
 }
 
 // A word has a bit for each of the 24 hours, and no other.
-fn word_kept(word: HourWord) -> bool
+fn word_kept(word: Option<u64>) -> bool
     ensures { result ≡ word_kept word }
 {
-    match word {
-        HourWord::None => true,
-        HourWord::Word(hours) => hours < calendar::PAST_WORDS,
-    }
+    word.is_none_or(|hours| hours < calendar::PAST_WORDS)
 }
 
 // Nothing is written where not all of it fits.
@@ -65,55 +42,32 @@ fn write_kept(
     schedule: &[u64],
     profit: i64,
     outcomes: Outcomes,
-    word: HourWord,
+    word: Option<u64>,
     out: &mut [u8],
-) -> Written
+) -> Result<usize, Cause>
     requires { word_kept word ≡ true }
     ensures value { result ≡ written_by (fitted (length (listing schedule.now profit outcomes word)) (length out.old)) }
     ensures out_after { out.new ≡ buffer_after (listing schedule.now profit outcomes word) out.old }
 {
-    match listing_fit(schedule, profit, outcomes, word, out.len()) {
-        Fit::TooLong => Written::Refused(Cause::Length),
-        Fit::Bytes(bytes) => {
-            put_listing(out, schedule, profit, outcomes, word);
-            Written::Bytes(bytes)
-        }
-    }
+    let fit = listing_fit(schedule, profit, outcomes, word, out.len());
+    let bytes = fit.ok_or(Cause::Length)?;
+    put_listing(out, schedule, profit, outcomes, word);
+    Ok(bytes)
 }
 
 // The line of a refusal.
-pub fn write_refusal(number: u64, out: &mut [u8]) -> Written
+pub fn write_refusal(number: u64, out: &mut [u8]) -> Result<usize, Cause>
     ensures value { result ≡ written_by (fitted (length (refusal number)) (length out.old)) }
     ensures out_after { out.new ≡ buffer_after (refusal number) out.old }
 {
     let bytes = 9 + number_length(number);
     if out.len() < bytes {
-        return Written::Refused(Cause::Length);
+        return Err(Cause::Length);
     }
     let value = put_text(&mut *out, 0, b"refused,");
     let end = put_number(&mut *out, value, number);
     put_byte(out, end, 10);
-    Written::Bytes(bytes)
-}
-
-// 0, or the number of the cause.
-pub fn number_in(answer: Written) -> u64
-    ensures { result ≡ written_number answer }
-{
-    match answer {
-        Written::Bytes(_) => 0,
-        Written::Refused(cause) => commitment::number_of(cause),
-    }
-}
-
-// The bytes written, 0 on a refusal.
-pub fn bytes_in(answer: Written) -> usize
-    ensures { result ≡ bytes_in answer }
-{
-    match answer {
-        Written::Bytes(bytes) => bytes,
-        Written::Refused(_) => 0,
-    }
+    Ok(bytes)
 }
 
 // ---- leaves: each writes at a place and gives the place after it
@@ -142,12 +96,9 @@ fn put_text(out: &mut [u8], at: usize, text: &[u8]) -> usize
     requires { at + length text.now ≤ length out.old }
     ensures { Put out.old at text.now result out.new }
 {
-    let mut i = 0;
-    while i < text.len() {
-        out[at + i] = text[i];
-        i += 1;
-    }
-    at + i
+    let end = at + text.len();
+    out[at..end].copy_from_slice(text);
+    end
 }
 
 // The magnitude is taken unsigned, since the least number has no positive one.
@@ -223,12 +174,9 @@ fn put_outcomes(out: &mut [u8], at: usize, outcomes: Outcomes) -> usize
     requires { at + length (outcome_lines outcomes) ≤ length out.old }
     ensures { Put out.old at (outcome_lines outcomes) result out.new }
 {
-    let starts = outcomes.starts;
-    let hours = outcomes.hours;
-    let mwh = outcomes.mwh;
-    let second = put_outcome_line(&mut *out, at, b"starts,", starts);
-    let third = put_outcome_line(&mut *out, second, b"hours,", hours);
-    put_outcome_line(out, third, b"mwh,", mwh)
+    let second = put_outcome_line(&mut *out, at, b"starts,", outcomes.starts);
+    let third = put_outcome_line(&mut *out, second, b"hours,", outcomes.hours);
+    put_outcome_line(out, third, b"mwh,", outcomes.mwh)
 }
 
 // The count is taken of words of 24 bits alone.
@@ -243,18 +191,18 @@ fn put_hours(out: &mut [u8], at: usize, word: u64) -> usize
 }
 
 // A case without a date has no such line.
-fn put_window(out: &mut [u8], at: usize, word: HourWord) -> usize
+fn put_window(out: &mut [u8], at: usize, word: Option<u64>) -> usize
     requires { (word_kept word ≡ true) × (at + length (window_line word) ≤ length out.old) }
     ensures { Put out.old at (window_line word) result out.new }
 {
     match word {
-        HourWord::None => at,
-        HourWord::Word(hours) => put_hours(out, at, hours),
+        None => at,
+        Some(hours) => put_hours(out, at, hours),
     }
 }
 
 // The caller has found that it fits.
-fn put_listing(out: &mut [u8], schedule: &[u64], profit: i64, outcomes: Outcomes, word: HourWord)
+fn put_listing(out: &mut [u8], schedule: &[u64], profit: i64, outcomes: Outcomes, word: Option<u64>)
     requires { (word_kept word ≡ true) × (length (listing schedule.now profit outcomes word) ≤ length out.old) }
     ensures { out.new ≡ written out.old 0 (listing schedule.now profit outcomes word) }
 {
@@ -307,32 +255,29 @@ fn outcome_length(outcome: Outcome) -> usize
 fn totals_length(profit: i64, outcomes: Outcomes) -> usize
     ensures { result ≡ 24 + (length (profit_line profit) + length (outcome_lines outcomes)) }
 {
-    let starts = outcomes.starts;
-    let hours = outcomes.hours;
-    let mwh = outcomes.mwh;
     24 + 8
         + signed_length(profit)
         + 8
-        + outcome_length(starts)
+        + outcome_length(outcomes.starts)
         + 7
-        + outcome_length(hours)
+        + outcome_length(outcomes.hours)
         + 5
-        + outcome_length(mwh)
+        + outcome_length(outcomes.mwh)
 }
 
 // As in `put_window`: no date, no line.
-fn window_length(word: HourWord) -> usize
+fn window_length(word: Option<u64>) -> usize
     requires { word_kept word ≡ true }
     ensures { result ≡ length (window_line word) }
 {
     match word {
-        HourWord::None => 0,
-        HourWord::Word(hours) => 8 + number_length(calendar::hours_allowed(hours)),
+        None => 0,
+        Some(hours) => 8 + number_length(calendar::hours_allowed(hours)),
     }
 }
 
 // To the first line that does not fit, so that no sum overflows.
-fn intervals_fit(schedule: &[u64], room: usize) -> Fit
+fn intervals_fit(schedule: &[u64], room: usize) -> Option<usize>
     ensures { result ≡ fitted (length (interval_lines 1 schedule.now)) room }
 {
     let mut bytes = 0;
@@ -342,11 +287,11 @@ fn intervals_fit(schedule: &[u64], room: usize) -> Fit
         i += 1;
         let line = number_length(i as u64) + number_length(mw) + 2;
         if room - bytes < line {
-            return Fit::TooLong;
+            return None;
         }
         bytes += line;
     }
-    Fit::Bytes(bytes)
+    Some(bytes)
 }
 
 // The intervals get the room that the other lines leave.
@@ -354,18 +299,16 @@ fn listing_fit(
     schedule: &[u64],
     profit: i64,
     outcomes: Outcomes,
-    word: HourWord,
+    word: Option<u64>,
     room: usize,
-) -> Fit
+) -> Option<usize>
     requires { word_kept word ≡ true }
     ensures { result ≡ fitted (length (listing schedule.now profit outcomes word)) room }
 {
     let totals = totals_length(profit, outcomes) + window_length(word);
     if room < totals {
-        return Fit::TooLong;
+        return None;
     }
-    match intervals_fit(schedule, room - totals) {
-        Fit::TooLong => Fit::TooLong,
-        Fit::Bytes(bytes) => Fit::Bytes(bytes + totals),
-    }
+    let bytes = intervals_fit(schedule, room - totals)?;
+    Some(bytes + totals)
 }

@@ -1,4 +1,5 @@
 -- A plan cut at the cell where it stands: the earlier part is the best plan from what is spent to the cell's state with nothing left.
+use Rattle.std.specs.Prelude.{None, Some}
 use mathlib.Core.Path.{◌≡◌, refl, sym, ap, ap₂, ◌∙◌}
 use mathlib.Core.Bool.{Bool, true, false, cond, ◌&&◌}
 use mathlib.Core.List.{List, [], ◌∷◌, ◌++◌}
@@ -11,8 +12,7 @@ use lib.Dec.{eqb, ltb}
 use lib.IntN.{ℤ, pos, ◌+ℤ◌}
 use lib.ListN.{length}
 use Rattle.lists.proofs.Conjunctions.{both}
-use Rattle.commitment.specs.declared.BestProfit.{BestProfit}
-use Rattle.commitment.specs.declared.BestProfit.TheVariants.{Nothing, Profit}
+use Rattle.commitment.specs.Types.{BestProfit}
 use Rattle.commitment.specs.Best.{plan}
 use Rattle.optimality.specs.declared.Cell.{Cell}
 use Rattle.optimality.specs.declared.Figures.{Figures}
@@ -29,7 +29,7 @@ use Rattle.marks.specs.Standing.{Stands, ends_in, spent}
 abbrev only : Cell → Cell → BestProfit
 only at z =
     cond (eqb z.state at.state && eqb z.left.starts at.left.starts && eqb z.left.ons at.left.ons && eqb z.left.blocks
-    at.left.blocks) (Profit (pos 0)) Nothing
+    at.left.blocks) (Some (pos 0)) None
 
 -- more of both changes nothing
 eqb-more : (a b : ℕ) → eqb a 0 ≡ eqb (a + b) b
@@ -43,13 +43,13 @@ lifted-ends : (at d : Cell) → ends_in at.state d ≡ only at (lifted at d)
 lifted-ends at d = rw (eqb-more d.left.starts at.left.starts, eqb-more d.left.ons at.left.ons, eqb-more d.left.blocks at.left.blocks)
 
 -- one cell
-is-only : (at y : Cell) (q : ℤ) → only at y ≡ Profit q → (y ≡ at) × (q ≡ pos 0)
+is-only : (at y : Cell) (q : ℤ) → only at y ≡ Some q → (y ≡ at) × (q ≡ pos 0)
 is-only at y q e = by (eqb y.state at.state && eqb y.left.starts at.left.starts && eqb y.left.ons at.left.ons && eqb
     y.left.blocks at.left.blocks) refl e
   where
     by : (t : Bool) → (eqb y.state at.state && eqb y.left.starts at.left.starts && eqb y.left.ons at.left.ons && eqb
         y.left.blocks at.left.blocks) ≡ t
-        → cond t (Profit (pos 0)) Nothing ≡ Profit q → (y ≡ at) × (q ≡ pos 0)
+        → cond t (Some (pos 0)) None ≡ Some q → (y ≡ at) × (q ≡ pos 0)
     by false k e = absurd (no-earning e)
     by true k e =
         let a = both _ (eqb y.left.blocks at.left.blocks) k in
@@ -64,10 +64,10 @@ is-only at y q e = by (eqb y.state at.state && eqb y.left.starts at.left.starts 
         ) in
         (same, earned e)
       where
-        earned : Profit (pos 0) ≡ Profit q → q ≡ pos 0
+        earned : Some (pos 0) ≡ Some q → q ≡ pos 0
         earned e = cc
 
-only-itself : (at : Cell) → only at at ≡ Profit (pos 0)
+only-itself : (at : Cell) → only at at ≡ Some (pos 0)
 only-itself at =
     rw (
       eq-eqb at.state at.state refl,
@@ -77,12 +77,12 @@ only-itself at =
           at.left.blocks at.left.blocks refl,
     )
 
-only_above : (at z : Cell) → Below at z → only at z ≡ Nothing
+only_above : (at z : Cell) → Below at z → only at z ≡ None
 only_above at z b = by (only at z) refl
   where
-    by : (v : BestProfit) → only at z ≡ v → only at z ≡ Nothing
-    by Nothing e = e
-    by (Profit q) e =
+    by : (v : BestProfit) → only at z ≡ v → only at z ≡ None
+    by None e = e
+    by (Some q) e =
         let k = (is-only at z q e).0 in
         absurd
         (⊎_elim (λ (l : z.left.starts < at.left.starts). omega (arith, ap (λ (y : Cell). y.left.starts) k))
@@ -132,10 +132,10 @@ module _ (f : Figures) (ok : Sound f) (ends : Cell → BestProfit) (front later 
   at_here : here.at ≡ at
   at_here = (go-parts ends-here).1
 
-  only_here : (y : Cell) (q : ℤ) → only at y ≡ Profit q → (y ≡ here.at) × (q ≡ pos 0)
+  only_here : (y : Cell) (q : ℤ) → only at y ≡ Some q → (y ≡ here.at) × (q ≡ pos 0)
   only_here y q e = let k = is-only at y q e in (k.0 ∙ sym at_here, k.1)
 
-  there : only at here.at ≡ Profit (pos 0)
+  there : only at here.at ≡ Some (pos 0)
   there = ap (only at) at_here ∙ only-itself at
 
   to-the-middle : best_from Cell Quarter step (only at) (choices f) front c ≡ plan s.outputs s.earned

@@ -1,4 +1,5 @@
 -- From interval to interval: a cell stands where the cell stands that its plan's first output leads to.
+use Rattle.std.specs.Prelude.{None}
 use mathlib.Core.Path.{◌≡◌, refl, sym, ap, ◌∙◌, subst}
 use mathlib.Core.List.{List, [], ◌∷◌, ◌++◌}
 use mathlib.Core.Logic.{inl, inr}
@@ -9,8 +10,7 @@ use lib.IntN.{ℤ, pos, nat_abs, ◌+ℤ◌, +ℤ_idl}
 use lib.ListN.{length}
 use lib.Signed.{◌≤ℤ◌}
 use Rattle.integers.proofs.Linear.{zarith, zsum}
-use Rattle.commitment.specs.declared.BestProfit.{BestProfit}
-use Rattle.commitment.specs.declared.BestProfit.TheVariants.{Nothing}
+use Rattle.commitment.specs.Types.{BestProfit}
 use Rattle.commitment.specs.Bounds.{most_price, most_intervals}
 use Rattle.commitment.specs.Best.{Plan, nothing, plan, profit_of}
 use Rattle.optimality.specs.declared.Cell.{Cell}
@@ -37,7 +37,7 @@ use Rattle.marks.proofs.Meaning.{turn-value, turn-mark}
 
 module _ (f : Figures) (ends : Cell → BestProfit) (later : List Quarter) where
   -- before any interval a plan stands where it begins
-  pub stands_here : (c : Cell) → InTable f c → (value_at f ends later c ≡ Nothing → ⊥) → Stands f ends [] later c c
+  pub stands_here : (c : Cell) → InTable f c → (value_at f ends later c ≡ None → ⊥) → Stands f ends [] later c c
   stands_here c i some = by (plan_at f ends later c) refl
     where
       by : (p : Plan) → plan_at f ends later c ≡ p → Stands f ends [] later c c

@@ -1,10 +1,9 @@
 -- The cell where a plan stands after its first intervals, and a layer whose marks go with that cell.
-use Rattle.std.specs.Prelude.{◌≡◌, List, ◌++◌, ℕ, ◌+◌, ◌-◌, ◌≤◌, cond, ◌&&◌, eqb, ℤ, pos, ◌+ℤ◌, length, get_or}
+use Rattle.std.specs.Prelude.{◌≡◌, List, ◌++◌, ℕ, ◌+◌, ◌-◌, ◌≤◌, cond, ◌&&◌, eqb, ℤ, pos, ◌+ℤ◌, length, get_or, Some, None}
 use Rattle.commitment.specs.Windows.{Clocked}
 use Rattle.commitment.specs.Ranges.{Priced}
 use Rattle.commitment.specs.Bounds.{most_intervals}
-use Rattle.commitment.specs.declared.BestProfit.{BestProfit}
-use Rattle.commitment.specs.declared.BestProfit.TheVariants.{Nothing, Profit}
+use Rattle.commitment.specs.Types.{BestProfit}
 use Rattle.commitment.specs.Best.{plan}
 use Rattle.optimality.specs.declared.Cell.{Cell}
 use Rattle.optimality.specs.declared.Figures.{Figures}
@@ -35,7 +34,7 @@ pub record MarkedBy (f : Figures) (ends : Cell → BestProfit) (front later : Li
 -- values, n intervals before the end, and marks of all cells that have a plan
 pub record MarkedAt (f : Figures) (n : ℕ) (ends : Cell → BestProfit) (front later : List Quarter) (given stored marked : Cell → ℤ) : Type 0 where
   pub layer : LayerAt f n (value_at f ends (front ++ later)) stored
-  pub marks : (c : Cell) → InTable f c → (value_at f ends (front ++ later) c ≡ Nothing → ⊥) → MarkedBy f ends front later given c (marked c)
+  pub marks : (c : Cell) → InTable f c → (value_at f ends (front ++ later) c ≡ None → ⊥) → MarkedBy f ends front later given c (marked c)
 
 abbrev pub MarkedLayer : Figures → (Cell → BestProfit) → List Quarter → List Quarter → (Cell → ℤ) → (Cell → ℤ) → (Cell → ℤ) → Type 0
 MarkedLayer f ends front later given stored marked = MarkedAt f (length (front ++ later)) ends front later given stored marked
@@ -76,7 +75,7 @@ pub record Numbered (f : Figures) (w : ℕ) (was now : List ℤ) (quarters : Lis
 
 -- plans end in a state with nothing left
 abbrev pub ends_in : ℕ → Cell → BestProfit
-ends_in s c = cond (eqb c.state s && eqb c.left.starts 0 && eqb c.left.ons 0 && eqb c.left.blocks 0) (Profit (pos 0)) Nothing
+ends_in s c = cond (eqb c.state s && eqb c.left.starts 0 && eqb c.left.ons 0 && eqb c.left.blocks 0) (Some (pos 0)) None
 
 -- what a plan from c spends on the way to `at`
 abbrev pub spent : Cell → Cell → Cell

@@ -3,7 +3,7 @@
 
 #![tactic(auto)]
 
-use commitment::windows::Hours;
+use commitment::windows::Allowed;
 use optimality::Figures;
 
 pub mod lines;
@@ -15,7 +15,7 @@ pub mod turns;
 pub struct Frame {
     pub figures: Figures,
     pub width: usize,
-    pub hours: Hours,
+    pub hours: Option<Allowed>,
 }
 
 // One interval over a layer: the cells of the layer and of a section, the price, and whether the unit may run.

@@ -1,4 +1,5 @@
 -- The best of the ways that were seen grows way by way, and when all were seen it is the value of the cell.
+use Rattle.std.specs.Prelude.{None, Some}
 use mathlib.Core.Path.{◌≡◌, refl, sym, ap, ap₂, ◌∙◌, subst}
 use mathlib.Core.Bool.{true, false}
 use mathlib.Core.List.{List}
@@ -10,8 +11,7 @@ use lib.Signed.{lt_z, ◌≤ℤ◌, ◌<ℤ◌}
 use Rattle.integers.proofs.Linear.{zarith, zsum}
 use Rattle.integers.proofs.Order.{lt_z-dec, ≤ℤ-antisym}
 use Rattle.integers.proofs.Ranges.{within-abs, abs-within, within-sum}
-use Rattle.commitment.specs.declared.BestProfit.{BestProfit}
-use Rattle.commitment.specs.declared.BestProfit.TheVariants.{Nothing, Profit}
+use Rattle.commitment.specs.Types.{BestProfit}
 use Rattle.commitment.specs.Bounds.{most_intervals}
 use Rattle.optimality.specs.declared.Budgets.{Budgets}
 use Rattle.optimality.specs.declared.Cell.{Cell}
@@ -30,39 +30,39 @@ use Rattle.months.proofs.Ending.{meets, reaches}
 -- ---- profits in order
 
 most-left : (a v w : BestProfit) → AtMost a v → AtMost a (more v w)
-most-left Nothing v w h = tt
-most-left (Profit p) Nothing w h = absurd h
-most-left (Profit p) (Profit q) Nothing h = h
-most-left (Profit p) (Profit q) (Profit r) h =
+most-left None v w h = tt
+most-left (Some p) None w h = absurd h
+most-left (Some p) (Some q) None h = h
+most-left (Some p) (Some q) (Some r) h =
     ⊎_elim (λ (t : (lt_z q r ≡ true) × (q <ℤ r)). rw t.0 (omega (zarith, h, t.1))) (λ (t : (lt_z q r ≡ false) × (r ≤ℤ q)). rw t.0 h) (lt_z-dec q r)
 
 most-right : (v w : BestProfit) → AtMost w (more v w)
-most-right v Nothing = tt
-most-right Nothing (Profit r) = omega zarith
-most-right (Profit q) (Profit r) =
+most-right v None = tt
+most-right None (Some r) = omega zarith
+most-right (Some q) (Some r) =
     ⊎_elim (λ (t : (lt_z q r ≡ true) × (q <ℤ r)). rw t.0 (omega zarith)) (λ (t : (lt_z q r ≡ false) × (r ≤ℤ q)). rw t.0 t.1) (lt_z-dec q r)
 
 either-more : (v w : BestProfit) → (more v w ≡ v) ⊎ (more v w ≡ w)
-either-more Nothing w = inr refl
-either-more (Profit q) Nothing = inl refl
-either-more (Profit q) (Profit r) =
+either-more None w = inr refl
+either-more (Some q) None = inl refl
+either-more (Some q) (Some r) =
     ⊎_elim (λ (t : (lt_z q r ≡ true) × (q <ℤ r)). inr (rw t.0)) (λ (t : (lt_z q r ≡ false) × (r ≤ℤ q)). inl (rw t.0)) (lt_z-dec q r)
 
 both_ways : (v w : BestProfit) → AtMost v w → AtMost w v → v ≡ w
-both_ways Nothing Nothing h k = refl
-both_ways Nothing (Profit q) h k = absurd k
-both_ways (Profit p) Nothing h k = absurd h
-both_ways (Profit p) (Profit q) h k = ap Profit (≤ℤ-antisym h k)
+both_ways None None h k = refl
+both_ways None (Some q) h k = absurd k
+both_ways (Some p) None h k = absurd h
+both_ways (Some p) (Some q) h k = ap Some (≤ℤ-antisym h k)
 
 -- ---- the number of a sum
 
 -- a way's profit, and what its end is worth
 pub offers-sum : (m n : ℕ) (p : ℤ) (w : BestProfit) (b : ℤ) → n + m ≤ most_intervals → nat_abs p ≤ m * swing → Holds n w b
     → Offers (n + m) (plus p w) (b +ℤ p)
-offers-sum m n p Nothing b few small h =
+offers-sum m n p None b few small h =
     let both : (n + m) * swing ≡ n * swing + m * swing = omega arith in
     omega (zarith, above-infeasible n (omega arith), above-infeasible (n + m) few, within-abs p, zsum b p, h.1, both, small)
-offers-sum m n p (Profit q) b few small h =
+offers-sum m n p (Some q) b few small h =
     let both : (n + m) * swing ≡ n * swing + m * swing = omega arith in
     (ap (λ (x : ℤ). x +ℤ p) h.0 ∙ +ℤ_comm q p, omega (arith, abs-within (within-sum (within-abs p) (within-abs q)), h.1, both, small))
 
@@ -75,7 +75,7 @@ module _ (f : Figures) (cap : Budgets) (quarters : List Quarter) (worth : Cell �
   abbrev given : Cell → BestProfit
   given e = offer f quarters worth z e
 
-  pub none_seen : (seen : Cell → Type 0) → ((e : Cell) → seen e → ⊥) → Covered f cap quarters worth z seen Nothing
+  pub none_seen : (seen : Cell → Type 0) → ((e : Cell) → seen e → ⊥) → Covered f cap quarters worth z seen None
   none_seen seen never = record { above = λ e i w s. absurd (never e s); met = inl refl }
 
   module _ (seen further : Cell → Type 0) (v : BestProfit) (c : Covered f cap quarters worth z seen v) where
@@ -90,18 +90,18 @@ module _ (f : Figures) (cap : Budgets) (quarters : List Quarter) (worth : Cell �
           met =
               ⊎_elim
               (λ (h : more v (given e) ≡ v).
-              ⊎_elim (λ (n : v ≡ Nothing). inl (h ∙ n))
+              ⊎_elim (λ (n : v ≡ None). inl (h ∙ n))
               (λ (m : Met f cap quarters worth z v). inr (record { end = m.end; inside = m.inside; within = m.within; is = h ∙ m.is })) c.met)
               (λ (h : more v (given e) ≡ given e). inr (record { end = e; inside = i; within = w; is = h })) (either-more v (given e));
         }
 
     -- ways that are none, or were seen
-    pub none-new : ((u : Cell) → InTable g u → Within u.left z.left → further u → (given u ≡ Nothing) ⊎ seen u)
+    pub none-new : ((u : Cell) → InTable g u → Within u.left z.left → further u → (given u ≡ None) ⊎ seen u)
         → Covered f cap quarters worth z further v
     none-new split =
         record {
           above = λ u k l s.
-              ⊎_elim (λ (h : given u ≡ Nothing). subst (λ (x : BestProfit). AtMost x v) (sym h) tt) (λ (h : seen u). c.above u k l h) (split u k l s);
+              ⊎_elim (λ (h : given u ≡ None). subst (λ (x : BestProfit). AtMost x v) (sym h) tt) (λ (h : seen u). c.above u k l h) (split u k l s);
           met = c.met;
         }
 
@@ -155,12 +155,12 @@ module _ (f : Figures) (cap : Budgets) (quarters : List Quarter) (worth : Cell �
 
         by : (a b : BestProfit) → value_at f (ends_in e.state) quarters (spending z e) ≡ a → worth (afterward z e) ≡ b
             → AtMost (sum_of a b) (value_before f cap quarters worth z)
-        by Nothing b way end = tt
-        by (Profit p) Nothing way end = tt
-        by (Profit p) (Profit v) way end =
+        by None b way end = tt
+        by (Some p) None way end = tt
+        by (Some p) (Some v) way end =
             let l = reaches f ok ends quarters box (end_in e) p v (end-within e)
             (ap (value_at f (ends_in e.state) quarters) (same-spent e in-box) ∙ way) (ap worth (same_end e in-box) ∙ end) in
-            subst (AtMost (Profit (p +ℤ v))) (sym l.is) l.least
+            subst (AtMost (Some (p +ℤ v))) (sym l.is) l.least
 
     box-inside : InTable f z → InTable f box
     box-inside i =
@@ -180,14 +180,14 @@ module _ (f : Figures) (cap : Budgets) (quarters : List Quarter) (worth : Cell �
       where
         least : AtMost v (value_before f cap quarters worth z)
         least =
-            ⊎_elim (λ (n : v ≡ Nothing). subst (λ (x : BestProfit). AtMost x (value_before f cap quarters worth z)) (sym n) tt)
+            ⊎_elim (λ (n : v ≡ None). subst (λ (x : BestProfit). AtMost x (value_before f cap quarters worth z)) (sym n) tt)
             (λ (m : Met f cap quarters worth z v).
             subst (λ (x : BestProfit). AtMost x (value_before f cap quarters worth z)) (sym m.is) (no_more m.end m.inside m.within))
             c.met
 
         by : (u : BestProfit) → value_before f cap quarters worth z ≡ u → AtMost u v
-        by Nothing e = tt
-        by (Profit u) e =
+        by None e = tt
+        by (Some u) e =
             let m = meets f ok ends quarters box (box-inside i) u e in
             let end : Cell = record { state = m.at.state; left = less box.left m.at.left } in
             let there : InTable g end =
@@ -197,7 +197,7 @@ module _ (f : Figures) (cap : Budgets) (quarters : List Quarter) (worth : Cell �
             } in
             let within : Within end.left z.left = record { starts = omega arith; ons = omega arith; blocks = omega arith } in
             let place : afterward z end ≡ raised (over_of cap z) m.at = led m.at m.within in
-            let sum : given end ≡ Profit u = ap₂ sum_of m.way (ap worth place ∙ m.worth) ∙ ap Profit m.sum in
+            let sum : given end ≡ Some u = ap₂ sum_of m.way (ap worth place ∙ m.worth) ∙ ap Some m.sum in
             subst (λ (x : BestProfit). AtMost x v) sum (c.above end there within (all end there))
           where
             led : (a : Cell) → Within a.left box.left

@@ -1,4 +1,5 @@
 -- The value of a cell by the cells where its plans end: no way to an end earns more with what the end is worth, and one earns as much.
+use Rattle.std.specs.Prelude.{None, Some}
 use mathlib.Core.Path.{◌≡◌, refl, sym, ap, ap₂, ◌∙◌, subst}
 use mathlib.Core.Bool.{Bool, true, false, cond, ◌&&◌, ◌||◌}
 use mathlib.Core.List.{List, [], ◌∷◌, append-nil}
@@ -12,8 +13,7 @@ use lib.IntN.{ℤ, pos, ◌+ℤ◌, ◌-ℤ◌, +ℤ_idr}
 use lib.Signed.{◌≤ℤ◌, ◌<ℤ◌}
 use Rattle.integers.proofs.Linear.{zarith}
 use Rattle.lists.proofs.Conjunctions.{both}
-use Rattle.commitment.specs.declared.BestProfit.{BestProfit}
-use Rattle.commitment.specs.declared.BestProfit.TheVariants.{Nothing, Profit}
+use Rattle.commitment.specs.Types.{BestProfit}
 use Rattle.commitment.specs.Best.{Plan, nothing, plan, profit_of}
 use Rattle.commitment.specs.Order.{earlier}
 use Rattle.optimality.specs.declared.Cell.{Cell}
@@ -35,7 +35,7 @@ use Rattle.marks.proofs.Halving.{spends-within, earlier-half}
 abbrev only : Cell → Cell → BestProfit
 only at z =
     cond (eqb z.state at.state && eqb z.left.starts at.left.starts && eqb z.left.ons at.left.ons && eqb z.left.blocks
-    at.left.blocks) (Profit (pos 0)) Nothing
+    at.left.blocks) (Some (pos 0)) None
 
 eqb-more : (a b : ℕ) → eqb a 0 ≡ eqb (a + b) b
 eqb-more a b = by (eqb a 0) refl
@@ -47,13 +47,13 @@ eqb-more a b = by (eqb a 0) refl
 lifted-ends : (at d : Cell) → ends_in at.state d ≡ only at (lifted at d)
 lifted-ends at d = rw (eqb-more d.left.starts at.left.starts, eqb-more d.left.ons at.left.ons, eqb-more d.left.blocks at.left.blocks)
 
-is-only : (at y : Cell) (q : ℤ) → only at y ≡ Profit q → (y ≡ at) × (q ≡ pos 0)
+is-only : (at y : Cell) (q : ℤ) → only at y ≡ Some q → (y ≡ at) × (q ≡ pos 0)
 is-only at y q e = by (eqb y.state at.state && eqb y.left.starts at.left.starts && eqb y.left.ons at.left.ons && eqb
     y.left.blocks at.left.blocks) refl e
   where
     by : (t : Bool) → (eqb y.state at.state && eqb y.left.starts at.left.starts && eqb y.left.ons at.left.ons && eqb
         y.left.blocks at.left.blocks) ≡ t
-        → cond t (Profit (pos 0)) Nothing ≡ Profit q → (y ≡ at) × (q ≡ pos 0)
+        → cond t (Some (pos 0)) None ≡ Some q → (y ≡ at) × (q ≡ pos 0)
     by false k e = absurd (no-earning e)
     by true k e =
         let a = both _ (eqb y.left.blocks at.left.blocks) k in
@@ -68,15 +68,15 @@ is-only at y q e = by (eqb y.state at.state && eqb y.left.starts at.left.starts 
         ) in
         (same, earned e)
       where
-        earned : Profit (pos 0) ≡ Profit q → q ≡ pos 0
+        earned : Some (pos 0) ≡ Some q → q ≡ pos 0
         earned e = cc
 
-only_above : (at z : Cell) → Below at z → only at z ≡ Nothing
+only_above : (at z : Cell) → Below at z → only at z ≡ None
 only_above at z b = by (only at z) refl
   where
-    by : (v : BestProfit) → only at z ≡ v → only at z ≡ Nothing
-    by Nothing e = e
-    by (Profit q) e =
+    by : (v : BestProfit) → only at z ≡ v → only at z ≡ None
+    by None e = e
+    by (Some q) e =
         let k = (is-only at z q e).0 in
         absurd
         (⊎_elim (λ (l : z.left.starts < at.left.starts). omega (arith, ap (λ (y : Cell). y.left.starts) k))
@@ -137,7 +137,7 @@ module _ (f : Figures) (ends : Cell → BestProfit) where
     earned : ℤ
     profit : ℤ
     leads : walk Cell Quarter (step f) is c s ≡ go earned at
-    worth : ends at ≡ Profit profit
+    worth : ends at ≡ Some profit
     sum : earned +ℤ profit ≡ p
 
   arrives : (is : List Quarter) (c : Cell) (s : List ℕ) (p : ℤ) → run Cell Quarter (step f) ends is c s ≡ plan s p → Arrives is c s p
@@ -149,8 +149,8 @@ module _ (f : Figures) (ends : Cell → BestProfit) where
       by : (b : List ℕ) (v : BestProfit) → k.back ≡ b → ends k.at ≡ v → run Cell Quarter (step f) ends [] k.at k.back ≡ plan k.back k.rest
           → Arrives is c s p
       by (m ∷ b) v i j r = absurd (not-plan (rw i at r))
-      by [] Nothing i j r = absurd (not-plan (rw (i, j) at r))
-      by [] (Profit z) i j r =
+      by [] None i j r = absurd (not-plan (rw (i, j) at r))
+      by [] (Some z) i j r =
           let n : plan [] z ≡ plan [] k.rest = rw (i, j) at r in
           let rest : z ≡ k.rest = cc in
           let whole : k.front ≡ s = sym (append-nil k.front) ∙ (rw i at k.whole) in
@@ -159,12 +159,12 @@ module _ (f : Figures) (ends : Cell → BestProfit) where
             earned = k.earned;
             profit = k.rest;
             leads = ap (walk Cell Quarter (step f) is c) (sym whole) ∙ k.leads;
-            worth = j ∙ ap Profit rest;
+            worth = j ∙ ap Some rest;
             sum = k.sum;
           }
 
 -- a profit is that of a plan
-planned : (p : Plan) (v : ℤ) → profit_of p ≡ Profit v → (s : List ℕ) × (p ≡ plan s v)
+planned : (p : Plan) (v : ℤ) → profit_of p ≡ Some v → (s : List ℕ) × (p ≡ plan s v)
 planned nothing v e = absurd (no-earning e)
 planned (plan s q) v e = let i : q ≡ v = cc in (s, ap (plan s) i)
 
@@ -191,8 +191,8 @@ module _ (f : Figures) (ok : Sound f) (ends : Cell → BestProfit) (quarters : L
     pub within : Within at.left c.left
     pub earned : ℤ
     pub profit : ℤ
-    pub way : value_at f (ends_in at.state) quarters (spent c at) ≡ Profit earned
-    pub worth : ends at ≡ Profit profit
+    pub way : value_at f (ends_in at.state) quarters (spent c at) ≡ Some earned
+    pub worth : ends at ≡ Some profit
     pub sum : earned +ℤ profit ≡ u
 
   -- the plan, and where it arrives
@@ -226,7 +226,7 @@ module _ (f : Figures) (ok : Sound f) (ends : Cell → BestProfit) (quarters : L
           sum = a.sum;
         }
 
-  pub meets : InTable f c → (u : ℤ) → value_at f ends quarters c ≡ Profit u → Meets u
+  pub meets : InTable f c → (u : ℤ) → value_at f ends quarters c ≡ Some u → Meets u
   unfolding plan_at
   meets i u e =
       let p = planned (plan_at f ends quarters c) u (plan-value f ends quarters c ∙ e) in
@@ -236,10 +236,10 @@ module _ (f : Figures) (ok : Sound f) (ends : Cell → BestProfit) (quarters : L
   -- no way to an end earns more with it
   pub record Least (p : ℤ) : Type 0 where
     pub value : ℤ
-    pub is : value_at f ends quarters c ≡ Profit value
+    pub is : value_at f ends quarters c ≡ Some value
     pub least : p ≤ℤ value
 
-  module _ (at : Cell) (p v : ℤ) (w : Within at.left c.left) (worth : ends at ≡ Profit v) (s : List ℕ) where
+  module _ (at : Cell) (p v : ℤ) (w : Within at.left c.left) (worth : ends at ≡ Some v) (s : List ℕ) where
     -- the way as one that ends in the cell alone
     there : plan_at f (ends_in at.state) quarters (spent c at) ≡ plan s p
         → best_from Cell Quarter (step f) (only at) (choices f) quarters c ≡ plan s p
@@ -278,7 +278,7 @@ module _ (f : Figures) (ok : Sound f) (ends : Cell → BestProfit) (quarters : L
         (no_rival Cell Quarter (step f) ends (choices f) (choices-ascending f ok) quarters c s (p +ℤ v) r.1
         (runs (arrives f (only at) quarters c s p r.0)))
 
-  pub reaches : (at : Cell) (p v : ℤ) → Within at.left c.left → value_at f (ends_in at.state) quarters (spent c at) ≡ Profit p → ends at ≡ Profit v
+  pub reaches : (at : Cell) (p v : ℤ) → Within at.left c.left → value_at f (ends_in at.state) quarters (spent c at) ≡ Some p → ends at ≡ Some v
       → Least (p +ℤ v)
   reaches at p v w way worth =
       let s = planned (plan_at f (ends_in at.state) quarters (spent c at)) p (plan-value f (ends_in at.state) quarters (spent c at) ∙ way) in

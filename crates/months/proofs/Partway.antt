@@ -1,4 +1,5 @@
 -- The plan of a year, partway: the outputs of the months behind, and the plan of those ahead from the cell where they led.
+use Rattle.std.specs.Prelude.{None, Some}
 use mathlib.Core.Path.{◌≡◌, refl, sym, ap, ap₂, ◌∙◌, subst}
 use mathlib.Core.Bool.{true}
 use mathlib.Core.List.{List, [], ◌∷◌, ◌++◌, append_assoc, append-nil}
@@ -8,10 +9,8 @@ use lib.IntN.{ℤ, pos, ◌+ℤ◌}
 use lib.ListN.{length, get_or, take, drop, length-append, length-drop}
 use lib.Seq.{drop-drop, drop-length, drop-append-add, take-append_seam}
 use Rattle.lists.proofs.Fills.{drop-next}
-use Rattle.commitment.specs.declared.BestProfit.{BestProfit}
-use Rattle.commitment.specs.declared.BestProfit.TheVariants.{Nothing, Profit}
+use Rattle.commitment.specs.Types.{BestProfit}
 use Rattle.commitment.specs.declared.Generator.{Generator}
-use Rattle.commitment.specs.declared.Limit.TheVariants.{None}
 use Rattle.commitment.specs.Best.{Plan, nothing, plan, profit_of, schedule_of}
 use Rattle.commitment.specs.Bounds.{most_blocks}
 use Rattle.commitment.specs.Months.{Month}
@@ -72,7 +71,7 @@ module _ (g : Generator) (y : Year) (prices : List ℤ) (cuts : List ℕ) (month
     back_is : drop month.long (drop (cut_at cuts k) quarters) ≡ drop (cut_at cuts (k + 1)) quarters
     back_is = drop-drop month.long (cut_at cuts k) quarters ∙ ap (λ (n : ℕ). drop n quarters) (sym ends_at)
 
-  worth-last : (z : Cell) → worth_at (length cuts - 1) z ≡ Profit (pos 0)
+  worth-last : (z : Cell) → worth_at (length cuts - 1) z ≡ Some (pos 0)
   unfolding year_value
   worth-last z =
       let n : length cuts - 1 ≡ length months = omega (arith, of.long) in
@@ -93,7 +92,7 @@ module _ (g : Generator) (y : Year) (prices : List ℤ) (cuts : List ℕ) (month
   -- ---- a month's plan, and the plan from where it leads
 
   -- a plan of some intervals in front
-  parts : (a : List ℕ) (e : ℤ) (p : Plan) (v : ℤ) → profit_of p ≡ Profit v → schedule_of (in_front_of a e p) ≡ a ++ schedule_of p
+  parts : (a : List ℕ) (e : ℤ) (p : Plan) (v : ℤ) → profit_of p ≡ Some v → schedule_of (in_front_of a e p) ≡ a ++ schedule_of p
   parts a e nothing v h = absurd (no-earning h)
   parts a e (plan s p) v h = refl
 
@@ -133,7 +132,7 @@ module _ (y : Year) (cells prices : List ℤ) (cuts : List ℕ) (from : Cell) (w
         ≡ behind ++ schedule_of (year_plan g y.figures (drop k months) (drop (cut_at cuts k) (quarters_in y.hours prices)) at)
     pub written : schedule ≡ behind ++ drop (cut_at cuts k) was
     pub tried : tries ≡ tries_over y.figures.block y.figures.pmin behind
-    pub some : year_value g y.figures (drop k months) (drop (cut_at cuts k) (quarters_in y.hours prices)) at ≡ Nothing → ⊥
+    pub some : year_value g y.figures (drop k months) (drop (cut_at cuts k) (quarters_in y.hours prices)) at ≡ None → ⊥
 
   pub record Partway (now : List ℤ) (schedule : List ℕ) (at : Cell) (tries k : ℕ) : Type 0 where
     pub month : k < length cuts
@@ -144,7 +143,7 @@ module _ (y : Year) (cells prices : List ℤ) (cuts : List ℕ) (from : Cell) (w
     pub beyond : Untouched (y.work + y.room) cells now
     pub few : tries ≤ cut_at cuts k * (most_blocks + 1)
     pub done : (g : Generator) (months : List Month) → YearOf g y cuts months
-        → (year_value g y.figures months (quarters_in y.hours prices) from ≡ Nothing → ⊥) → Done g months schedule at tries k
+        → (year_value g y.figures months (quarters_in y.hours prices) from ≡ None → ⊥) → Done g months schedule at tries k
 
   pub at_first : Partway cells was from 0 0
   at_first =
@@ -198,7 +197,7 @@ module _ (y : Year) (cells prices : List ℤ) (cuts : List ℕ) (from : Cell) (w
     module _ (after : List ℤ) (written : List ℕ) (r : Reached) (planned : MonthPlanned y prices cuts k at schedule written r) where
       -- the month's plan of any year that these cuts and caps are
       by : (g : Generator) (months : List Month) (of : YearOf g y cuts months)
-          → (year_value g y.figures months (quarters_in y.hours prices) from ≡ Nothing → ⊥)
+          → (year_value g y.figures months (quarters_in y.hours prices) from ≡ None → ⊥)
           → MonthBy y prices cuts k at (worth_at g y prices cuts months of) schedule written r
       by g months of some = planned (worth_at g y prices cuts months of) (worths g y prices cuts months of) (p.done g months of some).some
 
@@ -212,7 +211,7 @@ module _ (y : Year) (cells prices : List ℤ) (cuts : List ℕ) (from : Cell) (w
           rw (← sum) (omega (arith, p.few, own.few))
 
       done_next : (g : Generator) (months : List Month) → YearOf g y cuts months
-          → (year_value g y.figures months (quarters_in y.hours prices) from ≡ Nothing → ⊥) → Done g months written r.cell (tries + r.tries) (k + 1)
+          → (year_value g y.figures months (quarters_in y.hours prices) from ≡ None → ⊥) → Done g months written r.cell (tries + r.tries) (k + 1)
       done_next g months of some =
           let d = p.done g months of some in
           let m = by g months of some in

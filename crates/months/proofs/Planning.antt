@@ -1,4 +1,5 @@
 -- One month of a plan: entered in its box, solved up to the layer of the next month, and raised again.
+use Rattle.std.specs.Prelude.{None}
 use mathlib.Core.Path.{◌≡◌, refl, sym, ap, ◌∙◌, subst}
 use mathlib.Core.List.{List}
 use mathlib.Core.Logic.{inr}
@@ -7,8 +8,7 @@ use native.Mathlib.Omega.{arith}
 use lib.IntN.{ℤ, pos}
 use lib.ListN.{length, get_or, drop, length-drop}
 use lib.Seq.{get_or-drop}
-use Rattle.commitment.specs.declared.BestProfit.{BestProfit}
-use Rattle.commitment.specs.declared.BestProfit.TheVariants.{Nothing}
+use Rattle.commitment.specs.Types.{BestProfit}
 use Rattle.commitment.specs.Bounds.{most_intervals}
 use Rattle.optimality.specs.declared.Budgets.{Budgets}
 use Rattle.optimality.specs.declared.Cell.{Cell}
@@ -94,8 +94,8 @@ module _ (y : Year) (was prices : List ℤ) (cuts : List ℕ) (k : ℕ) (at : Ce
     few = omega (arith, ahead y (length was) prices cuts year k asked.month, year.short)
 
     -- a cell of the year with a plan has one in its box
-    pub some : (worth : ℕ → Cell → BestProfit) → Worths y prices cuts worth → (worth k at ≡ Nothing → ⊥)
-        → value_at g (λ x. worth (k + 1) (raised above x)) (quarters_at y prices cuts k) (box_of cap at) ≡ Nothing → ⊥
+    pub some : (worth : ℕ → Cell → BestProfit) → Worths y prices cuts worth → (worth k at ≡ None → ⊥)
+        → value_at g (λ x. worth (k + 1) (raised above x)) (quarters_at y prices cuts k) (box_of cap at) ≡ None → ⊥
     some worth worths has none =
         has
         (worths.before k asked.month at asked.here

@@ -11,7 +11,7 @@ use lib.IntN.{ℤ, pos}
 use lib.ListN.{length, take, drop, get_or, length-drop}
 use lib.Seq.{get_or-drop}
 use Rattle.lists.proofs.Fills.{tail-before, tail-read}
-use Rattle.commitment.specs.declared.windows.Hours.{Hours}
+use Rattle.commitment.specs.Types.{Hours}
 use Rattle.optimality.specs.declared.Cell.{Cell}
 use Rattle.optimality.specs.declared.Figures.{Figures}
 use Rattle.optimality.specs.Machine.{Quarter}

@@ -1,4 +1,5 @@
 -- The states at a month's end one after the other: the month rolled to each, its ways taken; after the last of them the layer holds the values.
+use Rattle.std.specs.Prelude.{None}
 use mathlib.Core.Path.{◌≡◌, refl, sym, ◌∙◌, subst}
 use mathlib.Core.List.{List, []}
 use mathlib.Core.Logic.{◌⊎◌, ⊎_elim, inl, inr}
@@ -7,9 +8,8 @@ use native.Mathlib.Nat.{zero-add}
 use native.Mathlib.Omega.{arith}
 use lib.IntN.{ℤ, pos}
 use lib.ListN.{length, get_or}
-use Rattle.commitment.specs.declared.BestProfit.{BestProfit}
-use Rattle.commitment.specs.declared.BestProfit.TheVariants.{Nothing}
-use Rattle.commitment.specs.declared.windows.Hours.{Hours}
+use Rattle.commitment.specs.Types.{BestProfit}
+use Rattle.commitment.specs.Types.{Hours}
 use Rattle.commitment.specs.Bounds.{most_intervals}
 use Rattle.commitment.specs.Windows.{opens}
 use Rattle.optimality.specs.declared.Budgets.{Budgets}
@@ -213,7 +213,7 @@ module _ (f : Figures) (prices : List ℤ) (hours : Hours) (m : Month) (at : Pla
         → Best f m.cap month worth z (SeenBy f m.cap 0 0 z) (n + length month) (stored_at f empty at.here z)
     none_yet worth n few z i =
         record {
-          value = Nothing;
+          value = None;
           covered =
               none_seen f m.cap month worth z (SeenBy f m.cap 0 0 z)
               (λ e seen.

@@ -1,4 +1,5 @@
 -- The ways of the month's own layer taken one after the other: with each the best of the ways seen grows, in every cell of the year.
+use Rattle.std.specs.Prelude.{None, Some}
 use mathlib.Core.Path.{◌≡◌, refl, sym, ap, ap₂, ◌∙◌, subst}
 use mathlib.Core.Bool.{Bool, true, false}
 use mathlib.Core.List.{List}
@@ -9,8 +10,7 @@ use borrow.Author.Tests.{eqb-true, eqb-false, leb-true, leb-false}
 use lib.Dec.{eqb, leb}
 use lib.IntN.{ℤ, pos, nat_abs, ◌+ℤ◌}
 use lib.ListN.{length, get_or}
-use Rattle.commitment.specs.declared.BestProfit.{BestProfit}
-use Rattle.commitment.specs.declared.BestProfit.TheVariants.{Nothing, Profit}
+use Rattle.commitment.specs.Types.{BestProfit}
 use Rattle.commitment.specs.Bounds.{most_intervals}
 use Rattle.optimality.specs.declared.Budgets.{Budgets}
 use Rattle.optimality.specs.declared.Cell.{Cell}
@@ -146,7 +146,7 @@ module _ (f : Figures) (cap : Budgets) (at : Places) (t : ℕ) (was : List ℤ) 
           (λ (l : index g (spending z u) < j). inr (inr (s.0, l))) (last-or-before (index g (spending z u)) j s.1))
           seen
 
-      without : told (get_or cells (at.work + j) (pos 0)) ≡ Nothing → Next
+      without : told (get_or cells (at.work + j) (pos 0)) ≡ None → Next
       without e =
           record {
             value = b.value;
@@ -163,7 +163,7 @@ module _ (f : Figures) (cap : Budgets) (at : Places) (t : ℕ) (was : List ℤ) 
                 subst (λ (l : List ℤ). Holds (n + length quarters) b.value (stored_at f l at.here z)) (sym (taken.none e)) b.holds;
           }
 
-      module _ (gain : ℤ) (e : told (get_or cells (at.work + j) (pos 0)) ≡ Profit gain) where
+      module _ (gain : ℤ) (e : told (get_or cells (at.work + j) (pos 0)) ≡ Some gain) where
         abbrev brought : Brought f at (way_of spends t gain) (InSection (way_of spends t gain) (f.most.starts + 1)) cells now
         brought = taken.some gain e
 
@@ -259,8 +259,8 @@ module _ (f : Figures) (cap : Budgets) (at : Places) (t : ℕ) (was : List ℤ) 
       next-best = by (told (get_or cells (at.work + j) (pos 0))) refl
         where
           by : (v : BestProfit) → told (get_or cells (at.work + j) (pos 0)) ≡ v → Next
-          by Nothing e = without e
-          by (Profit gain) e = decided gain e
+          by None e = without e
+          by (Some gain) e = decided gain e
 
     pub way-taken : j < width g → (now : List ℤ) → length now ≡ length cells
         → Taken f at (cell_of g j) t (told (get_or cells (at.work + j) (pos 0))) cells now → WaysTaken f cap at t (j + 1) was now
@@ -274,8 +274,8 @@ module _ (f : Figures) (cap : Budgets) (at : Places) (t : ℕ) (was : List ℤ) 
       where
         unmoved : (k : ℕ) → (k < at.here) ⊎ (at.here + width f ≤ k) → (v : BestProfit) → told (get_or cells (at.work + j) (pos 0)) ≡ v
             → get_or now k (pos 0) ≡ get_or cells k (pos 0)
-        unmoved k out Nothing e = ap (λ (l : List ℤ). get_or l k (pos 0)) (taken.none e)
-        unmoved k out (Profit gain) e = (taken.some gain e).apart k out
+        unmoved k out None e = ap (λ (l : List ℤ). get_or l k (pos 0)) (taken.none e)
+        unmoved k out (Some gain) e = (taken.some gain e).apart k out
 
   pub no-way-taken : WaysTaken f cap at t 0 was was
   no-way-taken = record { best = λ quarters worth n few rolled layer z i b. b; apart = λ k out. refl; same = refl }

@@ -1,7 +1,7 @@
 -- The months of a horizon: where they begin, what each may spend, what the year is worth at the beginning of each, and where its layer stands.
 use Rattle.std.specs.Prelude.{◌≡◌, Bool, true, false, cond, List, ◌⊎◌, ℕ, ◌+◌, ◌-◌, ◌*◌, ◌%◌, ◌≤◌, ◌<◌, eqb, ℤ, length, get_or}
-use Rattle.commitment.specs.declared.BestProfit.{BestProfit}
-use Rattle.commitment.specs.declared.windows.Hours.{Hours}
+use Rattle.commitment.specs.Types.{BestProfit}
+use Rattle.commitment.specs.Types.{Hours}
 use Rattle.commitment.specs.Bounds.{most_intervals}
 use Rattle.commitment.specs.Ranges.{Priced}
 use Rattle.commitment.specs.Windows.{Clocked}

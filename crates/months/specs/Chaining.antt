@@ -1,7 +1,7 @@
 -- The year's layer at a month's beginning, made from the one at its end.
 use Rattle.std.specs.Prelude.{◌≡◌, List, [], ◌⊎◌, ℕ, ◌+◌, ◌-◌, ◌≤◌, ◌<◌, ℤ, pos, length, get_or}
-use Rattle.commitment.specs.declared.BestProfit.{BestProfit}
-use Rattle.commitment.specs.declared.windows.Hours.{Hours}
+use Rattle.commitment.specs.Types.{BestProfit}
+use Rattle.commitment.specs.Types.{Hours}
 use Rattle.commitment.specs.Bounds.{most_intervals}
 use Rattle.commitment.specs.Ranges.{Priced}
 use Rattle.commitment.specs.Windows.{Clocked}

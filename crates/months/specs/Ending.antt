@@ -1,9 +1,8 @@
 -- The year's layer at a month's beginning by the states at its end: a way through the month, what it makes of the cells of the year, and the best of all ways.
-use Rattle.std.specs.Prelude.{◌≡◌, List, ◌⊎◌, ℕ, ◌+◌, ◌^◌, ◌≤◌, ◌<◌, ℤ, nat_abs, ◌+ℤ◌, length, ◌≤ℤ◌}
+use Rattle.std.specs.Prelude.{◌≡◌, List, ◌⊎◌, ℕ, ◌+◌, ◌^◌, ◌≤◌, ◌<◌, ℤ, nat_abs, ◌+ℤ◌, length, ◌≤ℤ◌, Some, None}
 use Rattle.integers.specs.Maximum.{maxℤ}
-use Rattle.commitment.specs.declared.BestProfit.{BestProfit}
-use Rattle.commitment.specs.declared.BestProfit.TheVariants.{Nothing, Profit}
-use Rattle.commitment.specs.declared.windows.Hours.{Hours}
+use Rattle.commitment.specs.Types.{BestProfit}
+use Rattle.commitment.specs.Types.{Hours}
 use Rattle.commitment.specs.Bounds.{most_intervals}
 use Rattle.optimality.specs.declared.Budgets.{Budgets}
 use Rattle.optimality.specs.declared.Cell.{Cell}
@@ -29,17 +28,17 @@ abbrev pub afterward : Cell → Cell → Cell
 afterward z e = record { state = e.state; left = less z.left e.left }
 
 abbrev pub sum_of : BestProfit → BestProfit → BestProfit
-sum_of Nothing w = Nothing
-sum_of (Profit p) w = plus p w
+sum_of None w = None
+sum_of (Some p) w = plus p w
 
 -- what the best way earns, with what its end is worth
 abbrev pub offer : Figures → List Quarter → (Cell → BestProfit) → Cell → Cell → BestProfit
 offer f quarters worth z e = sum_of (value_at f (ends_in e.state) quarters (spending z e)) (worth (afterward z e))
 
 abbrev pub AtMost : BestProfit → BestProfit → Type 0
-AtMost Nothing v = Unit {0}
-AtMost (Profit p) Nothing = ⊥
-AtMost (Profit p) (Profit q) = p ≤ℤ q
+AtMost None v = Unit {0}
+AtMost (Some p) None = ⊥
+AtMost (Some p) (Some q) = p ≤ℤ q
 
 -- the best of the ways that were seen, where there is one: none of them is better, and it is one of the box's
 pub record Met (f : Figures) (cap : Budgets) (quarters : List Quarter) (worth : Cell → BestProfit) (z : Cell) (v : BestProfit) : Type 0 where
@@ -51,7 +50,7 @@ pub record Met (f : Figures) (cap : Budgets) (quarters : List Quarter) (worth : 
 pub record Covered (f : Figures) (cap : Budgets) (quarters : List Quarter) (worth : Cell → BestProfit) (z : Cell) (seen : Cell → Type 0)
     (v : BestProfit) : Type 0 where
   pub above : (e : Cell) → InTable (with_most f cap) e → Within e.left z.left → seen e → AtMost (offer f quarters worth z e) v
-  pub met : (v ≡ Nothing) ⊎ Met f cap quarters worth z v
+  pub met : (v ≡ None) ⊎ Met f cap quarters worth z v
 
 -- ---- a stretch raised to another that does not meet it
 
@@ -122,11 +121,11 @@ way_of from to gain = record { from = from; to = to; gain = gain }
 
 -- a way that there may be
 abbrev pub TakeAsked : Figures → List ℤ → Places → Cell → ℕ → BestProfit → Type 0
-TakeAsked f cells at from to earned = (gain : ℤ) → earned ≡ Profit gain → WayAsked f cells at (way_of from to gain)
+TakeAsked f cells at from to earned = (gain : ℤ) → earned ≡ Some gain → WayAsked f cells at (way_of from to gain)
 
 pub record Taken (f : Figures) (at : Places) (from : Cell) (to : ℕ) (earned : BestProfit) (was now : List ℤ) : Type 0 where
-  pub some : (gain : ℤ) → earned ≡ Profit gain → Brought f at (way_of from to gain) (InSection (way_of from to gain) (f.most.starts + 1)) was now
-  pub none : earned ≡ Nothing → now ≡ was
+  pub some : (gain : ℤ) → earned ≡ Some gain → Brought f at (way_of from to gain) (InSection (way_of from to gain) (f.most.starts + 1)) was now
+  pub none : earned ≡ None → now ≡ was
 
 pub record WaysAsked (f : Figures) (cap : Budgets) (cells : List ℤ) (at : Places) (t : ℕ) : Type 0 where
   pub sound : Sound f

@@ -1,10 +1,9 @@
 -- The plan of a year, month by month.
-use Rattle.std.specs.Prelude.{◌≡◌, true, List, ◌∷◌, ◌++◌, ℕ, suc, ◌+◌, ◌-◌, ◌*◌, ◌≤◌, ◌<◌, ℤ, ◌+ℤ◌, length, take, drop}
-use Rattle.commitment.specs.declared.BestProfit.{BestProfit}
-use Rattle.commitment.specs.declared.BestProfit.TheVariants.{Nothing, Profit}
+use Rattle.std.specs.Prelude.{◌≡◌, true, List, ◌∷◌, ◌++◌, ℕ, suc, ◌+◌, ◌-◌, ◌*◌, ◌≤◌, ◌<◌, ℤ, ◌+ℤ◌, length, take, drop, Some, None}
+use Rattle.commitment.specs.Types.{BestProfit}
 use Rattle.commitment.specs.declared.Generator.{Generator}
 use Rattle.commitment.specs.declared.Limits.{Limits}
-use Rattle.commitment.specs.declared.windows.Hours.{Hours}
+use Rattle.commitment.specs.Types.{Hours}
 use Rattle.commitment.specs.Best.{plan, schedule_of}
 use Rattle.commitment.specs.Bounds.{most_blocks}
 use Rattle.commitment.specs.Months.{Month}
@@ -35,7 +34,7 @@ pub record MonthPlanAsked (y : Year) (cells prices : List ℤ) (cuts : List ℕ)
   pub month : k + 1 < length cuts
   pub next : Stands y prices cuts cells (k + 1)
   pub here : InTable y.figures at
-  pub some : chain.worth k at ≡ Nothing → ⊥
+  pub some : chain.worth k at ≡ None → ⊥
   pub long : length prices ≤ schedule
 
 -- the month's plan, up to what the year is worth at its end, stands in its place of the schedule, and the next month goes on from the cell given
@@ -47,7 +46,7 @@ pub record MonthBy (y : Year) (prices : List ℤ) (cuts : List ℕ) (k : ℕ) (a
   pub next : r.cell ≡ raised (over_of (cap_of y.caps k) at) end
   pub inside : InTable y.figures r.cell
   pub profit : ℤ
-  pub later : worth (k + 1) r.cell ≡ Profit profit
+  pub later : worth (k + 1) r.cell ≡ Some profit
   pub best : plan_at y.figures (λ x. worth (k + 1) (raised (over_of (cap_of y.caps k) at) x)) (quarters_at y prices cuts k) (box_of (cap_of y.caps k) at)
       ≡ plan outputs (earned +ℤ profit)
   pub written : now ≡ take (cut_at cuts k) was ++ (outputs ++ drop (cut_at cuts (k + 1)) was)
@@ -56,7 +55,7 @@ pub record MonthBy (y : Year) (prices : List ℤ) (cuts : List ℕ) (k : ℕ) (a
 
 abbrev pub MonthPlanned : Year → List ℤ → List ℕ → ℕ → Cell → List ℕ → List ℕ → Reached → Type 0
 MonthPlanned y prices cuts k at was now r =
-    (worth : ℕ → Cell → BestProfit) → Worths y prices cuts worth → (worth k at ≡ Nothing → ⊥) → MonthBy y prices cuts k at worth was now r
+    (worth : ℕ → Cell → BestProfit) → Worths y prices cuts worth → (worth k at ≡ None → ⊥) → MonthBy y prices cuts k at worth was now r
 
 -- ---- all months
 
@@ -80,7 +79,7 @@ pub record NextAsked (y : Year) (cells prices : List ℤ) (cuts : List ℕ) (k :
   pub month : k + 1 < length cuts
   pub stood : Stood y prices cuts cells k
   pub here : InTable y.figures at
-  pub some : chain.worth k at ≡ Nothing → ⊥
+  pub some : chain.worth k at ≡ None → ⊥
   pub long : length prices ≤ schedule
 
 -- the layers that stood go on to stand, and nothing is touched behind the work
@@ -96,7 +95,7 @@ pub record PlanAsked (y : Year) (cells prices : List ℤ) (cuts : List ℕ) (fro
   pub of : YearOf generator y cuts months
   pub stood : Stood y prices cuts cells 0
   pub here : InTable y.figures from
-  pub some : year_value generator y.figures months (quarters_in y.hours prices) from ≡ Nothing → ⊥
+  pub some : year_value generator y.figures months (quarters_in y.hours prices) from ≡ None → ⊥
   pub long : length prices ≤ schedule
 
 -- the best plan of the year stands in the front of the schedule; so many outputs were tried
@@ -108,4 +107,4 @@ pub record PlanBy (g : Generator) (y : Year) (prices : List ℤ) (months : List 
 abbrev pub Planned : Year → List ℤ → List ℕ → Cell → List ℕ → List ℕ → ℕ → Type 0
 Planned y prices cuts from was now tries =
     (g : Generator) (months : List Month) → YearOf g y cuts months
-    → (year_value g y.figures months (quarters_in y.hours prices) from ≡ Nothing → ⊥) → PlanBy g y prices months from was now tries
+    → (year_value g y.figures months (quarters_in y.hours prices) from ≡ None → ⊥) → PlanBy g y prices months from was now tries

@@ -7,7 +7,7 @@ ghost use Rattle.months.specs.Chaining.{MonthMade};
 
 use crate::chains::{Month, Places};
 use crate::ends;
-use commitment::windows::Hours;
+use commitment::windows::Allowed;
 use intervals::rows;
 use optimality::{Budgets, Figures};
 
@@ -23,7 +23,7 @@ pub struct Caps {
 #[derive(Clone, Copy)]
 pub struct Year {
     pub figures: Figures,
-    pub hours: Hours,
+    pub hours: Option<Allowed>,
     pub caps: Caps,
     pub width: usize,
     pub all: bool,

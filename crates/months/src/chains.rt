@@ -7,7 +7,7 @@ ghost use Rattle.layers.specs.Filling.{quarters_in, between};
 ghost use Rattle.months.specs.Chaining.{BoxAsked, RolledAt, ClassAsked, ClassMade, MonthAsked, MonthMade};
 
 use crate::boxes;
-use commitment::windows::Hours;
+use commitment::windows::Allowed;
 use optimality::{Budgets, Figures};
 
 // A month: its intervals, and the most that it may spend.
@@ -27,7 +27,14 @@ pub struct Places {
 }
 
 // The month in its own two layers.
-pub fn roll_box(cells: &mut [i64], g: Figures, prices: &[i64], hours: Hours, m: Month, at: usize)
+pub fn roll_box(
+    cells: &mut [i64],
+    g: Figures,
+    prices: &[i64],
+    hours: Option<Allowed>,
+    m: Month,
+    at: usize,
+)
     requires { BoxAsked g cells.old prices.now hours m.from m.to at }
     ensures { RolledAt g (between (quarters_in hours prices.now) m.from m.to) cells.old cells.new at }
 {
@@ -40,7 +47,7 @@ fn one_class(
     cells: &mut [i64],
     f: Figures,
     prices: &[i64],
-    hours: Hours,
+    hours: Option<Allowed>,
     m: Month,
     at: Places,
     above: Budgets,
@@ -62,7 +69,7 @@ pub fn before_month(
     cells: &mut [i64],
     f: Figures,
     prices: &[i64],
-    hours: Hours,
+    hours: Option<Allowed>,
     m: Month,
     at: Places,
 )

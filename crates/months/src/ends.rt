@@ -18,8 +18,7 @@ ghost use Rattle.months.specs.Ending.{TakeAsked, Taken, WaysAsked, WaysTaken, En
 
 use crate::chains::{Month, Places};
 use crate::{boxes, chains};
-use commitment::BestProfit;
-use commitment::windows::Hours;
+use commitment::windows::Allowed;
 use geometry::INFEASIBLE;
 use intervals::rows;
 use optimality::{Budgets, Cell, Figures};
@@ -161,13 +160,12 @@ fn raise_all(cells: &mut [i64], f: Figures, at: Places, w: Way)
 }
 
 // The same where there is such a way.
-fn take(cells: &mut [i64], f: Figures, at: Places, from: Cell, to: usize, earned: BestProfit)
+fn take(cells: &mut [i64], f: Figures, at: Places, from: Cell, to: usize, earned: Option<i64>)
     requires { TakeAsked f cells.old at from to earned }
     ensures { Taken f at from to earned cells.old cells.new }
 {
-    match earned {
-        BestProfit::Nothing => {}
-        BestProfit::Profit(gain) => raise_all(cells, f, at, Way { from, to, gain }),
+    if let Some(gain) = earned {
+        raise_all(cells, f, at, Way { from, to, gain });
     }
 }
 
@@ -211,7 +209,7 @@ fn one_end(
     cells: &mut [i64],
     f: Figures,
     prices: &[i64],
-    hours: Hours,
+    hours: Option<Allowed>,
     m: Month,
     at: Places,
     t: usize,
@@ -229,7 +227,14 @@ fn one_end(
 }
 
 // All states.
-fn all_ends(cells: &mut [i64], f: Figures, prices: &[i64], hours: Hours, m: Month, at: Places)
+fn all_ends(
+    cells: &mut [i64],
+    f: Figures,
+    prices: &[i64],
+    hours: Option<Allowed>,
+    m: Month,
+    at: Places,
+)
     requires { MonthAsked f cells.old prices.now hours m at }
     ensures { EndsTaken f (between (quarters_in hours prices.now) m.from m.to) m at 0 (states f) cells.old cells.new }
 {
@@ -246,7 +251,7 @@ pub fn before_month_by_ends(
     cells: &mut [i64],
     f: Figures,
     prices: &[i64],
-    hours: Hours,
+    hours: Option<Allowed>,
     m: Month,
     at: Places,
 )
@@ -276,7 +281,7 @@ pub fn before_month_cheaper(
     cells: &mut [i64],
     f: Figures,
     prices: &[i64],
-    hours: Hours,
+    hours: Option<Allowed>,
     m: Month,
     at: Places,
 )

@@ -11,13 +11,13 @@ ghost use Rattle.months.specs.Planning.{frame_of, MonthPlanAsked, MonthPlanned, 
 
 use crate::annual::Year;
 use crate::{annual, boxes};
-use commitment::windows::Hours;
+use commitment::windows::Allowed;
 use halving::ahead;
 use halving::ahead::{Leg, Reached};
 use marks::Frame;
 use optimality::{Budgets, Cell, Figures};
 
-fn frame_of(figures: Figures, hours: Hours) -> Frame
+fn frame_of(figures: Figures, hours: Option<Allowed>) -> Frame
     requires { Sound figures }
     ensures { result ≡ frame_of figures hours }
 {

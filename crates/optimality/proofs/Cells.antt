@@ -1,6 +1,7 @@
 -- The cells' machine has the same best plan as the case, by simulation: a cell counts time in state to mot or mdt, starts and on-intervals
 -- no further than the intervals left, and output in blocks. It is shown of the quarters of one month, with the month's figures watched: what the cell has
 -- left is capped by them, and what lies above the cap is not touched within the month. A case without months is one whose watch has no figures.
+use Rattle.std.specs.Prelude.{None}
 use mathlib.Core.Path.{◌≡◌, refl, sym, ap, ap₂, ◌∙◌, subst}
 use mathlib.Core.Bool.{Bool, true, false, cond, ◌&&◌, ◌||◌, false≢true, and-false}
 use mathlib.Core.List.{List, map, Memᴰ}
@@ -11,9 +12,8 @@ use borrow.Author.Tests.{leb-true, leb-false, lt-ltb, le-ltb, eq-eqb, ne_eqb}
 use lib.Dec.{leb, ltb, eqb, leb-zero}
 use lib.IntN.{ℤ, pos, ◌-ℤ◌, +ℤ_idr}
 use lib.ListN.{length}
-use Rattle.commitment.specs.declared.BestProfit.{BestProfit}
-use Rattle.commitment.specs.declared.Limit.{Limit}
-use Rattle.commitment.specs.declared.Limit.TheVariants.{None, At}
+use Rattle.commitment.specs.Types.{BestProfit}
+use Rattle.commitment.specs.Types.{Limit}
 use Rattle.commitment.specs.declared.UnitRecord.{UnitRecord}
 use Rattle.commitment.specs.Profit.{earned, start_cost}
 use Rattle.commitment.specs.Best.{outputs}

@@ -1,5 +1,6 @@
 -- The case as a machine of steps with exact counters: a list of outputs that keeps the case is a run of it, and earns what the run earns.
 -- So the best of all schedules is found step by step.
+use Rattle.std.specs.Prelude.{None, Some}
 use mathlib.Core.Path.{◌≡◌, refl, sym, ap, ap₂, ◌∙◌}
 use mathlib.Core.Bool.{Bool, true, false, cond, ◌&&◌, and-false}
 use mathlib.Core.List.{List, [], ◌∷◌, ◌++◌, map}
@@ -12,8 +13,7 @@ use lib.Dec.{leb, leb-zero}
 use lib.IntN.{ℤ, pos, ◌+ℤ◌, ◌-ℤ◌}
 use lib.ListN.{length}
 use Rattle.integers.proofs.Linear.{zarith, zsum, zdiff, up_pos, dn-pos}
-use Rattle.commitment.specs.declared.Limit.{Limit}
-use Rattle.commitment.specs.declared.Limit.TheVariants.{None, At}
+use Rattle.commitment.specs.Types.{Limit}
 use Rattle.commitment.specs.declared.UnitRecord.{UnitRecord}
 use Rattle.commitment.specs.Limits.{within}
 use Rattle.commitment.specs.Keeping.{was_on, starts_in, runs_last, spells_last, on_intervals, output_sum}
@@ -29,29 +29,29 @@ use Rattle.optimality.proofs.Quarters.{quarters-length}
 
 abbrev pub affords : Limit → ℕ → Bool
 affords None n = true
-affords (At left) n = leb n left
+affords (Some left) n = leb n left
 
 abbrev pub spend : Limit → ℕ → Limit
 spend None n = None
-spend (At left) n = At (left - n)
+spend (Some left) n = Some (left - n)
 
 -- in counts, of which a unit of the limitation is worth so many
 abbrev pub scaled : ℕ → Limit → Limit
 scaled unit None = None
-scaled unit (At limit) = At (unit * limit)
+scaled unit (Some limit) = Some (unit * limit)
 
 pub within-counted : (unit n : ℕ) (l : Limit) → within unit n l ≡ affords (scaled unit l) n
 within-counted unit n None = refl
-within-counted unit n (At limit) = refl
+within-counted unit n (Some limit) = refl
 
 pub affords-none : (l : Limit) → affords l 0 ≡ true
 affords-none None = refl
-affords-none (At left) = leb-zero left
+affords-none (Some left) = leb-zero left
 
 -- some, and then some more
 pub affords-sum : (l : Limit) (j n : ℕ) → affords l (j + n) ≡ (affords l j && affords (spend l j) n)
 affords-sum None j n = refl
-affords-sum (At left) j n = test (leb j left) refl (leb n (left - j)) refl
+affords-sum (Some left) j n = test (leb j left) refl (leb n (left - j)) refl
   where
     test : (s : Bool) → leb j left ≡ s → (t : Bool) → leb n (left - j) ≡ t → leb (j + n) left ≡ (leb j left && leb n (left - j))
     test true e true f = simp (e, f, le-leb (j + n) left (omega (arith, leb-true j left e, leb-true n (left - j) f)))

@@ -1,5 +1,6 @@
 -- The intervals of a machine cut in two: best profits of the later ones are the ends of the earlier ones, and the best plan of all is the best plan under
 -- these ends, followed by the best plan from the state that it leads to. The first of the best plans is the first in both.
+use Rattle.std.specs.Prelude.{None, Some}
 use mathlib.Core.Path.{◌≡◌, refl, sym, ap, ◌∙◌, fun_ext}
 use mathlib.Core.Bool.{Bool, true, false, cond}
 use mathlib.Core.List.{List, [], ◌∷◌, ◌++◌, map}
@@ -8,8 +9,7 @@ use native.Mathlib.Omega.{arith}
 use lib.IntN.{ℤ, pos, ◌+ℤ◌, +ℤ_idl}
 use lib.Signed.{lt_z}
 use Rattle.integers.proofs.Linear.{zarith, zsum}
-use Rattle.commitment.specs.declared.BestProfit.{BestProfit}
-use Rattle.commitment.specs.declared.BestProfit.TheVariants.{Nothing, Profit}
+use Rattle.commitment.specs.Types.{BestProfit}
 use Rattle.commitment.specs.Best.{Plan, nothing, plan, better, first_best, profit_of}
 use Rattle.optimality.specs.Machine.{Step, stop, go, ended, after, along, earning, then, walk, best_from, most, value_along, value_from}
 use Rattle.optimality.proofs.Values.{no-earning, value-from}
@@ -105,11 +105,11 @@ module _ (State Input : Type 0) (step : State → Input → ℕ → Step State) 
       where
         by : (q : Plan) → best_from State Input step ends outputs js x ≡ q → (v : BestProfit) → profit_of (best_from State Input step ends outputs js x) ≡ v
             → Onward [] x (ended v) q
-        by nothing e Nothing w = tt
-        by nothing e (Profit p) w = absurd (no-earning (rw e at w))
-        by (plan s p) e Nothing w = absurd (no-earning (sym (rw e at w)))
-        by (plan s p) e (Profit g) w =
-            let total : Profit p ≡ Profit g = rw e at w in
+        by nothing e None w = tt
+        by nothing e (Some p) w = absurd (no-earning (rw e at w))
+        by (plan s p) e None w = absurd (no-earning (sym (rw e at w)))
+        by (plan s p) e (Some g) w =
+            let total : Some p ≡ Some g = rw e at w in
             let same : p ≡ g = cc in
             (same, record { at = x; earned = pos 0; leads = refl; rest = s; profit = p; goes_on = e; sum = +ℤ_idl p ∙ same; whole = refl })
     onward (i ∷ is) x = onward-best i is x (best_from State Input step worth outputs is) (best_from State Input step ends outputs (is ++ js))

@@ -1,5 +1,6 @@
 -- What is left of a limitation beside what a cell has left: a budget counted in units, and no further than the intervals left can use.
 -- One law for the starts, the on-intervals (one an interval) and the output blocks (pmax an interval).
+use Rattle.std.specs.Prelude.{None, Some}
 use mathlib.Core.Path.{◌≡◌, refl, sym, ap, ◌∙◌, subst}
 use mathlib.Core.Bool.{Bool, true, false}
 use Prim.Native.Nat.{ℕ, suc, ◌+◌, ◌-◌, ◌*◌, ◌/◌, ◌<◌, ◌≤◌, min}
@@ -7,14 +8,13 @@ use native.Mathlib.Nat.{le-div_iff_mul-le, div-lt_iff_lt-mul, add-mul-div_right,
 use native.Mathlib.Omega.{arith}
 use borrow.Author.Tests.{le-leb, leb-true, leb-false}
 use lib.Dec.{leb, leb-zero}
-use Rattle.commitment.specs.declared.Limit.{Limit}
-use Rattle.commitment.specs.declared.Limit.TheVariants.{None, At}
+use Rattle.commitment.specs.Types.{Limit}
 use Rattle.optimality.proofs.Commit.{affords, spend}
 
 -- a unit is worth so many counts of the limitation, an interval uses at most so many units, n intervals are to go
 abbrev pub Left : ℕ → ℕ → ℕ → ℕ → Limit → ℕ → Type 0
 Left unit most taken n None x = taken ≡ 0
-Left unit most taken n (At left) x = (taken ≡ 1) × (min (left / unit) (n * most) ≡ min x (n * most))
+Left unit most taken n (Some left) x = (taken ≡ 1) × (min (left / unit) (n * most) ≡ min x (n * most))
 
 module _ (unit most : ℕ) (counts : 1 ≤ unit) where
   -- whole units of what is left after k units
@@ -35,7 +35,7 @@ module _ (unit most : ℕ) (counts : 1 ≤ unit) where
   -- with an interval to go, k units are afforded alike
   pub left-affords : (taken n k : ℕ) (l : Limit) (x : ℕ) → k ≤ most → Left unit most taken (suc n) l x → leb (k * taken) x ≡ affords l (k * unit)
   left-affords taken n k None x h r = rw (r, mul-zero k) (leb-zero x)
-  left-affords taken n k (At left) x h r = rw (r.0, mul-one k) (test (leb k x) refl (leb (k * unit) left) refl)
+  left-affords taken n k (Some left) x h r = rw (r.0, mul-one k) (test (leb k x) refl (leb (k * unit) left) refl)
     where
       far : k ≤ suc n * most
       far = omega (arith, h)
@@ -51,7 +51,7 @@ module _ (unit most : ℕ) (counts : 1 ≤ unit) where
   pub left-spend : (taken n k : ℕ) (l : Limit) (x : ℕ) → k ≤ most → Left unit most taken (suc n) l x
       → Left unit most taken n (spend l (k * unit)) (x - k * taken)
   left-spend taken n k None x h r = r
-  left-spend taken n k (At left) x h r =
+  left-spend taken n k (Some left) x h r =
       let all = n * most + most in
       let same : min (left / unit) all ≡ min x all = subst (λ (z : ℕ). min (left / unit) z ≡ min x z) (omega arith) r.1 in
       (r.0, rw (r.0, mul-one k, units-less left k) (less (left / unit) x k (n * most) most h same))
@@ -62,7 +62,7 @@ module _ (unit most : ℕ) (counts : 1 ≤ unit) where
   -- an interval that uses none
   pub left_less : (taken n : ℕ) (l : Limit) (x : ℕ) → Left unit most taken (suc n) l x → Left unit most taken n l x
   left_less taken n None x r = r
-  left_less taken n (At left) x r = (r.0, less (left / unit) x (n * most) most (subst (λ (z : ℕ). min (left / unit) z ≡ min x z) (omega arith) r.1))
+  left_less taken n (Some left) x r = (r.0, less (left / unit) x (n * most) most (subst (λ (z : ℕ). min (left / unit) z ≡ min x z) (omega arith) r.1))
     where
       less : (a b m p : ℕ) → min a (m + p) ≡ min b (m + p) → min a m ≡ min b m
       less a b m p e = omega arith

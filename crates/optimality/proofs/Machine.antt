@@ -3,7 +3,7 @@ use mathlib.Core.Path.{◌≡◌, refl, sym, ap, ap₂, ◌∙◌, fun_ext}
 use mathlib.Core.List.{List, [], ◌∷◌, ◌++◌, map}
 use Prim.Native.Nat.{ℕ}
 use lib.ListN.{length}
-use Rattle.commitment.specs.declared.BestProfit.{BestProfit}
+use Rattle.commitment.specs.Types.{BestProfit}
 use Rattle.commitment.specs.Best.{Plan, nothing, better, first_best, prefixed, lists}
 use Rattle.optimality.specs.Machine.{Step, stop, go, then, walk, ended, after, along, run, best_from}
 use Rattle.optimality.proofs.Better.{better-nothing, best-append, best-after}

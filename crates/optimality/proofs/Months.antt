@@ -1,5 +1,6 @@
 -- A year is its months: the best profit of a case with months inside it is worked out month by month over the cells of the table, each month with what is
 -- left of the year capped by its own figures.
+use Rattle.std.specs.Prelude.{None, Some}
 use mathlib.Core.Path.{◌≡◌, refl, sym, ap, ap₂, ◌∙◌, subst}
 use mathlib.Core.Bool.{Bool}
 use mathlib.Core.List.{List, [], ◌∷◌, ◌++◌, map}
@@ -8,11 +9,9 @@ use native.Mathlib.Nat.{div-one, one-mul}
 use native.Mathlib.Omega.{arith}
 use lib.IntN.{ℤ, ◌+ℤ◌}
 use lib.ListN.{length, take, drop, length-append, take-append-drop}
-use Rattle.commitment.specs.declared.BestProfit.{BestProfit}
-use Rattle.commitment.specs.declared.BestProfit.TheVariants.{Nothing, Profit}
+use Rattle.commitment.specs.Types.{BestProfit}
 use Rattle.commitment.specs.declared.Generator.{Generator}
-use Rattle.commitment.specs.declared.Limit.{Limit}
-use Rattle.commitment.specs.declared.Limit.TheVariants.{None, At}
+use Rattle.commitment.specs.Types.{Limit}
 use Rattle.commitment.specs.declared.Limitation.{Limitation}
 use Rattle.commitment.specs.declared.Limitation.TheVariants.{Starts, Hours, Mwh}
 use Rattle.commitment.specs.declared.Limits.{Limits}
@@ -46,8 +45,8 @@ use Rattle.optimality.proofs.Cells.{is_on, Alike, Plain, month-walk, month-plan}
 -- a month figure stands beside a year figure
 abbrev pub Beside : Limit → Limit → Type 0
 Beside a None = Unit {0}
-Beside None (At figure) = ⊥
-Beside (At all) (At figure) = Unit {0}
+Beside None (Some figure) = ⊥
+Beside (Some all) (Some figure) = Unit {0}
 
 abbrev pub AllBeside : Limits → Limits → Type 0
 AllBeside year month = (which : Limitation) → Beside (limit_for year which) (limit_for month which)
@@ -55,18 +54,18 @@ AllBeside year month = (which : Limitation) → Beside (limit_for year which) (l
 module _ (unit most taken n : ℕ) where
   -- as much as the month's figure comes to is taken from the year's
   enters : (a : Limit) (m : Limit) (y cap : ℕ) → Left unit most taken n a y → (m ≡ None → cap ≡ y)
-      → ((left : ℕ) → m ≡ At left → (cap ≡ min y (left / unit)) × (taken ≡ 1)) → Capped unit most taken n a m (y - cap) cap
+      → ((left : ℕ) → m ≡ Some left → (cap ≡ min y (left / unit)) × (taken ≡ 1)) → Capped unit most taken n a m (y - cap) cap
   enters a None y cap r none at = rw (none refl) (r, omega arith)
-  enters None (At left) y cap r none at = absurd (omega (arith, r, (at left refl).1))
-  enters (At all) (At left) y cap r none at =
+  enters None (Some left) y cap r none at = absurd (omega (arith, r, (at left refl).1))
+  enters (Some all) (Some left) y cap r none at =
       let e = (at left refl).0 in
       let whole : cap + (y - cap) ≡ y = omega arith in
       (rw whole r, rw whole (omega arith))
 
   leaves : (a m : Limit) (d x : ℕ) → Capped unit most taken n a m d x → Capped unit most taken n a None 0 (x + d)
   leaves a None d x r = let same : x + d ≡ x = omega (arith, r.1) in (rw same r.0, refl)
-  leaves None (At left) d x r = absurd r
-  leaves (At all) (At left) d x r = (r.0, refl)
+  leaves None (Some left) d x r = absurd r
+  leaves (Some all) (Some left) d x r = (r.0, refl)
 
 -- the figure of a month, scaled to counts of which `unit` make one of the cell's
 module _ (u : UnitRecord) (unit most n : ℕ) (which : Limitation) (scale : ℕ)
@@ -75,17 +74,17 @@ module _ (u : UnitRecord) (unit most n : ℕ) (which : Limitation) (scale : ℕ)
       → Capped unit most (taken_of year) n a (scaled scale month) (y - capped u.generator which month y) (capped u.generator which month y)
   begins year None a y h r = enters unit most (taken_of year) n a None y y r (λ e. refl) (λ left e. absurd (not_at left e))
     where
-      not_at : (left : ℕ) → ◌≡◌ {A = Limit} None (At left) → ⊥
+      not_at : (left : ℕ) → ◌≡◌ {A = Limit} None (Some left) → ⊥
       not_at left e = let z : ◌≡◌ {A = ℕ} 0 1 = cc in omega arith
-  begins None (At figure) a y h r = absurd h
-  begins (At all) (At figure) a y h r =
-      enters unit most 1 n a (At (scale * figure)) y (min y (in_counts u.generator which figure)) r (λ e. absurd (not_none e))
+  begins None (Some figure) a y h r = absurd h
+  begins (Some all) (Some figure) a y h r =
+      enters unit most 1 n a (Some (scale * figure)) y (min y (in_counts u.generator which figure)) r (λ e. absurd (not_none e))
       (λ left e. (rw (counts figure) (ap (λ (z : ℕ). min y (z / unit)) (at-is e)), refl))
     where
-      not_none : ◌≡◌ {A = Limit} (At (scale * figure)) None → ⊥
+      not_none : ◌≡◌ {A = Limit} (Some (scale * figure)) None → ⊥
       not_none e = let z : ◌≡◌ {A = ℕ} 0 1 = cc in omega arith
 
-      at-is : {left : ℕ} → ◌≡◌ {A = Limit} (At (scale * figure)) (At left) → scale * figure ≡ left
+      at-is : {left : ℕ} → ◌≡◌ {A = Limit} (Some (scale * figure)) (Some left) → scale * figure ≡ left
       at-is e = cc
 
 -- ---- a month's beginning and its end
@@ -313,9 +312,9 @@ plan-is : (f : Figures) (ends : Cell → BestProfit) (quarters : List Quarter) (
 unfolding plan_at
 plan-is f ends quarters c s p e = e
 
-ended-worth : (v : BestProfit) (s : List ℕ) (p : ℤ) → ended v ≡ plan s p → v ≡ Profit p
-ended-worth Nothing s p e = absurd (not-plan e)
-ended-worth (Profit q) s p e = cc
+ended-worth : (v : BestProfit) (s : List ℕ) (p : ℤ) → ended v ≡ plan s p → v ≡ Some p
+ended-worth None s p e = absurd (not-plan e)
+ended-worth (Some q) s p e = cc
 
 module _ (g : Generator) (f : Figures) where
   pub plan-earns : (ms : List Month) (qs : List Quarter) (c : Cell) → profit_of (year_plan g f ms qs c) ≡ year_value g f ms qs c
@@ -337,12 +336,12 @@ module _ (g : Generator) (f : Figures) where
       leads : List ℕ → Step Cell
       leads = walk Cell Quarter (in_quarter (cell_step f)) front (box_in g m.limits c)
 
-      joined : (a : List ℕ) (earned profit : ℤ) (x : Cell) (q : Plan) → rest x ≡ q → profit_of q ≡ Profit profit → leads a ≡ go earned x
-          → profit_of (follow leads rest (plan a (earned +ℤ profit))) ≡ Profit (earned +ℤ profit)
+      joined : (a : List ℕ) (earned profit : ℤ) (x : Cell) (q : Plan) → rest x ≡ q → profit_of q ≡ Some profit → leads a ≡ go earned x
+          → profit_of (follow leads rest (plan a (earned +ℤ profit))) ≡ Some (earned +ℤ profit)
       joined a earned profit x nothing e none l = absurd (no-earning none)
-      joined a earned profit x (plan s p) e same l = rw (l, e) (ap Profit (ap (λ (z : ℤ). earned +ℤ z) (earns same)))
+      joined a earned profit x (plan s p) e same l = rw (l, e) (ap Some (ap (λ (z : ℤ). earned +ℤ z) (earns same)))
         where
-          earns : Profit p ≡ Profit profit → p ≡ profit
+          earns : Some p ≡ Some profit → p ≡ profit
           earns h = cc
 
       by : (p : Plan) → month_plan g f m ms qs c ≡ p → ((z : Cell) → profit_of (year_plan g f ms (drop m.long qs) z) ≡ year_value g f ms (drop m.long qs) z)
@@ -353,4 +352,4 @@ module _ (g : Generator) (f : Figures) where
           ap (λ (z : ℤ). profit_of (follow leads rest (plan a z))) (sym j.sum)
           ∙ joined a j.earned j.profit j.at (rest j.at) refl
           (earns (raised (above_box g m.limits c) j.at) ∙ ended-worth (value j.at) j.rest j.profit j.goes_on) j.leads
-          ∙ ap Profit j.sum
+          ∙ ap Some j.sum

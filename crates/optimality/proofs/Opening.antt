@@ -1,5 +1,6 @@
 -- The opening cell: the case's best plan is the plan from it, and smaller limitations are another cell of the same table, because no step
 -- reads the budgets' tops. What makes one table serve the plan and all six runs of valuing.
+use Rattle.std.specs.Prelude.{None, Some}
 use mathlib.Core.Path.{◌≡◌, refl, ap, ap₂, ◌∙◌}
 use mathlib.Core.Bool.{Bool, true, false, cond, ◌&&◌}
 use mathlib.Core.List.{List}
@@ -9,8 +10,7 @@ use native.Mathlib.Omega.{arith}
 use borrow.Author.Tests.{leb-true, le-leb}
 use lib.IntN.{ℤ}
 use lib.ListN.{length}
-use Rattle.commitment.specs.declared.Limit.{Limit}
-use Rattle.commitment.specs.declared.Limit.TheVariants.{None, At}
+use Rattle.commitment.specs.Types.{Limit}
 use Rattle.commitment.specs.declared.Limits.{Limits}
 use Rattle.commitment.specs.declared.Limitation.{Limitation}
 use Rattle.commitment.specs.declared.Limitation.TheVariants.{Starts, Hours, Mwh}
@@ -60,25 +60,25 @@ opening-alike u ok most n = (
   where
     starts-left : (l : Limit) → Left 1 1 (taken_of l) n (scaled 1 l) (counted u.generator n Starts l)
     starts-left None = refl
-    starts-left (At k) = (refl, rw (div-one (1 * k), mul-one n, one-mul k) (omega arith))
+    starts-left (Some k) = (refl, rw (div-one (1 * k), mul-one n, one-mul k) (omega arith))
 
     hours-left : (l : Limit) → Left 1 1 (taken_of l) n (scaled 4 l) (counted u.generator n Hours l)
     hours-left None = refl
-    hours-left (At k) = (refl, rw (div-one (4 * k), mul-one n) (omega arith))
+    hours-left (Some k) = (refl, rw (div-one (4 * k), mul-one n) (omega arith))
 
     mwh-left : (l : Limit) → Left u.generator.block u.generator.pmax (taken_of l) n (scaled 4 l) (counted u.generator n Mwh l)
     mwh-left None = refl
-    mwh-left (At k) = (refl, omega arith)
+    mwh-left (Some k) = (refl, omega arith)
 
 -- ---- smaller limitations
 
 pub at-most-itself : (l : Limit) → AtMost l l
 at-most-itself None = tt
-at-most-itself (At m) = omega arith
+at-most-itself (Some m) = omega arith
 
-pub at-most-less : (k m : ℕ) (l : Limit) → k ≤ m → AtMost (At m) l → AtMost (At k) l
+pub at-most-less : (k m : ℕ) (l : Limit) → k ≤ m → AtMost (Some m) l → AtMost (Some k) l
 at-most-less k m None h i = absurd i
-at-most-less k m (At n) h i = omega arith
+at-most-less k m (Some n) h i = omega arith
 
 -- one limitation smaller, the other two whole
 pub under-with : (limits : Limits) (which : Limitation) (k l : Limit) → AtMost k l → Under (with_limit limits which k) (with_limit limits which l)
@@ -105,9 +105,9 @@ under-itself limits which = at-most-itself (limit_for limits which)
 
 kept_less : (most : ℕ) (k l : Limit) → AtMost k l → limit_kept most l ≡ true → limit_kept most k ≡ true
 kept_less most None None h e = e
-kept_less most None (At m) h e = absurd h
-kept_less most (At k) None h e = absurd h
-kept_less most (At k) (At m) h e = le-leb k most (omega (arith, leb-true m most e))
+kept_less most None (Some m) h e = absurd h
+kept_less most (Some k) None h e = absurd h
+kept_less most (Some k) (Some m) h e = le-leb k most (omega (arith, leb-true m most e))
 
 -- a case in order stays in order
 pub order-under : (u : UnitRecord) (n : ℕ) (limits : Limits) → Under limits u.limits → InOrder u n → InOrder (limited u limits) n
@@ -131,15 +131,15 @@ order-under u n limits h o =
 
 taken-same : (k l : Limit) → AtMost k l → taken_of k ≡ taken_of l
 taken-same None None h = refl
-taken-same None (At m) h = absurd h
-taken-same (At k) None h = absurd h
-taken-same (At k) (At m) h = refl
+taken-same None (Some m) h = absurd h
+taken-same (Some k) None h = absurd h
+taken-same (Some k) (Some m) h = refl
 
 -- ---- what a limitation comes to
 
 counted-most : (g : Generator) (n : ℕ) (which : Limitation) (l : Limit) → counted g n which l ≤ most_counts g which n
 counted-most g n which None = omega arith
-counted-most g n which (At k) = omega arith
+counted-most g n which (Some k) = omega arith
 
 counts-rise : (g : Generator) (which : Limitation) (k m : ℕ) → 1 ≤ g.block → k ≤ m → in_counts g which k ≤ in_counts g which m
 counts-rise g Starts k m b h = h
@@ -148,9 +148,9 @@ counts-rise g Mwh k m b h = (le-div_iff_mul-le b).1 (omega (arith, div-mul-le_se
 
 counted-rise : (g : Generator) (n : ℕ) (which : Limitation) (k l : Limit) → 1 ≤ g.block → AtMost k l → counted g n which k ≤ counted g n which l
 counted-rise g n which None None b h = omega arith
-counted-rise g n which None (At m) b h = absurd h
-counted-rise g n which (At k) None b h = absurd h
-counted-rise g n which (At k) (At m) b h = omega (arith, counts-rise g which k m b h)
+counted-rise g n which None (Some m) b h = absurd h
+counted-rise g n which (Some k) None b h = absurd h
+counted-rise g n which (Some k) (Some m) b h = omega (arith, counts-rise g which k m b h)
 
 module _ (u : UnitRecord) (ok : Ranged u) (n : ℕ) where
   -- the budgets are those of so many intervals
@@ -184,7 +184,7 @@ module _ (u : UnitRecord) (ok : Ranged u) (n : ℕ) where
     where
       taken : (l : Limit) → taken_of l ≤ 1
       taken None = omega arith
-      taken (At k) = omega arith
+      taken (Some k) = omega arith
 
   -- the table has the opening cell of a run with limitations at most the unit's
   pub opening-in-table : (limits : Limits) → Under limits u.limits → InTable (figures_of u n) (opening_cell (limited u limits) n)

@@ -1,5 +1,6 @@
 -- For any machine of steps whose outputs are tried ascending: no run earns more than the best, none that earns as much is earlier,
 -- and the best is itself a run.
+use Rattle.std.specs.Prelude.{None, Some}
 use mathlib.Core.Path.{◌≡◌, refl, sym, ap, ◌∙◌, subst}
 use mathlib.Core.Bool.{true, false}
 use mathlib.Core.List.{List, [], ◌∷◌, map, Memᴰ}
@@ -12,8 +13,7 @@ use lib.ListN.{length}
 use lib.Signed.{◌≤ℤ◌, ◌<ℤ◌, lt_z}
 use Rattle.integers.proofs.Linear.{zarith, zsum}
 use Rattle.integers.proofs.Order.{lt_z-dec}
-use Rattle.commitment.specs.declared.BestProfit.{BestProfit}
-use Rattle.commitment.specs.declared.BestProfit.TheVariants.{Nothing, Profit}
+use Rattle.commitment.specs.Types.{BestProfit}
 use Rattle.commitment.specs.Order.{earlier}
 use Rattle.commitment.specs.Best.{Plan, nothing, plan, better, first_best}
 use Rattle.optimality.specs.Machine.{Step, stop, go, ended, after, along, run, best_from}
@@ -155,8 +155,8 @@ module _ {State : Type 0} where
 
 -- no interval, no output
 ended-empty : (v : BestProfit) (s : List ℕ) (p : ℤ) → ended v ≡ plan s p → [] ≡ s
-ended-empty Nothing s p e = absurd (not-plan e)
-ended-empty (Profit q) s p e = cc
+ended-empty None s p e = absurd (not-plan e)
+ended-empty (Some q) s p e = cc
 
 module _ (State Input : Type 0) (step : State → Input → ℕ → Step State) (ends : State → BestProfit) where
   -- a run has an output for each interval

@@ -1,5 +1,6 @@
 -- Budgets that are not touched change nothing: the plans from a cell to an end with nothing left are those from a cell with more of everything to an end
 -- with just that more left.
+use Rattle.std.specs.Prelude.{None}
 use mathlib.Core.Path.{◌≡◌, refl, sym, ap, ap₂, ◌∙◌}
 use mathlib.Core.Bool.{Bool, true, false, cond, ◌&&◌, ◌||◌, true≢false}
 use mathlib.Core.List.{List, [], ◌∷◌, map}
@@ -10,8 +11,7 @@ use borrow.Author.Tests.{leb-true, leb-false, le-leb}
 use lib.Dec.{leb, ltb, eqb}
 use lib.IntN.{ℤ, pos, ◌-ℤ◌}
 use Rattle.lists.proofs.Conjunctions.{both}
-use Rattle.commitment.specs.declared.BestProfit.{BestProfit}
-use Rattle.commitment.specs.declared.BestProfit.TheVariants.{Nothing}
+use Rattle.commitment.specs.Types.{BestProfit}
 use Rattle.commitment.specs.Best.{Plan, nothing, better, first_best}
 use Rattle.optimality.specs.declared.Figures.{Figures}
 use Rattle.optimality.specs.declared.Cell.{Cell}
@@ -152,7 +152,7 @@ best_none [] a h = refl
 best_none (m ∷ ms) a h = ap₂ better (h m) (best_none ms a h)
 
 module _ (f : Figures) (at : Cell) (outputs : List ℕ) (ends there : Cell → BestProfit) (same : (d : Cell) → ends d ≡ there (lifted at d))
-    (none : (z : Cell) → Below at z → there z ≡ Nothing) where
+    (none : (z : Cell) → Below at z → there z ≡ None) where
   pub below_none : (is : List Quarter) (z : Cell) → Below at z → best_from Cell Quarter (in_quarter (cell_step f)) there outputs is z ≡ nothing
   below_none [] z b = ap ended (none z b)
   below_none (q ∷ is) z b =

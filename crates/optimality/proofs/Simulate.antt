@@ -5,7 +5,7 @@ use mathlib.Core.List.{List, [], ◌∷◌, map, Memᴰ}
 use Prim.Native.Nat.{ℕ, suc}
 use lib.IntN.{ℤ, ◌+ℤ◌}
 use lib.ListN.{length}
-use Rattle.commitment.specs.declared.BestProfit.{BestProfit}
+use Rattle.commitment.specs.Types.{BestProfit}
 use Rattle.commitment.specs.Best.{Plan, first_best}
 use Rattle.optimality.specs.Machine.{Step, stop, go, ended, allow, earning, then, walk, after, along, best_from}
 use Rattle.optimality.proofs.Rival.{AllIn}

@@ -1,5 +1,6 @@
 -- A best plan cut in two, of any machine whose outputs are tried ascending: its later part is the best plan from the state where its earlier part leads,
 -- and its earlier part is the best of the plans that end in that state.
+use Rattle.std.specs.Prelude.{None, Some}
 use mathlib.Core.Path.{◌≡◌, refl, sym, ap, ap₂, ◌∙◌, subst}
 use mathlib.Core.Bool.{Bool, false, ◌&&◌, ◌||◌}
 use mathlib.Core.List.{List, [], ◌∷◌, ◌++◌, append-nil}
@@ -12,8 +13,7 @@ use lib.IntN.{ℤ, pos, ◌+ℤ◌, +ℤ_idl, +ℤ_idr}
 use lib.ListN.{length}
 use lib.Signed.{◌≤ℤ◌, ◌<ℤ◌}
 use Rattle.integers.proofs.Linear.{zarith, zsum}
-use Rattle.commitment.specs.declared.BestProfit.{BestProfit}
-use Rattle.commitment.specs.declared.BestProfit.TheVariants.{Nothing, Profit}
+use Rattle.commitment.specs.Types.{BestProfit}
 use Rattle.commitment.specs.Order.{earlier}
 use Rattle.commitment.specs.Best.{Plan, nothing, plan}
 use Rattle.optimality.specs.Machine.{Step, stop, go, earning, then, walk, after, along, run, best_from}
@@ -230,10 +230,10 @@ module _ (State Input : Type 0) (step : State → Input → ℕ → Step State) 
         })
 
     -- what comes before it is the best of the plans that end there, and earn nothing more by ending
-    module _ (only : State → BestProfit) (there : only halves.at ≡ Profit (pos 0))
-        (alone : (y : State) (q : ℤ) → only y ≡ Profit q → (y ≡ halves.at) × (q ≡ pos 0)) where
+    module _ (only : State → BestProfit) (there : only halves.at ≡ Some (pos 0))
+        (alone : (y : State) (q : ℤ) → only y ≡ Some q → (y ≡ halves.at) × (q ≡ pos 0)) where
       -- a walk to where a plan may end
-      ending : (is : List Input) (x : State) (a : List ℕ) (g : ℤ) (y : State) → walk State Input step is x a ≡ go g y → only y ≡ Profit (pos 0)
+      ending : (is : List Input) (x : State) (a : List ℕ) (g : ℤ) (y : State) → walk State Input step is x a ≡ go g y → only y ≡ Some (pos 0)
           → run State Input step only is x a ≡ plan a g
       ending is x a g y w e =
           let r = run_on only is [] x a [] g y w in
@@ -250,8 +250,8 @@ module _ (State Input : Type 0) (step : State → Input → ℕ → Step State) 
           by : (b : List ℕ) (v : BestProfit) → c.back ≡ b → only c.at ≡ v → run State Input step only [] c.at c.back ≡ plan c.back c.rest
               → AloneEnd r q c
           by (m ∷ b) v i e k = absurd (not-plan (rw i at k))
-          by [] Nothing i e k = absurd (not-plan (rw (i, e) at k))
-          by [] (Profit z) i e k =
+          by [] None i e k = absurd (not-plan (rw (i, e) at k))
+          by [] (Some z) i e k =
               let t = alone c.at z e in
               let n : plan [] z ≡ plan [] c.rest = rw (i, e) at k in
               let zero : c.rest ≡ pos 0 = sym (plan-parts n).1 ∙ t.1 in

@@ -1,4 +1,5 @@
 -- The outputs tried from 0 upwards, to the first that reaches the best remaining profit, are the plan's, each with the tries that it takes.
+use Rattle.std.specs.Prelude.{Some}
 use mathlib.Core.Path.{◌≡◌, refl, sym, ap, ap₂, ◌∙◌, fun_ext}
 use mathlib.Core.Bool.{Bool, true, false, cond}
 use mathlib.Core.List.{List, [], ◌∷◌, ◌++◌, map, append_assoc}
@@ -9,7 +10,6 @@ use lib.IntN.{ℤ}
 use lib.ListN.{length, length-append}
 use lib.Signed.{◌≤ℤ◌, ◌<ℤ◌, lt_z, ≤ℤ_refl}
 use Rattle.integers.proofs.Order.{lt_z-dec, le-lt_z}
-use Rattle.commitment.specs.declared.BestProfit.TheVariants.{Profit}
 use Rattle.commitment.specs.declared.Generator.{Generator}
 use Rattle.commitment.specs.declared.UnitRecord.{UnitRecord}
 use Rattle.commitment.specs.Keeping.{keeps_case}
@@ -53,16 +53,16 @@ record FirstOf (f : ℕ → Plan) (before : ℕ) (ms : List ℕ) (p : ℤ) : Typ
   at : ℕ
   later : List ℕ
   split : ms ≡ passed ++ (at ∷ later)
-  tried : first_that (λ m. reaching (Profit p) (profit_of (f m))) before ms ≡ (at, suc (before + length passed))
+  tried : first_that (λ m. reaching (Some p) (profit_of (f m))) before ms ≡ (at, suc (before + length passed))
   is : first_best (map f ms) ≡ f at
 
-this-one : (f : ℕ → Plan) (before m : ℕ) (ms : List ℕ) (p : ℤ) → reaching (Profit p) (profit_of (f m)) ≡ true → first_best (map f (m ∷ ms)) ≡ f m
+this-one : (f : ℕ → Plan) (before m : ℕ) (ms : List ℕ) (p : ℤ) → reaching (Some p) (profit_of (f m)) ≡ true → first_best (map f (m ∷ ms)) ≡ f m
     → FirstOf f before (m ∷ ms) p
 this-one f before m ms p reaches is =
     let n : before + 0 ≡ before = omega arith in
     record { passed = []; at = m; later = ms; split = refl; tried = simp reaches (ap (λ (n : ℕ). (m, suc n)) (sym n)); is = is }
 
-one_later : (f : ℕ → Plan) (before m : ℕ) (ms : List ℕ) (p : ℤ) → reaching (Profit p) (profit_of (f m)) ≡ false
+one_later : (f : ℕ → Plan) (before m : ℕ) (ms : List ℕ) (p : ℤ) → reaching (Some p) (profit_of (f m)) ≡ false
     → first_best (map f (m ∷ ms)) ≡ first_best (map f ms) → FirstOf f (suc before) ms p → FirstOf f before (m ∷ ms) p
 one_later f before m ms p short is r =
     let n : suc before + length r.passed ≡ before + suc (length r.passed) = omega arith in
@@ -144,7 +144,7 @@ module _ (u : UnitRecord) (prices : List ℤ) (block : 1 ≤ u.generator.block) 
       let b = begins (begun ++ (r.at ∷ [])) n (begun ++ (m ∷ rest)) p there in
       let same : r.at ≡ m = same_next begun r.at m b.0 rest (sym (append_assoc begun (r.at ∷ []) b.0) ∙ b.1) in
       let left : length prices - length begun ≡ suc n = omega arith in
-      let whole : best_after u prices begun ≡ Profit p = ap (λ (k : ℕ). profit_of (plan_after begun k)) left ∙ ap profit_of is in
+      let whole : best_after u prices begun ≡ Some p = ap (λ (k : ℕ). profit_of (plan_after begun k)) left ∙ ap profit_of is in
       let after : (j : ℕ) → best_after u prices (begun ++ (j ∷ [])) ≡ profit_of (f j) =
       λ j.
       let less : length prices - length (begun ++ (j ∷ [])) ≡ n = omega (arith, length-append begun (j ∷ [])) in

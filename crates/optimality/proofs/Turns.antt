@@ -1,4 +1,5 @@
 -- One interval of the cells' machine, in blocks: a cell's value by the values of the cells after it, and the plan's output read off them.
+use Rattle.std.specs.Prelude.{None, Some}
 use mathlib.Core.Path.{◌≡◌, refl, sym, ap, ap₂, ◌∙◌}
 use mathlib.Core.Bool.{Bool, true, false, cond, ◌&&◌}
 use mathlib.Core.List.Memᴰ
@@ -15,8 +16,7 @@ use Rattle.commitment.specs.Best.{ladder, profit_of}
 use Rattle.lists.proofs.Conjunctions.{both}
 use Rattle.optimality.specs.declared.Figures.{Figures}
 use Rattle.optimality.specs.declared.Cell.{Cell}
-use Rattle.commitment.specs.declared.BestProfit.{BestProfit}
-use Rattle.commitment.specs.declared.BestProfit.TheVariants.{Nothing, Profit}
+use Rattle.commitment.specs.Types.{BestProfit}
 use Rattle.optimality.specs.Machine.{Step, Quarter, in_quarter, go, allow, after, along, more, most, value_along}
 use Rattle.optimality.specs.Cells.{taking, Sound, InTable, states, after_off, after_on, start_takes, start_pays, gain, may_run}
 use Rattle.optimality.specs.Cells.{off_cell, on_cell, off_step, on_step, cell_step, rungs, choices, plan_at, value_at, off_value, on_value, on_best}
@@ -35,9 +35,9 @@ pub value-end : (f : Figures) (ends : Cell → BestProfit) (c : Cell) → value_
 unfolding value_at
 value-end f ends c = refl
 
-pub more-none : (v : BestProfit) → more v Nothing ≡ v
-more-none Nothing = refl
-more-none (Profit p) = refl
+pub more-none : (v : BestProfit) → more v None ≡ v
+more-none None = refl
+more-none (Some p) = refl
 
 -- ---- outputs in blocks
 
@@ -69,7 +69,7 @@ pub record OnTurn (f : Figures) (ends : Cell → BestProfit) (q : Quarter) (quar
       ≡ after (k * f.block) (gain f q.price k -ℤ pos (start_pays f c.state)) (plan_at f ends quarters (on_cell f c k))
 
 -- a step with a value is allowed
-leads-on : (t : Bool) (g : ℤ) (y : Cell) (rest : Cell → BestProfit) (p : ℤ) → value_along (allow t (go g y)) rest ≡ Profit p → t ≡ true
+leads-on : (t : Bool) (g : ℤ) (y : Cell) (rest : Cell → BestProfit) (p : ℤ) → value_along (allow t (go g y)) rest ≡ Some p → t ≡ true
 leads-on true g y rest p e = refl
 leads-on false g y rest p e = absurd (no-earning e)
 
@@ -111,7 +111,7 @@ module _ (f : Figures) (ok : Sound f) (ends : Cell → BestProfit) where
 
   -- in a quarter that is shut, off is all there is
   ladder-shut : (rest : Cell → BestProfit) (c : Cell) (q : Quarter) (k count : ℕ) → q.opens ≡ false → 1 ≤ k
-      → most (map (λ m. value_along (in_quarter (cell_step f) c q m) rest) (ladder f.block (k * f.block) count)) ≡ Nothing
+      → most (map (λ m. value_along (in_quarter (cell_step f) c q m) rest) (ladder f.block (k * f.block) count)) ≡ None
   ladder-shut rest c q k zero shut h = refl
   ladder-shut rest c q k (suc count) shut h =
       let e : k * f.block + f.block ≡ suc k * f.block = omega arith in
@@ -127,26 +127,26 @@ module _ (f : Figures) (ok : Sound f) (ends : Cell → BestProfit) where
       ∙ more-none (off_value f (value_at f ends quarters) c)
 
   -- where the unit may not run, no output has a value
-  pub may-not-run : (rest : Cell → BestProfit) (c : Cell) (price : ℤ) (k count : ℕ) → may_run f c ≡ false → on_best f rest c price k count ≡ Nothing
+  pub may-not-run : (rest : Cell → BestProfit) (c : Cell) (price : ℤ) (k count : ℕ) → may_run f c ≡ false → on_best f rest c price k count ≡ None
   may-not-run rest c price k zero e = refl
   may-not-run rest c price k (suc count) e = rw e (may-not-run rest c price (suc k) count e)
 
   -- ---- the plan's output, by the values: off where that reaches the cell's value, else the first number of blocks that does
 
-  module _ (q : Quarter) (quarters : List Quarter) (c : Cell) (best : ℤ) (worth : value_at f ends (q ∷ quarters) c ≡ Profit best) where
+  module _ (q : Quarter) (quarters : List Quarter) (c : Cell) (best : ℤ) (worth : value_at f ends (q ∷ quarters) c ≡ Some best) where
     -- the values of the cells after it
     abbrev rest : Cell → BestProfit
     rest = value_at f ends quarters
 
-    plan-off : off_value f rest c ≡ Profit best → plan_at f ends (q ∷ quarters) c ≡ along 0 (off_step f c) (plan_at f ends quarters)
+    plan-off : off_value f rest c ≡ Some best → plan_at f ends (q ∷ quarters) c ≡ along 0 (off_step f c) (plan_at f ends quarters)
     unfolding plan_at value_at
     plan-off h =
         first-reaching Cell Quarter (in_quarter (cell_step f)) ends (choices f) q quarters c [] 0 (ladder f.block (f.pmin * f.block) (rungs f)) refl
         (λ n i. absurd (Memᴰ.not-nil i))
         (h ∙ sym worth)
 
-    plan-on : q.opens ≡ true → (off_value f rest c ≡ Profit best → ⊥) → (k : ℕ) → f.pmin ≤ k → k ≤ f.pmax
-        → ((j : ℕ) → f.pmin ≤ j → j < k → on_value f rest c q.price j ≡ Profit best → ⊥) → on_value f rest c q.price k ≡ Profit best
+    plan-on : q.opens ≡ true → (off_value f rest c ≡ Some best → ⊥) → (k : ℕ) → f.pmin ≤ k → k ≤ f.pmax
+        → ((j : ℕ) → f.pmin ≤ j → j < k → on_value f rest c q.price j ≡ Some best → ⊥) → on_value f rest c q.price k ≡ Some best
         → plan_at f ends (q ∷ quarters) c ≡ along (k * f.block) (on_step f c q.price k) (plan_at f ends quarters)
     unfolding plan_at value_at
     plan-on opened off k lo hi short h =
@@ -177,44 +177,44 @@ module _ (f : Figures) (ok : Sound f) (ends : Cell → BestProfit) where
             ∙ (rw m at e) ∙ worth))
             (Memᴰ.cases_cons i)
 
-    reached : (v w : BestProfit) → more v w ≡ Profit best → (v ≡ Profit best) ⊎ (w ≡ Profit best)
-    reached Nothing w e = inr e
-    reached (Profit p) Nothing e = inl e
-    reached (Profit p) (Profit q) e = by (lt_z p q) e
+    reached : (v w : BestProfit) → more v w ≡ Some best → (v ≡ Some best) ⊎ (w ≡ Some best)
+    reached None w e = inr e
+    reached (Some p) None e = inl e
+    reached (Some p) (Some q) e = by (lt_z p q) e
       where
-        by : (t : Bool) → cond t (Profit q) (Profit p) ≡ Profit best → (Profit p ≡ Profit best) ⊎ (Profit q ≡ Profit best)
+        by : (t : Bool) → cond t (Some q) (Some p) ≡ Some best → (Some p ≡ Some best) ⊎ (Some q ≡ Some best)
         by true e = inr e
         by false e = inl e
 
-    one_on : (k count : ℕ) → on_best f rest c q.price k count ≡ Profit best
-        → (j : ℕ) × (k ≤ j) × (j < k + count) × (on_value f rest c q.price j ≡ Profit best)
+    one_on : (k count : ℕ) → on_best f rest c q.price k count ≡ Some best
+        → (j : ℕ) × (k ≤ j) × (j < k + count) × (on_value f rest c q.price j ≡ Some best)
     one_on k zero e = absurd (no-earning e)
     one_on k (suc count) e =
-        ⊎_elim (λ (h : on_value f rest c q.price k ≡ Profit best). (k, omega arith, omega arith, h))
-        (λ (h : on_best f rest c q.price (suc k) count ≡ Profit best).
+        ⊎_elim (λ (h : on_value f rest c q.price k ≡ Some best). (k, omega arith, omega arith, h))
+        (λ (h : on_best f rest c q.price (suc k) count ≡ Some best).
         let r = one_on (suc k) count h in
         (r.0, omega (arith, r.1), omega (arith, r.2), r.3))
         (reached (on_value f rest c q.price k) (on_best f rest c q.price (suc k) count) e)
 
     -- some output reaches it
-    pub some_turn : q.opens ≡ true → (off_value f rest c ≡ Profit best → ⊥)
-        → ((k : ℕ) → f.pmin ≤ k → k ≤ f.pmax → on_value f rest c q.price k ≡ Profit best → ⊥) → ⊥
+    pub some_turn : q.opens ≡ true → (off_value f rest c ≡ Some best → ⊥)
+        → ((k : ℕ) → f.pmin ≤ k → k ≤ f.pmax → on_value f rest c q.price k ≡ Some best → ⊥) → ⊥
     some_turn opened off on =
-        ⊎_elim (λ (h : off_value f rest c ≡ Profit best). off h)
-        (λ (h : on_best f rest c q.price f.pmin (rungs f) ≡ Profit best).
+        ⊎_elim (λ (h : off_value f rest c ≡ Some best). off h)
+        (λ (h : on_best f rest c q.price f.pmin (rungs f) ≡ Some best).
         let r = one_on f.pmin (rungs f) h in
         on r.0 r.1 (omega (arith, r.2, ok.pmax)) r.3)
         (reached (off_value f rest c) (on_best f rest c q.price f.pmin (rungs f)) (sym (value-turn q quarters c opened) ∙ worth))
 
     -- off is the plan's output where it reaches the cell's value
-    pub off-turn : off_value f rest c ≡ Profit best → OffTurn f ends q quarters c
+    pub off-turn : off_value f rest c ≡ Some best → OffTurn f ends q quarters c
     off-turn h =
         let t = leads-on (ltb (after_off f c.state) (states f)) (pos 0) (off_cell f c) rest best h in
         record { leads = ltb-true (after_off f c.state) (states f) t; steps = rw t; is = plan-off h ∙ (rw t) }
 
     -- where off does not, the first number of blocks that reaches it is the plan's
-    pub on-turn : q.opens ≡ true → (off_value f rest c ≡ Profit best → ⊥) → (k : ℕ) → f.pmin ≤ k → k ≤ f.pmax
-        → ((j : ℕ) → f.pmin ≤ j → j < k → on_value f rest c q.price j ≡ Profit best → ⊥) → on_value f rest c q.price k ≡ Profit best
+    pub on-turn : q.opens ≡ true → (off_value f rest c ≡ Some best → ⊥) → (k : ℕ) → f.pmin ≤ k → k ≤ f.pmax
+        → ((j : ℕ) → f.pmin ≤ j → j < k → on_value f rest c q.price j ≡ Some best → ⊥) → on_value f rest c q.price k ≡ Some best
         → OnTurn f ends q quarters c k
     on-turn opened off k lo hi short h =
         let room = leb (k * f.takes.blocks) c.left.blocks in

@@ -1,4 +1,5 @@
 -- The best plan's profit alone, and the plan read off by it: the first output that reaches the best remaining profit is the plan's.
+use Rattle.std.specs.Prelude.{None, Some}
 use mathlib.Core.Path.{◌≡◌, refl, sym, ap, ap₂, ◌∙◌}
 use mathlib.Core.Bool.{Bool, true, false, cond}
 use mathlib.Core.List.{List, [], ◌∷◌, ◌++◌, map, Memᴰ}
@@ -10,12 +11,11 @@ use lib.Signed.{◌≤ℤ◌, ◌<ℤ◌, lt_z}
 use Rattle.integers.proofs.Linear.{zarith}
 use Rattle.integers.proofs.Order.{lt_z-dec}
 use Rattle.commitment.specs.Best.{Plan, nothing, plan, better, first_best, profit_of}
-use Rattle.commitment.specs.declared.BestProfit.{BestProfit}
-use Rattle.commitment.specs.declared.BestProfit.TheVariants.{Nothing, Profit}
+use Rattle.commitment.specs.Types.{BestProfit}
 use Rattle.optimality.proofs.Better.{better-assoc}
 use Rattle.optimality.specs.Machine.{Step, stop, go, ended, after, along, best_from, more, most, plus, value_along, value_from}
 
-pub no-earning : {p : ℤ} → Nothing ≡ Profit p → ⊥
+pub no-earning : {p : ℤ} → None ≡ Some p → ⊥
 no-earning e = let z : ◌≡◌ {A = ℕ} 0 1 = cc in omega arith
 
 -- ---- the value of a plan that is made of others
@@ -25,7 +25,7 @@ value-better nothing b = refl
 value-better (plan s p) nothing = refl
 value-better (plan s p) (plan t q) = by (lt_z p q)
   where
-    by : (t' : Bool) → profit_of (cond t' (plan t q) (plan s p)) ≡ cond t' (Profit q) (Profit p)
+    by : (t' : Bool) → profit_of (cond t' (plan t q) (plan s p)) ≡ cond t' (Some q) (Some p)
     by true = refl
     by false = refl
 
@@ -34,8 +34,8 @@ value_after m g nothing = refl
 value_after m g (plan s p) = refl
 
 value-ended : (v : BestProfit) → profit_of (ended v) ≡ v
-value-ended Nothing = refl
-value-ended (Profit p) = refl
+value-ended None = refl
+value-ended (Some p) = refl
 
 -- so the larger of two profits is as associative as the better of two plans
 pub more-assoc : (u v w : BestProfit) → more (more u v) w ≡ more u (more v w)
@@ -66,7 +66,7 @@ reaches a bs e = first a (first_best bs) e
     first (plan s p) nothing e = refl
     first (plan s p) (plan t q) e =
         ⊎_elim
-        (λ (w : (lt_z p q ≡ true) × (p <ℤ q)). let v : Profit p ≡ Profit q = rw w.0 at e in let i : p ≡ q = cc in absurd (omega zarith))
+        (λ (w : (lt_z p q ≡ true) × (p <ℤ q)). let v : Some p ≡ Some q = rw w.0 at e in let i : p ≡ q = cc in absurd (omega zarith))
         (λ (w : (lt_z p q ≡ false) × (q ≤ℤ p)). rw w.0)
         (lt_z-dec p q)
 

@@ -1,4 +1,5 @@
 -- Valuing: under larger limitations every rival stays one, so the best profit does not fall; hence what each outcome says.
+use Rattle.std.specs.Prelude.{None, Some}
 use mathlib.Core.Path.{◌≡◌, refl, sym, ap, ap₂, ◌∙◌, subst}
 use mathlib.Core.Bool.{true, ◌&&◌}
 use mathlib.Core.List.{List}
@@ -11,10 +12,8 @@ use lib.IntN.{ℤ}
 use lib.Signed.{◌≤ℤ◌}
 use Rattle.integers.proofs.Linear.{zarith, zdiff, up_pos, dn-pos}
 use Rattle.lists.proofs.Conjunctions.{both}
-use Rattle.commitment.specs.declared.BestProfit.{BestProfit}
-use Rattle.commitment.specs.declared.Limit.{Limit}
-use Rattle.commitment.specs.declared.Limit.TheVariants as limit
-use Rattle.commitment.specs.declared.Limit.TheVariants.{At}
+use Rattle.commitment.specs.Types.{BestProfit}
+use Rattle.commitment.specs.Types.{Limit}
 use Rattle.commitment.specs.declared.Limits.{Limits}
 use Rattle.commitment.specs.declared.Limitation.{Limitation}
 use Rattle.commitment.specs.declared.Limitation.TheVariants.{Starts, Hours, Mwh}
@@ -37,10 +36,10 @@ use Rattle.optimality.proofs.Opening.{under-with}
 -- ---- larger limitations
 
 within_more : (unit count : ℕ) (k l : Limit) → AtMost k l → within unit count k ≡ true → within unit count l ≡ true
-within_more unit count limit.None limit.None h e = refl
-within_more unit count limit.None (At m) h e = absurd h
-within_more unit count (At k) limit.None h e = absurd h
-within_more unit count (At k) (At m) h e =
+within_more unit count None None h e = refl
+within_more unit count None (Some m) h e = absurd h
+within_more unit count (Some k) None h e = absurd h
+within_more unit count (Some k) (Some m) h e =
     le-leb count (unit * m) (omega (arith, leb-true count (unit * k) e, mul-le-mul_left unit h))
 
 module _ (u : UnitRecord) (prices : List ℤ) (a b : Limits) (under : Under a b) where
@@ -95,10 +94,10 @@ module _ (u : UnitRecord) (ok : Ranged u) (prices : List ℤ) (which : Limitatio
 
   rises : (k : ℕ) (t : List ℕ) (q : ℤ) → best (run k) prices ≡ plan t q → (s : List ℕ) × (p : ℤ) × (best (run (suc k)) prices ≡ plan s p) × (q ≤ℤ p)
   rises k =
-      more-earns u prices (with_limit u.limits which (At k)) (with_limit u.limits which (At (suc k)))
-      (under-with u.limits which (At k) (At (suc k)) (omega arith)) ok
+      more-earns u prices (with_limit u.limits which (Some k)) (with_limit u.limits which (Some (suc k)))
+      (under-with u.limits which (Some k) (Some (suc k)) (omega arith)) ok
 
-  gap-says : (n k : ℕ) → limit_for u.limits which ≡ At n → lowered n ≡ suc k
+  gap-says : (n k : ℕ) → limit_for u.limits which ≡ Some n → lowered n ≡ suc k
       → (first lower : Plan) → best (run (suc k)) prices ≡ first → best (run k) prices ≡ lower
       → Says u prices which (gap_between (profit_of first) (profit_of lower))
   gap-says n k l h first nothing e i =
@@ -125,15 +124,15 @@ module _ (u : UnitRecord) (ok : Ranged u) (prices : List ℤ) (which : Limitatio
       }
 
   outcome-says : (l : Limit) → limit_for u.limits which ≡ l → Says u prices which (gap_under run_profit l)
-  outcome-says limit.None e = e
-  outcome-says (At n) e = by (lowered n) refl
+  outcome-says None e = e
+  outcome-says (Some n) e = by (lowered n) refl
     where
       by : (k : ℕ) → lowered n ≡ k → Says u prices which (gap_at run_profit k)
       by zero h = record { figure = n; limited = e; nine-tenths = h }
       by (suc k) h = gap-says n k e h (best (run (suc k)) prices) (best (run k) prices) refl refl
 
   -- and nothing else says so
-  outcome-at : (n k : ℕ) (o : Outcome) → limit_for u.limits which ≡ At n → lowered n ≡ k → gap_at run_profit k ≡ o → o ≡ outcome_of u prices which
+  outcome-at : (n k : ℕ) (o : Outcome) → limit_for u.limits which ≡ Some n → lowered n ≡ k → gap_at run_profit k ≡ o → o ≡ outcome_of u prices which
   outcome-at n k o e h i = rw (e, h) (sym i)
 
   says-outcome : (o : Outcome) → Says u prices which o → o ≡ outcome_of u prices which

@@ -4,7 +4,7 @@ use mathlib.Core.Bool.{Bool, true, false, cond, ◌&&◌}
 use mathlib.Core.List.{List, [], ◌∷◌}
 use Prim.Native.Nat.{ℕ}
 use lib.IntN.{ℤ}
-use Rattle.commitment.specs.declared.BestProfit.{BestProfit}
+use Rattle.commitment.specs.Types.{BestProfit}
 use Rattle.commitment.specs.Best.{Plan, nothing}
 use Rattle.optimality.specs.Machine.{Step, stop, go, allow, after, along, run}
 use Rattle.optimality.specs.Watched.{Watch, beside, watched, passes, unwatched}

@@ -1,11 +1,9 @@
 -- The machine whose state is a cell of the table: time in state counted to mot or mdt, and what is left of the starts, of the on-intervals
 -- and of the output blocks. The budgets' tops are not read by any step, so a smaller limitation is the same machine at another cell.
-use Rattle.std.specs.Prelude.{Bool, cond, ◌&&◌, List, ◌∷◌, ℕ, zero, suc, ◌+◌, ◌-◌, ◌*◌, ◌/◌, ◌≤◌, ◌<◌, min, leb, ltb, eqb, ℤ, pos, ◌-ℤ◌}
-use Rattle.commitment.specs.declared.Limit.{Limit}
-use Rattle.commitment.specs.declared.Limit.TheVariants.{None, At}
+use Rattle.std.specs.Prelude.{Bool, cond, ◌&&◌, List, ◌∷◌, ℕ, zero, suc, ◌+◌, ◌-◌, ◌*◌, ◌/◌, ◌≤◌, ◌<◌, min, leb, ltb, eqb, ℤ, pos, ◌-ℤ◌, Some, None}
+use Rattle.commitment.specs.Types.{Limit}
 use Rattle.commitment.specs.declared.Limitation.TheVariants.{Starts, Hours, Mwh}
-use Rattle.commitment.specs.declared.BestProfit.{BestProfit}
-use Rattle.commitment.specs.declared.BestProfit.TheVariants.{Nothing}
+use Rattle.commitment.specs.Types.{BestProfit}
 use Rattle.commitment.specs.declared.UnitRecord.{UnitRecord}
 use Rattle.commitment.specs.Bounds.{most_mw, most_blocks, most_time, most_vec, most_mlc, most_suc, most_intervals}
 use Rattle.commitment.specs.Keeping.{was_on, opens_in}
@@ -40,7 +38,7 @@ less a b = budgets (a.starts - b.starts) (a.ons - b.ons) (a.blocks - b.blocks)
 -- what one start, on-interval or block takes of its budget: nothing where it is not limited
 abbrev pub taken_of : Limit → ℕ
 taken_of None = 0
-taken_of (At limit) = 1
+taken_of (Some limit) = 1
 
 -- with the most that a cell can have left of each
 abbrev pub figures_with : UnitRecord → Budgets → Figures
@@ -179,7 +177,7 @@ on_value f rest c price k = value_along (on_step f c price k) rest
 
 -- the best of so many outputs from k blocks on
 abbrev pub on_best : Figures → (Cell → BestProfit) → Cell → ℤ → ℕ → ℕ → BestProfit
-on_best f rest c price k zero = Nothing
+on_best f rest c price k zero = None
 on_best f rest c price k (suc count) = more (on_value f rest c price k) (on_best f rest c price (suc k) count)
 
 -- ---- the cell before interval 1, for n intervals

@@ -1,10 +1,9 @@
 -- A machine of steps: from a state, what an interval brings (an input) and an output lead to a next state and earn something, or are not allowed.
 -- Its best plan by recursion over the intervals, and the best plan's profit alone; `ends` says of each state what a plan that ends there earns in it,
 -- if it may end there.
-use Rattle.std.specs.Prelude.{Bool, true, false, cond, ◌||◌, List, [], ◌∷◌, map, ℕ, suc, eqb, ℤ, pos, ◌+ℤ◌}
+use Rattle.std.specs.Prelude.{Bool, true, false, cond, ◌||◌, List, [], ◌∷◌, map, ℕ, suc, eqb, ℤ, pos, ◌+ℤ◌, Some, None}
 use Rattle.std.specs.Int.Signed.{lt_z}
-use Rattle.commitment.specs.declared.BestProfit.{BestProfit}
-use Rattle.commitment.specs.declared.BestProfit.TheVariants.{Nothing, Profit}
+use Rattle.commitment.specs.Types.{BestProfit}
 use Rattle.commitment.specs.Best.{Plan, nothing, plan, first_best}
 
 -- a step is not allowed, or earns something and leads on
@@ -18,7 +17,7 @@ allow false s = stop
 
 -- a plan may end in any state, which earns nothing more
 abbrev pub anywhere : {State : Type 0} → State → BestProfit
-anywhere x = Profit (pos 0)
+anywhere x = Some (pos 0)
 
 -- ---- what a quarter-hour brings: its price, and whether the unit may run
 
@@ -42,8 +41,8 @@ in_quarter step x q m = allow (eqb m 0 || q.opens) (step x q.price m)
 
 -- the plan of no intervals
 abbrev pub ended : BestProfit → Plan
-ended Nothing = nothing
-ended (Profit p) = plan [] p
+ended None = nothing
+ended (Some p) = plan [] p
 
 -- a plan with one interval in front of it, that has output m and earns g
 abbrev pub after : ℕ → ℤ → Plan → Plan
@@ -88,20 +87,20 @@ module _ (State Input : Type 0) (step : State → Input → ℕ → Step State) 
 -- ---- best profits alone
 
 abbrev pub more : BestProfit → BestProfit → BestProfit
-more Nothing w = w
-more (Profit p) Nothing = Profit p
-more (Profit p) (Profit q) = cond (lt_z p q) (Profit q) (Profit p)
+more None w = w
+more (Some p) None = Some p
+more (Some p) (Some q) = cond (lt_z p q) (Some q) (Some p)
 
 abbrev pub most : List BestProfit → BestProfit
-most [] = Nothing
+most [] = None
 most (v ∷ vs) = more v (most vs)
 
 abbrev pub plus : ℤ → BestProfit → BestProfit
-plus g Nothing = Nothing
-plus g (Profit p) = Profit (g +ℤ p)
+plus g None = None
+plus g (Some p) = Some (g +ℤ p)
 
 abbrev pub value_along : {State : Type 0} → Step State → (State → BestProfit) → BestProfit
-value_along stop rest = Nothing
+value_along stop rest = None
 value_along (go g x) rest = plus g (rest x)
 
 module _ (State Input : Type 0) (step : State → Input → ℕ → Step State) (ends : State → BestProfit) where

@@ -1,6 +1,6 @@
 -- A machine beside a watch, which counts on the way what the machine does not: a step is allowed where both allow it.
 use Rattle.std.specs.Prelude.{Bool, true, ◌&&◌, List, [], ◌∷◌, ℕ}
-use Rattle.commitment.specs.declared.BestProfit.{BestProfit}
+use Rattle.commitment.specs.Types.{BestProfit}
 use Rattle.optimality.specs.Machine.{Step, stop, go, allow}
 
 -- what a watch allows, and where it stands after an output

@@ -1,9 +1,8 @@
 -- The machine of a case with months inside it: that of the case, beside a watch that counts within the month and begins anew with each.
-use Rattle.std.specs.Prelude.{List, [], ◌∷◌, ◌++◌, map, ℕ, ◌+◌, min, ℤ, pos, ◌+ℤ◌, take, drop}
-use Rattle.commitment.specs.declared.BestProfit.{BestProfit}
+use Rattle.std.specs.Prelude.{List, [], ◌∷◌, ◌++◌, map, ℕ, ◌+◌, min, ℤ, pos, ◌+ℤ◌, take, drop, Some, None}
+use Rattle.commitment.specs.Types.{BestProfit}
 use Rattle.commitment.specs.declared.Generator.{Generator}
-use Rattle.commitment.specs.declared.Limit.{Limit}
-use Rattle.commitment.specs.declared.Limit.TheVariants.{None, At}
+use Rattle.commitment.specs.Types.{Limit}
 use Rattle.commitment.specs.declared.Limitation.{Limitation}
 use Rattle.commitment.specs.declared.Limitation.TheVariants.{Starts, Hours, Mwh}
 use Rattle.commitment.specs.declared.Limits.{Limits}
@@ -47,7 +46,7 @@ in_year step x q m = step x q.quarter m
 -- what is left, no more than the month's figure comes to
 abbrev pub capped : Generator → Limitation → Limit → ℕ → ℕ
 capped g which None left = left
-capped g which (At figure) left = min left (in_counts g which figure)
+capped g which (Some figure) left = min left (in_counts g which figure)
 
 abbrev pub capped_by : Generator → Limits → Budgets → Budgets
 capped_by g limits left =

@@ -1,7 +1,7 @@
 -- Two layers of scratch, for one interval: its own at the front, and the one behind it.
 use Rattle.std.specs.Prelude.{◌≡◌, List, [], ℕ, ◌+◌, ◌-◌, ◌≤◌, ◌<◌, ℤ, length, drop}
-use Rattle.commitment.specs.declared.BestProfit.{BestProfit}
-use Rattle.commitment.specs.declared.windows.Hours.{Hours}
+use Rattle.commitment.specs.Types.{BestProfit}
+use Rattle.commitment.specs.Types.{Hours}
 use Rattle.commitment.specs.Bounds.{most_intervals}
 use Rattle.commitment.specs.Ranges.{Priced}
 use Rattle.commitment.specs.Windows.{Clocked}

@@ -13,13 +13,13 @@ ghost use Rattle.intervals.specs.Stretches.{Behind};
 ghost use Rattle.pair.specs.Rolling.{Lent, RollAsked, RolledBy, Earlier};
 
 use commitment::windows;
-use commitment::windows::Hours;
+use commitment::windows::Allowed;
 use intervals::rows;
 use layers::states;
 use optimality::Figures;
 
 // The first layer of a whole case at the front. After its last interval a plan may end in any cell.
-pub fn roll_all(scratch: &mut [i64], w: usize, f: Figures, prices: &[i64], hours: Hours)
+pub fn roll_all(scratch: &mut [i64], w: usize, f: Figures, prices: &[i64], hours: Option<Allowed>)
     requires { (Lent f w prices.now scratch.old hours) × (1 ≤ length prices.now) }
     ensures layer { Layer f anywhere (quarters_in hours prices.now) (in_front f scratch.new) }
     ensures beyond { Beyond (w + w) scratch.old scratch.new }
@@ -34,7 +34,7 @@ pub fn roll(
     w: usize,
     f: Figures,
     prices: &[i64],
-    hours: Hours,
+    hours: Option<Allowed>,
     from: usize,
     to: usize,
 )

@@ -1,4 +1,5 @@
 -- What is found before any work and by it, in turn; and what it says that a case passed: the slices lent are long enough.
+use Rattle.std.specs.Prelude.{Ok}
 use mathlib.Core.Path.{◌≡◌, refl, sym, ap, ◌∙◌}
 use mathlib.Core.Bool.{Bool, true, false, cond}
 use mathlib.Core.List.{List, [], ◌∷◌, ◌++◌}
@@ -9,14 +10,13 @@ use lib.Dec.{leb}
 use lib.IntN.{ℤ, pos}
 use lib.ListN.{length, drop, replicate}
 use Rattle.commitment.specs.declared.Cause.TheVariants.{Length, Scratch}
-use Rattle.commitment.specs.declared.Checked.TheVariants.{Passed}
 use Rattle.commitment.specs.declared.UnitRecord.{UnitRecord}
 use Rattle.commitment.specs.Causes.{◌else◌, first_of}
 use Rattle.commitment.specs.Bounds.{most_intervals}
 use Rattle.commitment.specs.Cells.{layer_cells, cells_needed, cells_long, cells_used}
 use Rattle.commitment.specs.Keeping.{opens_in}
 use Rattle.commitment.specs.Ranges.{prices_kept, permit_kept, date_kept, case_checks, case_checked}
-use Rattle.commitment.specs.declared.windows.Hours.{Hours}
+use Rattle.commitment.specs.Types.{Hours}
 use Rattle.commitment.specs.Windows.{opens, HoursOf}
 use Rattle.commitment.proofs.Causes.{checked_then, in-turn, unless-passed, then-passed}
 use Rattle.commitment.proofs.Passing.{Passing, passing}
@@ -71,13 +71,13 @@ pub record Lent (u : UnitRecord) (prices : List ℤ) (long : Bool) (scratch : �
   pub entries : long ≡ true
   pub cells : cells_needed u (length prices) ≤ scratch
 
-pub lent : (u : UnitRecord) (prices : List ℤ) (long : Bool) (scratch : ℕ) → lent_checked u prices long scratch ≡ Passed → Lent u prices long scratch
+pub lent : (u : UnitRecord) (prices : List ℤ) (long : Bool) (scratch : ℕ) → lent_checked u prices long scratch ≡ Ok tt → Lent u prices long scratch
 lent u prices long scratch e =
     let case = case_checked u (prices_kept prices) (length prices) in
     let slices = first_of (slices_checks u (length prices) long scratch) in
     let a = then-passed case slices (sym (lent-turn u prices long scratch) ∙ e) in
     let b = unless-passed long Length _ a.1 in
-    let c = unless-passed (leb (cells_needed u (length prices)) scratch) Scratch Passed b.1 in
+    let c = unless-passed (leb (cells_needed u (length prices)) scratch) Scratch (Ok tt) b.1 in
     record { case = passing u (prices_kept prices) (length prices) a.0; entries = b.0; cells = leb-true (cells_needed u (length prices)) scratch c.0 }
 
 -- ---- of a case that passed, what its model is made of
@@ -214,6 +214,6 @@ module _ (u : UnitRecord) (prices : List ℤ) (m : Model) (cells : List ℤ) (of
 -- ---- the scratch after the cells used are cleared, of which the work left what lies behind them
 
 pub cleared : (used needed : ℕ) (was left : List ℤ) → used ≡ needed → drop used left ≡ drop used was
-    → replicate used (pos 0) ++ drop used left ≡ scratch_after Passed needed was
+    → replicate used (pos 0) ++ drop used left ≡ scratch_after (Ok tt) needed was
 cleared used needed was left e behind =
     ap (λ (rest : List ℤ). replicate used (pos 0) ++ rest) behind ∙ ap (λ (n : ℕ). replicate n (pos 0) ++ drop n was) e

@@ -1,16 +1,13 @@
 -- Planning (specification 8, 14, 15): the best plan, or why there is none; what becomes of the lent slices.
-use Rattle.std.specs.Prelude.{Bool, true, false, List, [], ◌∷◌, ◌++◌, ℕ, leb, ℤ, pos, length, drop, replicate}
+use Rattle.std.specs.Prelude.{Bool, true, false, List, [], ◌∷◌, ◌++◌, ℕ, leb, ℤ, pos, length, drop, replicate, Ok, Err}
 use Rattle.commitment.specs.declared.Cause.TheVariants.{Length, Scratch, NoSchedule}
-use Rattle.commitment.specs.declared.Checked.{Checked}
-use Rattle.commitment.specs.declared.Checked.TheVariants.{Passed}
-use Rattle.commitment.specs.declared.Checked.TheVariants as checked
+use Rattle.commitment.specs.Types.{Checked}
 use Rattle.commitment.specs.declared.UnitRecord.{UnitRecord}
 use Rattle.commitment.specs.Best.{Plan, nothing, plan, best}
 use Rattle.commitment.specs.Causes.{number_of, Check, ◌else◌, first_of}
 use Rattle.commitment.specs.Cells.{cells_needed, cells_used}
 use Rattle.commitment.specs.Ranges.{prices_kept, case_checks}
-use Rattle.planner.specs.declared.Planned.{Planned}
-use Rattle.planner.specs.declared.Planned.TheVariants.{Plan as Given, Refused}
+use Rattle.planner.specs.Types.{Planned, plan_with}
 
 -- ---- the causes: those of the case, then 7 (schedule slice shorter than the prices), 8 (scratch of fewer than two layers), 9 (no schedule)
 
@@ -45,9 +42,9 @@ plan_checked u prices scratch schedule = first_of (plan_checks u prices scratch 
 -- ---- the answer
 
 abbrev pub planned_by : Checked → Plan → Planned
-planned_by Passed (plan s p) = Given (length s) p
-planned_by Passed nothing = Refused NoSchedule
-planned_by (checked.Refused cause) best = Refused cause
+planned_by (Ok _) (plan s p) = plan_with (length s) p
+planned_by (Ok _) nothing = Err NoSchedule
+planned_by (Err cause) best = Err cause
 
 abbrev pub planned : UnitRecord → List ℤ → ℕ → ℕ → Planned
 planned u prices scratch schedule = planned_by (plan_checked u prices scratch schedule) (best u prices)
@@ -56,14 +53,14 @@ planned u prices scratch schedule = planned_by (plan_checked u prices scratch sc
 
 -- the schedule slice is the plan followed by what was there; on a refusal it is as it was
 abbrev pub schedule_after : Checked → Plan → List ℕ → List ℕ
-schedule_after Passed (plan s p) was = s ++ drop (length s) was
-schedule_after Passed nothing was = was
-schedule_after (checked.Refused cause) best was = was
+schedule_after (Ok _) (plan s p) was = s ++ drop (length s) was
+schedule_after (Ok _) nothing was = was
+schedule_after (Err cause) best was = was
 
 -- where the work was begun the cells used are 0, and the cells beyond are as they were
 abbrev pub scratch_after : Checked → ℕ → List ℤ → List ℤ
-scratch_after Passed used was = replicate used (pos 0) ++ drop used was
-scratch_after (checked.Refused cause) used was = was
+scratch_after (Ok _) used was = replicate used (pos 0) ++ drop used was
+scratch_after (Err cause) used was = was
 
 -- both as a call leaves them, beside a scratch of so many cells, and beside a schedule slice of so many entries
 abbrev pub schedule_left : UnitRecord → List ℤ → ℕ → List ℕ → List ℕ
@@ -75,22 +72,18 @@ scratch_left u prices entries was =
 
 -- ---- the number, the profit and the count of an answer: 0 where there is none; the part that comes back, empty on a refusal
 
-abbrev pub planned_number : Planned → ℕ
-planned_number (Given count p) = 0
-planned_number (Refused cause) = number_of cause
-
 abbrev pub planned_profit : Planned → ℤ
-planned_profit (Given count p) = p
-planned_profit (Refused cause) = pos 0
+planned_profit (Ok made) = made.profit
+planned_profit (Err cause) = pos 0
 
 abbrev pub planned_count : Planned → ℕ
-planned_count (Given count p) = count
-planned_count (Refused cause) = 0
+planned_count (Ok made) = made.count
+planned_count (Err cause) = 0
 
 abbrev pub planned_part : Checked → Plan → List ℕ
-planned_part Passed (plan s p) = s
-planned_part Passed nothing = []
-planned_part (checked.Refused cause) best = []
+planned_part (Ok _) (plan s p) = s
+planned_part (Ok _) nothing = []
+planned_part (Err cause) best = []
 
 -- the part that a call gives back
 abbrev pub part_given : UnitRecord → List ℤ → ℕ → ℕ → List ℕ

@@ -10,38 +10,26 @@ mod models;
 mod reading;
 
 ghost use Rattle.std.specs.Prelude.{◌≡◌, length};
-ghost use Rattle.planner.specs.Planning.{planned, schedule_left, scratch_left, planned_number, planned_profit, part_given};
+ghost use Rattle.commitment.specs.Causes.{answered_number};
+ghost use Rattle.planner.specs.Planning.{planned, schedule_left, scratch_left, planned_profit, part_given};
 ghost use Rattle.planner.specs.Reporting.{reported};
 ghost use Rattle.planner.specs.Valuing.{valued, scratch_valued};
 
-use commitment::{Cause, Checked, Outcomes, UnitRecord};
+use commitment::{Cause, Outcomes, UnitRecord};
 
-// What planning answers.
+// The best plan: the intervals planned, and its profit.
 #[derive(Clone, Copy)]
-pub enum Planned {
-    Plan { count: usize, profit: i64 },
-    Refused(Cause),
+pub struct BestPlan {
+    pub count: usize,
+    pub profit: i64,
 }
 
-// What valuing answers.
-#[derive(Clone, Copy)]
-pub enum Valued {
-    Outcomes(Outcomes),
-    Refused(Cause),
-}
-
+// The plan and the outcomes together.
 #[derive(Clone, Copy)]
 pub struct Report {
     pub count: usize,
     pub profit: i64,
     pub outcomes: Outcomes,
-}
-
-// What a report answers: the plan and the outcomes together.
-#[derive(Clone, Copy)]
-pub enum Reported {
-    Report(Report),
-    Refused(Cause),
 }
 
 // The best plan, in the front of the schedule slice; or 3, 4, 12, 5, 7, 8 or 9.
@@ -50,7 +38,7 @@ pub fn plan_into(
     prices: &[i64],
     scratch: &mut [i64],
     schedule: &mut [u64],
-) -> Planned
+) -> Result<BestPlan, Cause>
     ensures value { result ≡ planned unit prices.now (length scratch.old) (length schedule.old) }
     ensures schedule_after { schedule.new ≡ schedule_left unit prices.now (length scratch.old) schedule.old }
     ensures scratch_after { scratch.new ≡ scratch_left unit prices.now (length schedule.old) scratch.old }
@@ -59,14 +47,12 @@ pub fn plan_into(
 }
 
 // The three outcomes; or 3, 4, 12, 5, 8 or 9.
-pub fn value(unit: UnitRecord, prices: &[i64], scratch: &mut [i64]) -> Valued
+pub fn value(unit: UnitRecord, prices: &[i64], scratch: &mut [i64]) -> Result<Outcomes, Cause>
     ensures value { result ≡ valued unit prices.now (length scratch.old) }
     ensures scratch_after { scratch.new ≡ scratch_valued unit prices.now scratch.old }
 {
-    match checks::check_lent(unit, prices, true, scratch.len()) {
-        Checked::Refused(cause) => Valued::Refused(cause),
-        Checked::Passed => cases::value_case(unit, prices, scratch),
-    }
+    checks::check_lent(unit, prices, true, scratch.len())?;
+    cases::value_case(unit, prices, scratch)
 }
 
 // Plan and outcomes together.
@@ -75,16 +61,14 @@ pub fn report_into(
     prices: &[i64],
     scratch: &mut [i64],
     schedule: &mut [u64],
-) -> Reported
+) -> Result<Report, Cause>
     ensures value { result ≡ reported unit prices.now (length scratch.old) (length schedule.old) }
     ensures schedule_after { schedule.new ≡ schedule_left unit prices.now (length scratch.old) schedule.old }
     ensures scratch_after { scratch.new ≡ scratch_left unit prices.now (length schedule.old) scratch.old }
 {
     let long = prices.len() <= schedule.len();
-    match checks::check_lent(unit, prices, long, scratch.len()) {
-        Checked::Refused(cause) => Reported::Refused(cause),
-        Checked::Passed => cases::report_case(unit, prices, scratch, schedule),
-    }
+    checks::check_lent(unit, prices, long, scratch.len())?;
+    cases::report_case(unit, prices, scratch, schedule)
 }
 
 // The best plan as the filled front part of the caller's own slice, empty on a refusal; the number and the profit go through the references.
@@ -99,13 +83,13 @@ pub fn plan<'a>(
     ensures result_value { result.now ≡ part_given unit prices.now (length scratch.old) (length schedule.old) }
     ensures ref_ptr_value { result.ref_ptr ≡ schedule.entry.ref_ptr }
     ensures number_after { number.new
-        ≡ planned_number (planned unit prices.now (length scratch.old) (length schedule.old)) }
+        ≡ answered_number (planned unit prices.now (length scratch.old) (length schedule.old)) }
     ensures profit_after { profit.new
         ≡ planned_profit (planned unit prices.now (length scratch.old) (length schedule.old)) }
     ensures scratch_after { scratch.new ≡ scratch_left unit prices.now (length schedule.old) scratch.old }
 {
     let answer = plan_into(unit, prices, scratch, &mut *schedule);
-    *number = contents::planned_number(answer);
+    *number = commitment::number_in(&answer);
     *profit = contents::planned_profit(answer);
     let count = contents::planned_count(answer);
     &mut schedule[..count]

@@ -1,14 +1,13 @@
 // What a case is worked out with, and its first layer: in the long table where that was lent, else in two layers.
 
-ghost use Rattle.std.specs.Prelude.{◌≡◌, true, cond, length};
-ghost use Rattle.commitment.specs.declared.Checked.TheVariants.{Passed};
+ghost use Rattle.std.specs.Prelude.{◌≡◌, true, cond, length, Ok};
 ghost use Rattle.commitment.specs.Cells.{cells_needed, cells_long, cells_used};
 ghost use Rattle.commitment.specs.Ranges.{InOrder};
 ghost use Rattle.layers.specs.Filling.{Beyond};
 ghost use Rattle.planner.specs.Planning.{lent_checked};
 ghost use Rattle.planner.specs.Models.{ModelOf, Begun};
 
-use commitment::windows::Hours;
+use commitment::windows::Allowed;
 use commitment::{UnitRecord, windows};
 use optimality::Figures;
 
@@ -17,24 +16,22 @@ use optimality::Figures;
 pub struct Model {
     pub figures: Figures,
     pub width: usize,
-    pub hours: Hours,
+    pub hours: Option<Allowed>,
     pub long: bool,
 }
 
 // Worked out once for a call; every step after it takes the model.
 pub fn model_of(unit: UnitRecord, prices: &[i64], lent: usize) -> Model
-    requires { lent_checked unit prices.now true lent ≡ Passed }
+    requires { lent_checked unit prices.now true lent ≡ Ok tt }
     ensures { ModelOf unit prices.now lent result }
 {
     let n = prices.len();
     let figures = budgets::figures_of(unit, n);
     let width = geometry::layer_cells(figures);
-    let permit = unit.permit;
-    let hours = windows::hours_of(permit);
     Model {
         figures,
         width,
-        hours,
+        hours: windows::hours_of(unit.permit),
         long: budgets::cells_long(unit, n) <= lent,
     }
 }

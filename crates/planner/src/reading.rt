@@ -1,8 +1,6 @@
 // What the first layer tells: profit and outcomes; and the plan that follows from it.
 
-ghost use Rattle.std.specs.Prelude.{◌≡◌, ◌≤◌, length};
-ghost use Rattle.commitment.specs.declared.Checked.TheVariants.{Passed};
-ghost use Rattle.commitment.specs.declared.BestProfit.TheVariants.{Nothing};
+ghost use Rattle.std.specs.Prelude.{◌≡◌, ◌≤◌, length, None, Ok};
 ghost use Rattle.commitment.specs.Best.{best, profit_of};
 ghost use Rattle.commitment.specs.Tries.{plan_tries};
 ghost use Rattle.commitment.specs.Cells.{cells_used};
@@ -14,9 +12,9 @@ ghost use Rattle.valuation.specs.Telling.{ToldBy};
 ghost use Rattle.planner.specs.Models.{Ready};
 ghost use Rattle.planner.specs.Valuing.{valued_by};
 
+use crate::Report;
 use crate::models::Model;
-use crate::{Report, Reported, Valued};
-use commitment::{BestProfit, Cause, UnitRecord};
+use commitment::{Cause, Outcomes, UnitRecord};
 use optimality::Figures;
 
 // Profit and outcomes come first: in two layers the plan is worked out in their place.
@@ -26,7 +24,7 @@ pub fn read_report(
     prices: &[i64],
     scratch: &mut [i64],
     schedule: &mut [u64],
-) -> Reported
+) -> Result<Report, Cause>
     requires { (Ready unit prices.now model scratch.old) × (length prices.now ≤ length schedule.old) }
     ensures value { result ≡ reported_by (schedule_checked unit prices.now) (best unit prices.now) (outcomes_of unit prices.now) }
     ensures schedule_after { schedule.new
@@ -34,19 +32,15 @@ pub fn read_report(
     ensures beyond { Beyond (cells_used unit (length prices.now) (length scratch.old)) scratch.old scratch.new }
 {
     let f = model.figures;
-    match valuation::whole_profit(unit, f, prices, &scratch[..]) {
-        BestProfit::Nothing => Reported::Refused(Cause::NoSchedule),
-        BestProfit::Profit(profit) => {
-            let count = prices.len();
-            let outcomes = valuation::outcomes_in(unit, f, prices, &scratch[..]);
-            read_plan(unit, model, prices, scratch, schedule);
-            Reported::Report(Report {
-                count,
-                profit,
-                outcomes,
-            })
-        }
-    }
+    let best = valuation::whole_profit(unit, f, prices, &scratch[..]);
+    let profit = best.ok_or(Cause::NoSchedule)?;
+    let outcomes = valuation::outcomes_in(unit, f, prices, &scratch[..]);
+    read_plan(unit, model, prices, scratch, schedule);
+    Ok(Report {
+        count: prices.len(),
+        profit,
+        outcomes,
+    })
 }
 
 // The plan of a case that has one, into the schedule's front, and how many outputs were tried for it: read off the long table, or worked out by halves.
@@ -58,9 +52,9 @@ fn read_plan(
     schedule: &mut [u64],
 ) -> usize
     requires ready { (Ready unit prices.now model scratch.old) × (length prices.now ≤ length schedule.old) }
-    requires fact { profit_of (best unit prices.now) ≡ Nothing → ⊥ }
+    requires fact { profit_of (best unit prices.now) ≡ None → ⊥ }
     ensures value { result ≡ plan_tries unit prices.now }
-    ensures schedule_after { schedule.new ≡ schedule_after Passed (best unit prices.now) schedule.old }
+    ensures schedule_after { schedule.new ≡ schedule_after (Ok tt) (best unit prices.now) schedule.old }
     ensures beyond { Beyond (cells_used unit (length prices.now) (length scratch.old)) scratch.old scratch.new }
 {
     let f = model.figures;
@@ -74,12 +68,16 @@ fn read_plan(
 }
 
 // 9 where the case has no schedule; else all runs from this one layer.
-pub fn read_outcomes(unit: UnitRecord, f: Figures, prices: &[i64], cells: &[i64]) -> Valued
+pub fn read_outcomes(
+    unit: UnitRecord,
+    f: Figures,
+    prices: &[i64],
+    cells: &[i64],
+) -> Result<Outcomes, Cause>
     requires { ToldBy f unit prices.now cells.now }
     ensures { result ≡ valued_by (schedule_checked unit prices.now) (outcomes_of unit prices.now) }
 {
-    match valuation::whole_profit(unit, f, prices, cells) {
-        BestProfit::Nothing => Valued::Refused(Cause::NoSchedule),
-        BestProfit::Profit(_) => Valued::Outcomes(valuation::outcomes_in(unit, f, prices, cells)),
-    }
+    let best = valuation::whole_profit(unit, f, prices, cells);
+    best.ok_or(Cause::NoSchedule)?;
+    Ok(valuation::outcomes_in(unit, f, prices, cells))
 }

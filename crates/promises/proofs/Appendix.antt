@@ -1,4 +1,5 @@
 -- Of a unit of 1 MW formula (3) is that of the appendix: the factor of its allowances is 1.
+use Rattle.std.specs.Prelude.{Ok}
 use mathlib.Core.Path.{◌≡◌, ap, subst, ◌∙◌}
 use mathlib.Core.List.{List}
 use Prim.Native.Nat.{ℕ, ◌*◌}
@@ -9,7 +10,6 @@ use Rattle.rounding.specs.Rounding.{HalfEven}
 use Rattle.costs.specs.declared.CostInputs.{CostInputs}
 use Rattle.costs.specs.Figures.{pmin_mw, fuel_price, allowance_cost, allowance_at_minimum, mlc_fraction}
 use Rattle.costs.specs.declared.CostFigures.{CostFigures}
-use Rattle.costs.specs.declared.Costed.TheVariants.{Figures}
 use Rattle.costs.specs.Answers.{costed}
 use Rattle.costs.proofs.Rounding.{rounded-once}
 use Rattle.promises.specs.Appendix.{mlc_printed}
@@ -28,6 +28,6 @@ module _ (k : CostInputs) (one : pmin_mw k ≡ 1) where
       one-mw
 
   pub one-mw-as-printed :
-      (mws heats : List ℕ) (figures : CostFigures) → costed k mws heats ≡ Figures figures → HalfEven (pos figures.mlc) (signed (mlc_printed k))
+      (mws heats : List ℕ) (figures : CostFigures) → costed k mws heats ≡ Ok figures → HalfEven (pos figures.mlc) (signed (mlc_printed k))
   one-mw-as-printed mws heats figures e =
       subst (λ (f : Fraction). HalfEven (pos figures.mlc) (signed f)) fraction-as-printed (rounded-once k mws heats figures e).mlc

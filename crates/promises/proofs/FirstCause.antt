@@ -1,4 +1,5 @@
 -- Along any list of checks: the first that is not kept decides, and it is the first cause of the list of reasons that holds.
+use Rattle.std.specs.Prelude.{Err, Ok}
 use mathlib.Core.Path.{◌≡◌, refl, sym, ap, ◌∙◌}
 use mathlib.Core.Bool.{Bool, true, false, ◌&&◌, not}
 use mathlib.Core.List.{List, [], ◌∷◌, ◌++◌}
@@ -10,8 +11,7 @@ use borrow.Author.Tests.{eqb-false, not-true}
 use lib.Dec.{eqb}
 use Rattle.lists.proofs.Conjunctions.{both}
 use Rattle.commitment.specs.declared.Cause.{Cause}
-use Rattle.commitment.specs.declared.Checked.{Checked}
-use Rattle.commitment.specs.declared.Checked.TheVariants.{Passed, Refused}
+use Rattle.commitment.specs.Types.{Checked}
 use Rattle.commitment.specs.Causes.{number_of, Check, unless, first_of}
 use Rattle.promises.specs.Causes.{Reason, FirstOf, NoneOf}
 
@@ -32,32 +32,32 @@ kept-none judged i holds =
     absurd (omega arith)
 
 module _ (first : Cause) (reason : Reason) (same : first ≡ reason.cause) (rest : Checked) (later : List Reason) where
-  refused-step : {cause : Cause} (t : Bool) → (t ≡ false) ↔ reason.Holds → (t ≡ true → (rest ≡ Refused cause) ↔ FirstOf later cause)
-      → (unless t first rest ≡ Refused cause) ↔ FirstOf (reason ∷ later) cause
+  refused-step : {cause : Cause} (t : Bool) → (t ≡ false) ↔ reason.Holds → (t ≡ true → (rest ≡ Err cause) ↔ FirstOf later cause)
+      → (unless t first rest ≡ Err cause) ↔ FirstOf (reason ∷ later) cause
   refused-step true judged next =
       let none = kept-none judged refl in
       (λ e. inr (none, (next refl).0 e), ⊎_elim (λ this. absurd (none this.1)) (λ further. (next refl).1 further.1))
   refused-step {cause} false judged next =
       let holds = judged.0 refl in (
         λ e. let here : first ≡ cause = cc in inl (sym same ∙ here, holds),
-        ⊎_elim (λ this. ap Refused (same ∙ this.0)) (λ further. absurd (further.0 holds)),
+        ⊎_elim (λ this. ap Err (same ∙ this.0)) (λ further. absurd (further.0 holds)),
       )
 
-  passed-step : (t : Bool) → (t ≡ false) ↔ reason.Holds → (t ≡ true → (rest ≡ Passed) ↔ NoneOf later)
-      → (unless t first rest ≡ Passed) ↔ NoneOf (reason ∷ later)
+  passed-step : (t : Bool) → (t ≡ false) ↔ reason.Holds → (t ≡ true → (rest ≡ Ok tt) ↔ NoneOf later)
+      → (unless t first rest ≡ Ok tt) ↔ NoneOf (reason ∷ later)
   passed-step true judged next = (λ e. (kept-none judged refl, (next refl).0 e), λ none. (next refl).1 none.1)
   passed-step false judged next =
       (λ e. let z : ◌≡◌ {A = ℕ} 0 1 = cc in absurd (omega arith), λ none. absurd (none.0 (judged.0 refl)))
 
 pub refused-first : (checks : List Check) (reasons : List Reason) {cause : Cause} → Judged checks reasons
-    → (first_of checks ≡ Refused cause) ↔ FirstOf reasons cause
+    → (first_of checks ≡ Err cause) ↔ FirstOf reasons cause
 refused-first [] [] judged = (λ e. let z : ◌≡◌ {A = ℕ} 0 1 = cc in absurd (omega arith), λ none. absurd none)
 refused-first [] (reason ∷ reasons) judged = absurd judged
 refused-first (check ∷ checks) [] judged = absurd judged
 refused-first (check ∷ checks) (reason ∷ reasons) judged =
     refused-step check.cause reason judged.0 (first_of checks) reasons check.kept judged.1 (λ i. refused-first checks reasons (judged.2 i))
 
-pub passed_none : (checks : List Check) (reasons : List Reason) → Judged checks reasons → (first_of checks ≡ Passed) ↔ NoneOf reasons
+pub passed_none : (checks : List Check) (reasons : List Reason) → Judged checks reasons → (first_of checks ≡ Ok tt) ↔ NoneOf reasons
 passed_none [] [] judged = (λ e. tt, λ none. refl)
 passed_none [] (reason ∷ reasons) judged = absurd judged
 passed_none (check ∷ checks) [] judged = absurd judged
@@ -68,9 +68,9 @@ passed_none (check ∷ checks) (reason ∷ reasons) judged =
 
 -- a refusal with the cause found, and another answer where they passed
 pub record Answers {A : Type 0} (answer : Checked → A) (refused : Cause → A) : Type 0 where
-  pub is : (cause : Cause) → answer (Refused cause) ≡ refused cause
+  pub is : (cause : Cause) → answer (Err cause) ≡ refused cause
   pub alike : (given cause : Cause) → refused given ≡ refused cause → given ≡ cause
-  pub other : (cause : Cause) → answer Passed ≡ refused cause → ⊥
+  pub other : (cause : Cause) → answer (Ok tt) ≡ refused cause → ⊥
 
 module _ {A : Type 0} {answer : Checked → A} {refused : Cause → A} (answers : Answers answer refused) where
   module _ (checks : List Check) (reasons : List Reason) (judged : Judged checks reasons) where
@@ -78,16 +78,16 @@ module _ {A : Type 0} {answer : Checked → A} {refused : Cause → A} (answers 
     pub answer-refused : {cause : Cause} → (answer (first_of checks) ≡ refused cause) ↔ FirstOf reasons cause
     answer-refused {cause} = Iff.trans (by (first_of checks), λ e. ap answer e ∙ answers.is cause) (refused-first checks reasons judged)
       where
-        by : (k : Checked) → answer k ≡ refused cause → k ≡ Refused cause
-        by Passed e = absurd (answers.other cause e)
-        by (Refused given) e = ap Refused (answers.alike given cause (sym (answers.is given) ∙ e))
+        by : (k : Checked) → answer k ≡ refused cause → k ≡ Err cause
+        by (Ok _) e = absurd (answers.other cause e)
+        by (Err given) e = ap Err (answers.alike given cause (sym (answers.is given) ∙ e))
 
-    pub answer-given : (answer (first_of checks) ≡ answer Passed) ↔ NoneOf reasons
+    pub answer-given : (answer (first_of checks) ≡ answer (Ok tt)) ↔ NoneOf reasons
     answer-given = Iff.trans (by (first_of checks), λ e. ap answer e) (passed_none checks reasons judged)
       where
-        by : (k : Checked) → answer k ≡ answer Passed → k ≡ Passed
-        by Passed e = refl
-        by (Refused given) e = absurd (answers.other given (sym e ∙ answers.is given))
+        by : (k : Checked) → answer k ≡ answer (Ok tt) → k ≡ Ok tt
+        by (Ok _) e = refl
+        by (Err given) e = absurd (answers.other given (sym e ∙ answers.is given))
 
 -- ---- where none of a list holds, none of its later part does
 

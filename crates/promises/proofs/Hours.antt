@@ -1,5 +1,6 @@
 -- Permitted hours (specification 22), clause by clause: the calendar, the clock hours of intervals, their months, the rivals held to the hours, and
 -- the listing's line.
+use Rattle.std.specs.Prelude.{Err, None, Ok, Some}
 use mathlib.Core.Path.{◌≡◌, refl, sym, ap, ◌∙◌}
 use mathlib.Core.Bool.{Bool, true, false, ◌&&◌, false≢true}
 use mathlib.Core.List.{List, [], ◌∷◌, ◌++◌, append_assoc, append-nil}
@@ -18,18 +19,14 @@ use Rattle.calendar.proofs.Tables as tables
 use Rattle.calendar.proofs.Days as days
 use Rattle.calendar.proofs.Months as months
 use Rattle.commitment.specs.declared.Cause.{Cause}
-use Rattle.commitment.specs.declared.Checked.{Checked}
-use Rattle.commitment.specs.declared.Checked.TheVariants.{Passed, Refused}
+use Rattle.commitment.specs.Types.{Checked}
 use Rattle.commitment.specs.declared.Outcomes.{Outcomes}
-use Rattle.commitment.specs.declared.Permit.TheVariants.{AnyHour}
 use Rattle.commitment.specs.declared.UnitRecord.{UnitRecord}
-use Rattle.checking.specs.declared.clock.ClockRead.TheVariants as clock
-use Rattle.commitment.specs.Causes.{number_of}
+use Rattle.commitment.specs.Causes.{number_of, answered_number}
 use Rattle.commitment.specs.Keeping.{opens_in, off_where_shut, keeps_starts, keeps_runs, keeps_spells, keeps_hours, keeps_mwh, keeps_window}
 use Rattle.commitment.specs.Rivals.{Rival}
-use Rattle.checking.specs.Clock.{clock_checked, clock_hour, clock_number, hour_in, hours_by, hours_left}
+use Rattle.checking.specs.Clock.{clock_checked, clock_hour, hour_in, hours_by, hours_left}
 use Rattle.checking.proofs.Clocks as clocks
-use Rattle.listing.specs.declared.HourWord.TheVariants as word
 use Rattle.listing.specs.Listing.{interval_heading, value_heading, interval_lines, profit_line, outcome_lines, hours_line, listing}
 use Rattle.promises.specs.Causes.{FirstOf, NoneOf, clock_causes}
 use Rattle.promises.proofs.Causes as causes
@@ -55,27 +52,27 @@ other-day = days.plain-hours
 -- ---- the clock hour of an interval is that of the hours passed since the date's midnight, four intervals to the hour; refused with the first of its
 -- causes that holds, and hour 0 with it
 
-pub clock-refused : (d : Date) (interval : ℕ) (cause : Cause) → (clock_hour d interval ≡ clock.Refused cause) ↔ FirstOf (clock_causes d interval) cause
+pub clock-refused : (d : Date) (interval : ℕ) (cause : Cause) → (clock_hour d interval ≡ Err cause) ↔ FirstOf (clock_causes d interval) cause
 clock-refused d interval cause = causes.clock-refused d interval
 
-pub clock-answered : (d : Date) (interval : ℕ) → (clock_hour d interval ≡ clock.Hour (clock_after d ((interval - 1) / 4))) ↔ NoneOf (clock_causes d interval)
+pub clock-answered : (d : Date) (interval : ℕ) → (clock_hour d interval ≡ Ok (clock_after d ((interval - 1) / 4))) ↔ NoneOf (clock_causes d interval)
 clock-answered = causes.clock-answered
 
-pub clock-refusal : (cause : Cause) → (clock_number (clock.Refused cause) ≡ number_of cause) × (hour_in (clock.Refused cause) ≡ 0)
+pub clock-refusal : (cause : Cause) → (answered_number {A = ℕ} (Err cause) ≡ number_of cause) × (hour_in (Err cause) ≡ 0)
 clock-refusal cause = (refl, refl)
 
 -- ---- the clock hours in a lent slice: refused as for the last of its intervals, and the slice is as it was; else each entry is the answer for its
 -- interval
 
-pub hours-refused : (d : Date) (was : List ℕ) (cause : Cause) → (clock_checked d (length was) ≡ Refused cause) ↔ FirstOf (clock_causes d (length was)) cause
+pub hours-refused : (d : Date) (was : List ℕ) (cause : Cause) → (clock_checked d (length was) ≡ Err cause) ↔ FirstOf (clock_causes d (length was)) cause
 hours-refused d was cause = causes.hours-refused d (length was)
 
-pub hours-untouched : (d : Date) (was : List ℕ) (cause : Cause) → clock_checked d (length was) ≡ Refused cause → hours_left d was ≡ was
+pub hours-untouched : (d : Date) (was : List ℕ) (cause : Cause) → clock_checked d (length was) ≡ Err cause → hours_left d was ≡ was
 unfolding hours_left
 hours-untouched d was cause e = ap (λ (k : Checked). hours_by k d was) e
 
-pub hours-filled : (d : Date) (was : List ℕ) (i : ℕ) → clock_checked d (length was) ≡ Passed → i < length was
-    → clock_hour d (suc i) ≡ clock.Hour (get_or (hours_left d was) i 0)
+pub hours-filled : (d : Date) (was : List ℕ) (i : ℕ) → clock_checked d (length was) ≡ Ok tt → i < length was
+    → clock_hour d (suc i) ≡ Ok (get_or (hours_left d was) i 0)
 hours-filled = clocks.entry-is
 
 -- ---- months of the calendar: an interval, counted from 0, lies in a month exactly when the month has begun and the next has not
@@ -108,12 +105,12 @@ on-in-a-shut-hour u prices s i shut on rival =
 
 -- a case without a date and word is held to no hours
 
-always-open : (i : ℕ) (s : List ℕ) → off_where_shut (opens_in AnyHour) i s ≡ true
+always-open : (i : ℕ) (s : List ℕ) → off_where_shut (opens_in None) i s ≡ true
 always-open i [] = refl
 always-open i (zero ∷ s) = always-open (suc i) s
 always-open i (suc m ∷ s) = always-open (suc i) s
 
-pub any-hour : (u : UnitRecord) (s : List ℕ) → u.permit ≡ AnyHour → keeps_window u s ≡ true
+pub any-hour : (u : UnitRecord) (s : List ℕ) → u.permit ≡ None → keeps_window u s ≡ true
 any-hour u s e = rw e (always-open 0 s)
 
 -- ---- the listing of a case with a word is that of one without, and the line behind it
@@ -122,7 +119,7 @@ behind : (a b c d e last : List ℕ) → a ++ (b ++ (c ++ (d ++ (e ++ last)))) �
 behind a b c d e last = simp (append_assoc, append-nil)
 
 pub window-last : (schedule : List ℕ) (profit : ℤ) (outcomes : Outcomes) (hours : ℕ)
-    → listing schedule profit outcomes (word.Word hours) ≡ listing schedule profit outcomes word.None ++ hours_line hours
+    → listing schedule profit outcomes (Some hours) ≡ listing schedule profit outcomes None ++ hours_line hours
 unfolding listing
 window-last schedule profit outcomes hours =
     behind interval_heading (interval_lines 1 schedule) value_heading (profit_line profit) (outcome_lines outcomes) (hours_line hours)

@@ -1,4 +1,5 @@
 -- A case that has a schedule has one without a start: the run under way before interval 1, and off behind it. So `never` does not occur for starts.
+use Rattle.std.specs.Prelude.{None, Some}
 use mathlib.Core.Path.{◌≡◌, refl, ap, ap₂, ◌∙◌}
 use mathlib.Core.Bool.{Bool, true, false, ◌&&◌}
 use mathlib.Core.List.{List, [], ◌∷◌}
@@ -11,8 +12,7 @@ use lib.ListN.{length}
 use Rattle.lists.specs.Every.{every}
 use Rattle.lists.proofs.Conjunctions.{both}
 use Rattle.commitment.specs.declared.Generator.{Generator}
-use Rattle.commitment.specs.declared.Limit.{Limit}
-use Rattle.commitment.specs.declared.Limit.TheVariants.{None, At}
+use Rattle.commitment.specs.Types.{Limit}
 use Rattle.commitment.specs.declared.Limitation.TheVariants.{Starts}
 use Rattle.commitment.specs.declared.UnitRecord.{UnitRecord}
 use Rattle.commitment.specs.Keeping.{was_on, starts_in, runs_last, spells_last, on_intervals, output_sum, keeps_starts, keeps_runs, keeps_spells}
@@ -73,7 +73,7 @@ front-output false (suc m ∷ s) = omega (arith, front-output false s)
 
 less-within : (unit a b : ℕ) (limit : Limit) → a ≤ b → within unit b limit ≡ true → within unit a limit ≡ true
 less-within unit a b None h e = refl
-less-within unit a b (At limit) h e = le-leb a (unit * limit) (omega (arith, h, leb-true b (unit * limit) e))
+less-within unit a b (Some limit) h e = le-leb a (unit * limit) (omega (arith, h, leb-true b (unit * limit) e))
 
 -- off wherever the schedule is, so wherever it is shut
 front-shut : (opens : ℕ → Bool) (i : ℕ) (on : Bool) (s : List ℕ) → off_where_shut opens i s ≡ true → off_where_shut opens i (front on s) ≡ true

@@ -1,4 +1,5 @@
 -- What is printed for a text: by its report, how long it is, and what a buffer then holds.
+use Rattle.std.specs.Prelude.{Err, None, Ok, Some}
 use mathlib.Core.Path.{◌≡◌, refl, sym, ap, ◌∙◌}
 use mathlib.Core.Bool.{Bool, true, false, cond}
 use mathlib.Core.List.{List, [], ◌∷◌, ◌++◌}
@@ -14,8 +15,7 @@ use Rattle.lists.specs.Every.{every}
 use Rattle.lists.proofs.Conjunctions.{both}
 use Rattle.commitment.specs.declared.Cause.{Cause}
 use Rattle.commitment.specs.declared.Cause.TheVariants.{Form}
-use Rattle.commitment.specs.declared.Checked.{Checked}
-use Rattle.commitment.specs.declared.Checked.TheVariants.{Passed, Refused}
+use Rattle.commitment.specs.Types.{Checked}
 use Rattle.commitment.specs.declared.Generator.{Generator}
 use Rattle.commitment.specs.declared.Limitation.{Limitation}
 use Rattle.commitment.specs.declared.Limitation.TheVariants.{Starts, Hours, Mwh}
@@ -23,7 +23,7 @@ use Rattle.commitment.specs.declared.Outcomes.{Outcomes}
 use Rattle.commitment.specs.declared.UnitRecord.{UnitRecord}
 use Rattle.commitment.specs.Best.{Plan, nothing, plan, best}
 use Rattle.commitment.specs.Bounds.{most_mw, most_horizon}
-use Rattle.commitment.specs.Causes.{number_of}
+use Rattle.commitment.specs.Causes.{number_of, answered_number}
 use Rattle.commitment.specs.Ranges.{prices_kept}
 use Rattle.commitment.specs.Schedule.{is_output, is_schedule}
 use Rattle.commitment.specs.Valuing.{outcome_of, outcomes_of}
@@ -33,15 +33,13 @@ use Rattle.assessment.proofs.Bounds.{output-most}
 use Rattle.casetext.specs.Form.{most_bytes, form_kept}
 use Rattle.casefile.specs.Reading.{unit_in, prices_in}
 use Rattle.writing.proofs.AsWritten.{text-as-written}
-use Rattle.listing.specs.declared.Fit.{Fit}
-use Rattle.listing.specs.declared.Fit.TheVariants.{Bytes, TooLong}
-use Rattle.listing.specs.declared.HourWord.{HourWord}
-use Rattle.listing.specs.Listing.{interval_line, interval_lines, listing, refusal, fitted, written_by, written_number, buffer_after}
+use Rattle.listing.specs.Types.{Fit}
+use Rattle.listing.specs.Types.{HourWord}
+use Rattle.listing.specs.Listing.{interval_line, interval_lines, listing, refusal, fitted, written_by, buffer_after}
 use Rattle.listing.proofs.Numbers.{number_short, number_digits}
 use Rattle.listing.proofs.Lengths.{line-length, totals-short, window-short, listing-length, refusal-length}
 use Rattle.planner.specs.declared.Report.{Report}
-use Rattle.planner.specs.declared.Reported.{Reported}
-use Rattle.planner.specs.declared.Reported.TheVariants as reports
+use Rattle.planner.specs.Types.{Reported}
 use Rattle.planner.specs.Planning.{planned_part}
 use Rattle.planner.specs.Reporting.{reported_by}
 use Rattle.answers.specs.declared.Answered.{Answered}
@@ -97,18 +95,18 @@ module _ (text : List ℕ) where
 
   -- the case passed, and there is a best plan, which is what is printed
   record Planned : Type 0 where
-    passed : all_found text ≡ Passed
+    passed : all_found text ≡ Ok tt
     schedule : List ℕ
     profit : ℤ
     is : best unit prices ≡ plan schedule profit
 
-  planned-by : (r : Report) → report_on text ≡ reports.Report r → Planned
+  planned-by : (r : Report) → report_on text ≡ Ok r → Planned
   planned-by r e = by (all_found text) (best unit prices) refl refl e
     where
-      by : (k : Checked) (b : Plan) → all_found text ≡ k → best unit prices ≡ b → reported_by k b (outcomes_of unit prices) ≡ reports.Report r → Planned
-      by Passed nothing i is e = let z : ◌≡◌ {A = ℕ} 0 1 = cc in absurd (omega arith)
-      by Passed (plan s p) i is e = record { passed = i; schedule = s; profit = p; is = is }
-      by (Refused cause) b i is e = let z : ◌≡◌ {A = ℕ} 0 1 = cc in absurd (omega arith)
+      by : (k : Checked) (b : Plan) → all_found text ≡ k → best unit prices ≡ b → reported_by k b (outcomes_of unit prices) ≡ Ok r → Planned
+      by (Ok _) nothing i is e = let z : ◌≡◌ {A = ℕ} 0 1 = cc in absurd (omega arith)
+      by (Ok _) (plan s p) i is e = record { passed = i; schedule = s; profit = p; is = is }
+      by (Err cause) b i is e = let z : ◌≡◌ {A = ℕ} 0 1 = cc in absurd (omega arith)
 
   case-of : Planned → Passing unit (prices_kept prices) (length prices)
   case-of w = passing unit (prices_kept prices) (length prices) (all-passed text w.passed).checks
@@ -140,19 +138,19 @@ module _ (text : List ℕ) where
 
   -- ---- a text that is refused
 
-  refused-line : (cause : Cause) → report_on text ≡ reports.Refused cause → printed text ≡ refusal (number_of cause)
+  refused-line : (cause : Cause) → report_on text ≡ Err cause → printed text ≡ refusal (number_of cause)
   unfolding printed
   refused-line cause e =
       ap (λ (r : Reported). report_printed (word_of unit.permit) r (planned_part (all_found text) (best unit prices))) e
 
   -- ---- either way, the program's buffer has room
 
-  by-report : {A : Type 0} → (Planned → A) → ((cause : Cause) → report_on text ≡ reports.Refused cause → A) → A
+  by-report : {A : Type 0} → (Planned → A) → ((cause : Cause) → report_on text ≡ Err cause → A) → A
   by-report {A} given refused = by (report_on text) refl
     where
       by : (r : Reported) → report_on text ≡ r → A
-      by (reports.Report r) e = given (planned-by r e)
-      by (reports.Refused cause) e = refused cause e
+      by (Ok r) e = given (planned-by r e)
+      by (Err cause) e = refused cause e
 
   printed-most : length (printed text) ≤ out_room
   printed-most = by-report long short
@@ -166,7 +164,7 @@ module _ (text : List ℕ) where
           (word_of unit.permit) own.schedule h.checked in
           omega (arith, ap length (lines_of w), most, h.checked)
 
-      short : (cause : Cause) → report_on text ≡ reports.Refused cause → length (printed text) ≤ out_room
+      short : (cause : Cause) → report_on text ≡ Err cause → length (printed text) ≤ out_room
       short cause e =
           omega (arith, ap length (refused-line cause e), refusal-length (number_of cause), number_short (number_of cause))
 
@@ -175,16 +173,16 @@ module _ (text : List ℕ) where
   module _ (room : ℕ) where
     -- by whether the lines fit
     answered-by : {t : Bool} → leb (length (printed text)) room ≡ t
-        → answered text room ≡ answered_by (report_on text) (written_by (cond {A = Fit} t (Bytes (length (printed text))) TooLong))
+        → answered text room ≡ answered_by (report_on text) (written_by (cond {A = Fit} t (Some (length (printed text))) None))
     unfolding answered printed
     answered-by e = rw e refl
 
     bytes-by : (r : Reported) (t : Bool)
-        → (answered_by r (written_by (cond {A = Fit} t (Bytes (length (printed text))) TooLong))).bytes ≡ cond t (length (printed text)) 0
-    bytes-by (reports.Report r) true = refl
-    bytes-by (reports.Report r) false = refl
-    bytes-by (reports.Refused cause) true = refl
-    bytes-by (reports.Refused cause) false = refl
+        → (answered_by r (written_by (cond {A = Fit} t (Some (length (printed text))) None))).bytes ≡ cond t (length (printed text)) 0
+    bytes-by (Ok r) true = refl
+    bytes-by (Ok r) false = refl
+    bytes-by (Err cause) true = refl
+    bytes-by (Err cause) false = refl
 
     bytes-are : {t : Bool} → leb (length (printed text)) room ≡ t → (answered text room).bytes ≡ cond t (length (printed text)) 0
     bytes-are {t} e = ap (λ (a : Answered). a.bytes) (answered-by e) ∙ bytes-by (report_on text) t
@@ -195,18 +193,18 @@ module _ (text : List ℕ) where
         (answered-by refl ∙ ap (λ (r : Reported). answered_by r (written_by (fitted (length (printed text)) room))) ((answering-refused text).1 first))
 
     -- 0 and 7 are given to no refusal
-    no-refusal : {number : ℕ} → apart number (answering_causes text) ≡ true → (cause : Cause) → report_on text ≡ reports.Refused cause
+    no-refusal : {number : ℕ} → apart number (answering_causes text) ≡ true → (cause : Cause) → report_on text ≡ Err cause
         → (answered text room).number ≡ number → ⊥
     no-refusal {number} away cause e is =
         let first = (answering-refused text).0 e in
         not-given number (answering_causes text) away cause first (sym (refused-number cause first) ∙ is)
 
     -- a plan has the number of writing its listing
-    plan-number : (r : Report) → report_on text ≡ reports.Report r → {t : Bool} → leb (length (printed text)) room ≡ t
-        → (answered text room).number ≡ written_number (written_by (cond {A = Fit} t (Bytes (length (printed text))) TooLong))
+    plan-number : (r : Report) → report_on text ≡ Ok r → {t : Bool} → leb (length (printed text)) room ≡ t
+        → (answered text room).number ≡ answered_number (written_by (cond {A = Fit} t (Some (length (printed text))) None))
     plan-number r e {t} fits =
         ap (λ (a : Answered). a.number)
-        (answered-by fits ∙ ap (λ (x : Reported). answered_by x (written_by (cond {A = Fit} t (Bytes (length (printed text))) TooLong))) e)
+        (answered-by fits ∙ ap (λ (x : Reported). answered_by x (written_by (cond {A = Fit} t (Some (length (printed text))) None))) e)
 
     pub written-exactly : ((answered text room).number ≡ 0) ↔ (NoneOf (answering_causes text) × (length (printed text) ≤ room))
     written-exactly = (given, λ so. let none = (answering-answered text).1 so.0 in plan-number none.0 none.1 (le-leb _ room so.1))
@@ -215,12 +213,12 @@ module _ (text : List ℕ) where
         given is = by (report_on text) refl
           where
             by : (r : Reported) → report_on text ≡ r → NoneOf (answering_causes text) × (length (printed text) ≤ room)
-            by (reports.Report r) e = ((answering-answered text).0 (r, e), fits (leb (length (printed text)) room) refl)
+            by (Ok r) e = ((answering-answered text).0 (r, e), fits (leb (length (printed text)) room) refl)
               where
                 fits : (t : Bool) → leb (length (printed text)) room ≡ t → length (printed text) ≤ room
                 fits true i = leb-true (length (printed text)) room i
                 fits false i = absurd (omega (arith, sym (plan-number r e i) ∙ is))
-            by (reports.Refused cause) e = absurd (no-refusal {number = 0} refl cause e is)
+            by (Err cause) e = absurd (no-refusal {number = 0} refl cause e is)
 
     pub seven-exactly : ((answered text room).number ≡ 7) ↔ (NoneOf (answering_causes text) × (room < length (printed text)))
     seven-exactly = (given, λ so. let none = (answering-answered text).1 so.0 in plan-number none.0 none.1 (lt-leb _ room so.1))
@@ -229,12 +227,12 @@ module _ (text : List ℕ) where
         given is = by (report_on text) refl
           where
             by : (r : Reported) → report_on text ≡ r → NoneOf (answering_causes text) × (room < length (printed text))
-            by (reports.Report r) e = ((answering-answered text).0 (r, e), long (leb (length (printed text)) room) refl)
+            by (Ok r) e = ((answering-answered text).0 (r, e), long (leb (length (printed text)) room) refl)
               where
                 long : (t : Bool) → leb (length (printed text)) room ≡ t → room < length (printed text)
                 long true i = absurd (omega (arith, sym (plan-number r e i) ∙ is))
                 long false i = leb-false (length (printed text)) room i
-            by (reports.Refused cause) e = absurd (no-refusal {number = 7} refl cause e is)
+            by (Err cause) e = absurd (no-refusal {number = 7} refl cause e is)
 
   pub fitting-written : (out : List ℕ) → length (printed text) ≤ length out
       → ((answered text (length out)).bytes ≡ length (printed text)) × (buffer_after (printed text) out ≡ printed text ++ drop (length (printed text)) out)
@@ -264,7 +262,7 @@ module _ (text : List ℕ) where
             rw (w.0, w.1) (take-append_seam (printed text) (drop (length (printed text)) out));
       }
     where
-      given : (w : Planned) → (r : Report) × (report_on text ≡ reports.Report r)
+      given : (w : Planned) → (r : Report) × (report_on text ≡ Ok r)
       given w = (record { count = length w.schedule; profit = w.profit; outcomes = outcomes_of unit prices }, rw (w.passed, w.is) refl)
 
 -- ---- a text longer than a text may be, whatever follows it

@@ -1,5 +1,6 @@
 -- The checks of the ranges by what they mean: each passes exactly where every figure of the call is in its range, and likewise the other checks whose
 -- cause has a plainer word.
+use Rattle.std.specs.Prelude.{None, Some}
 use mathlib.Core.Path.{◌≡◌, refl, sym, ◌∙◌}
 use mathlib.Core.Bool.{Bool, true, false, ◌&&◌, false≢true}
 use mathlib.Core.List.{List, [], ◌∷◌, ◌++◌, map}
@@ -18,10 +19,8 @@ use Rattle.integers.proofs.Order.{le-le_z}
 use Rattle.calendar.specs.declared.Date.{Date}
 use Rattle.calendar.specs.Dates.{days_in, exists}
 use Rattle.costs.specs.declared.CostInputs.{CostInputs}
-use Rattle.commitment.specs.declared.Limit.{Limit}
-use Rattle.commitment.specs.declared.Limit.TheVariants.{None, At}
-use Rattle.commitment.specs.declared.Permit.{Permit}
-use Rattle.commitment.specs.declared.Permit.TheVariants.{AnyHour, Within}
+use Rattle.commitment.specs.Types.{Limit}
+use Rattle.commitment.specs.Types.{Permit}
 use Rattle.commitment.specs.declared.UnitRecord.{UnitRecord}
 use Rattle.commitment.specs.Limits.{limit_kept}
 use Rattle.commitment.specs.Ranges.{ranges_kept, permit_kept, date_ranged, date_kept, price_kept, prices_kept, horizon_kept}
@@ -90,11 +89,11 @@ in-append (figure ∷ figures) b = simp (in-append figures b, and_assoc)
 
 limit-in : (most : ℕ) (l : Limit) → limit_kept most l ≡ in_range (limit_figure most l)
 limit-in most None = refl
-limit-in most (At limit) = simp (from_zero, and-true)
+limit-in most (Some limit) = simp (from_zero, and-true)
 
 permit_in : (p : Permit) → permit_kept p ≡ in_range (permit_figures p)
-permit_in AnyHour = refl
-permit_in (Within w) = simp (from_zero, and-true, and_assoc)
+permit_in None = refl
+permit_in (Some w) = simp (from_zero, and-true, and_assoc)
 
 -- a range of a whole list
 each_in : (most : ℕ) (xs : List ℕ) → every (one_to most) xs ≡ in_range (map (λ x. ranges.◌to◌is◌ 1 most x) xs)
@@ -186,8 +185,8 @@ no-such-day d =
     unless-so (exists d) (and_so (leb 1 d.day) (leb d.day days) (leb-true 1 d.day, le-leb 1 d.day) (leb-true d.day days, le-leb d.day days))
 
 pub no-such-date : (p : Permit) → (date_kept p ≡ false) ↔ NoSuchDate p
-no-such-date AnyHour = (λ e. absurd (false≢true (sym e)), λ no. absurd no)
-no-such-date (Within w) = no-such-day w.date
+no-such-date None = (λ e. absurd (false≢true (sym e)), λ no. absurd no)
+no-such-date (Some w) = no-such-day w.date
 
 pub horizon : (n : ℕ) → (horizon_kept n ≡ false) ↔ ((n ≡ 0) ⊎ (2976 < n))
 horizon n = either (leb 1 n) (leb n 2976) (λ e. let less = leb-false 1 n e in omega arith, λ e. lt-leb 1 n (omega arith)) (at_most n 2976)

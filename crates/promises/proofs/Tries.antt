@@ -1,5 +1,6 @@
 -- The tries of reading off a plan (specification 23), clause by clause. No call tells them: `planner::reading::read_plan`, which reads a plan off the long
 -- table or works it out in two layers, returns their sum, `plan_tries` by its contract.
+use Rattle.std.specs.Prelude.{Ok, Some}
 use mathlib.Core.Path.{◌≡◌, sym, ap, ◌∙◌}
 use mathlib.Core.Bool.{◌&&◌}
 use mathlib.Core.List.{List, [], map}
@@ -11,7 +12,6 @@ use lib.IntN.{ℤ}
 use lib.ListN.{length, take}
 use Rattle.lists.specs.Every.{every}
 use Rattle.lists.proofs.Conjunctions.{both}
-use Rattle.commitment.specs.declared.Limit.TheVariants.{At}
 use Rattle.commitment.specs.declared.UnitRecord.{UnitRecord}
 use Rattle.commitment.specs.Best.{Plan, plan, schedule_of, best}
 use Rattle.commitment.specs.Keeping.{output_sum, keeps_starts, keeps_runs, keeps_spells, keeps_hours, keeps_mwh, keeps_window}
@@ -24,12 +24,11 @@ use Rattle.commitment.proofs.Tries as tries
 use Rattle.optimality.proofs.Best.{rival-length}
 use Rattle.optimality.proofs.Ranges.{Ranged, ranged}
 use Rattle.optimality.proofs.Tries.{plan-with-tries}
-use Rattle.planner.specs.declared.Planned.TheVariants as planning
 use Rattle.planner.specs.declared.Report.{Report}
-use Rattle.planner.specs.declared.Reported.TheVariants as reporting
 use Rattle.planner.specs.Planning.{planned, schedule_left}
 use Rattle.planner.specs.Reporting.{reported}
 use Rattle.promises.proofs.Planning.{Given, given-is-best, plan-given, report-given}
+use Rattle.planner.specs.Types.{plan_with}
 
 -- ---- what an output takes: 1 for off, otherwise two more than its blocks above pmin
 
@@ -52,10 +51,10 @@ module _ (u : UnitRecord) (prices : List ℤ) where
     pub most : plan_tries u prices ≤ length prices * (u.generator.pmax - u.generator.pmin + 2)
     pub blocks : plan_tries u prices * u.generator.block ≤ length prices * u.generator.block + output_sum s
     -- so many blocks as the limitation of MWh leaves room for
-    pub mwh : (limit : ℕ) → u.limits.mwh ≡ At limit → plan_tries u prices * u.generator.block ≤ length prices * u.generator.block + 4 * limit
+    pub mwh : (limit : ℕ) → u.limits.mwh ≡ Some limit → plan_tries u prices * u.generator.block ≤ length prices * u.generator.block + 4 * limit
 
   -- a rival's outputs add up to no more than the limitation of MWh
-  sum_kept : (s : List ℕ) → Rival u prices s → (limit : ℕ) → u.limits.mwh ≡ At limit → output_sum s ≤ 4 * limit
+  sum_kept : (s : List ℕ) → Rival u prices s → (limit : ℕ) → u.limits.mwh ≡ Some limit → output_sum s ≤ 4 * limit
   sum_kept s own limit e =
       let first = keeps_starts u s && keeps_runs u s && keeps_spells u s && keeps_hours u s in
       let kept = (both first (keeps_mwh u s) (both (first && keeps_mwh u s) (keeps_window u s) own.kept).0).1 in
@@ -84,9 +83,9 @@ module _ (u : UnitRecord) (prices : List ℤ) where
       (given-is-best u prices cells was n p g).own
 
   pub planned-with-tries : (cells : ℕ) (was : List ℕ) (n : ℕ) (p : ℤ)
-      → planned u prices cells (length was) ≡ planning.Plan n p → WithTries (take n (schedule_left u prices cells was))
+      → planned u prices cells (length was) ≡ plan_with n p → WithTries (take n (schedule_left u prices cells was))
   planned-with-tries cells was n p e = with-tries cells was n p (plan-given u prices cells was n p e)
 
   pub reported-with-tries : (cells : ℕ) (was : List ℕ) (r : Report)
-      → reported u prices cells (length was) ≡ reporting.Report r → WithTries (take r.count (schedule_left u prices cells was))
+      → reported u prices cells (length was) ≡ Ok r → WithTries (take r.count (schedule_left u prices cells was))
   reported-with-tries cells was r e = with-tries cells was r.count r.profit (report-given u prices cells was r e).0

@@ -1,5 +1,6 @@
 -- Two layers of scratch, clause by clause: every answer is the same from two layers on, whichever cells are used; those used are 0 and those beyond are
 -- as they were; 8 is fewer than two layers.
+use Rattle.std.specs.Prelude.{Err, Ok}
 use mathlib.Core.Path.{◌≡◌, refl, sym, ap, ◌∙◌}
 use mathlib.Core.List.{List, ◌++◌}
 use Prim.Native.Nat.{ℕ, ◌≤◌, ◌<◌}
@@ -9,16 +10,13 @@ use lib.Dec.{leb, lit≤}
 use lib.IntN.{ℤ, pos}
 use lib.ListN.{length, drop, replicate}
 use Rattle.commitment.specs.declared.Cause.TheVariants.{Scratch}
-use Rattle.commitment.specs.declared.Checked.{Checked}
-use Rattle.commitment.specs.declared.Checked.TheVariants.{Passed}
+use Rattle.commitment.specs.Types.{Checked}
 use Rattle.commitment.specs.declared.UnitRecord.{UnitRecord}
 use Rattle.commitment.specs.Best.{best}
 use Rattle.commitment.specs.Cells.{cells_needed, cells_long, cells_used}
 use Rattle.commitment.specs.Ranges.{ranges_kept, prices_kept}
 use Rattle.commitment.specs.PlanCases.{c1, c7, c1-prices}
 use Rattle.commitment.specs.Valuing.{outcomes_of}
-use Rattle.planner.specs.declared.Planned.TheVariants as planning
-use Rattle.planner.specs.declared.Valued.TheVariants as valuing
 use Rattle.planner.specs.Planning.{lent_checked, plan_checked, planned_by, planned, schedule_after, schedule_left, scratch_left, part_given, planned_part}
 use Rattle.planner.specs.Reporting.{reported_by, reported}
 use Rattle.planner.specs.Valuing.{value_lent, value_checked, valued_by, valued, scratch_valued}
@@ -60,7 +58,7 @@ module _ (u : UnitRecord) (prices : List ℤ) (a b : ℕ) (enough : cells_needed
 
 -- ---- and so are the bytes printed for a text: those of the report of its case from any scratch of two layers or more
 
-pub same-printed : (text : List ℕ) (cells : ℕ) → written_checked text ≡ Passed → cells_needed (unit_in text) (length (prices_in text)) ≤ cell_room
+pub same-printed : (text : List ℕ) (cells : ℕ) → written_checked text ≡ Ok tt → cells_needed (unit_in text) (length (prices_in text)) ≤ cell_room
     → cells_needed (unit_in text) (length (prices_in text)) ≤ cells
     → printed_for (plan_checked (unit_in text) (prices_in text) cells (length (prices_in text))) (unit_in text) (prices_in text) ≡ printed text
 unfolding printed
@@ -77,8 +75,8 @@ module _ (u : UnitRecord) (prices was : List ℤ) where
 
   abbrev LeavesCleared : ℕ → Type 0
   LeavesCleared used =
-      ((entries : ℕ) → lent_checked u prices (leb (length prices) entries) (length was) ≡ Passed → scratch_left u prices entries was ≡ cleared used)
-      × (value_lent u prices (length was) ≡ Passed → scratch_valued u prices was ≡ cleared used)
+      ((entries : ℕ) → lent_checked u prices (leb (length prices) entries) (length was) ≡ Ok tt → scratch_left u prices entries was ≡ cleared used)
+      × (value_lent u prices (length was) ≡ Ok tt → scratch_valued u prices was ≡ cleared used)
 
   leaves : (used : ℕ) → used ≡ cells_used u (length prices) (length was) → LeavesCleared used
   leaves used e = (λ entries passed. rw (passed, ← e), λ passed. rw (passed, ← e))
@@ -100,7 +98,7 @@ one-price u = refl
 pub c1-cells : (cells_long c1 6 ≡ 588) × (cells_needed c1 6 ≡ 168) × (cells_used c1 6 588 ≡ 588) × (cells_used c1 6 587 ≡ 168) × (cells_used c1 6 168 ≡ 168)
 c1-cells = (refl, refl, refl, refl, refl)
 
-pub c1-eight : (planned c1 c1-prices 167 6 ≡ planning.Refused Scratch) × (valued c1 c1-prices 167 ≡ valuing.Refused Scratch)
+pub c1-eight : (planned c1 c1-prices 167 6 ≡ Err Scratch) × (valued c1 c1-prices 167 ≡ Err Scratch)
 unfolding plan_checked value_checked ranges_kept prices_kept
 c1-eight = (refl, refl)
 

@@ -1,5 +1,6 @@
 -- Cases computed from the definitions: C1 whole, from the bytes of its text to the bytes of its listing with the program's slices, without and with an
 -- hour word; and the answers of the calls to C1 to C12 and to the cases of permitted hours.
+use Rattle.std.specs.Prelude.{Err}
 use mathlib.Core.Path.{◌≡◌, refl}
 use mathlib.Core.List.{List, [], ◌∷◌, ◌++◌, map}
 use Prim.Native.Nat.{ℕ}
@@ -20,7 +21,6 @@ use Rattle.commitment.specs.declared.Cause.TheVariants.{NotKept}
 use Rattle.commitment.specs.PlanCases as planCases
 use Rattle.commitment.specs.PlanCases.{Value, Row, c1-prices}
 use Rattle.commitment.specs.HourCases.{c1-word, table}
-use Rattle.assessment.specs.declared.Assessed.TheVariants.{Refused}
 use Rattle.assessment.specs.Assessed.{hand_in_checked, assessed}
 use Rattle.costs.specs.Answers.{costed}
 use Rattle.costs.specs.Cases as costCases
@@ -127,6 +127,6 @@ pub hour-cases : answers_of_hours ≡ map (λ (r : Row). r.given) table
 unfolding plan_checked value_checked ranges_kept prices_kept clock_after hours_of is_sunday day_number
 hour-cases = refl
 
-pub handed-in-shut : assessed (c1-word 1) c1-prices (0 ∷ 20 ∷ 20 ∷ 10 ∷ 20 ∷ 20 ∷ []) ≡ Refused NotKept
+pub handed-in-shut : assessed (c1-word 1) c1-prices (0 ∷ 20 ∷ 20 ∷ 10 ∷ 20 ∷ 20 ∷ []) ≡ Err NotKept
 unfolding hand_in_checked ranges_kept prices_kept clock_after hours_of is_sunday day_number
 handed-in-shut = refl

@@ -1,12 +1,11 @@
 -- The causes of each call in the order in which it gives them, each with when it holds of the call's inputs.
-use Rattle.std.specs.Prelude.{◌≡◌, false, List, [], ◌∷◌, ◌++◌, ◌⊎◌, ℕ, suc, ◌-◌, ◌*◌, ◌≤◌, ◌<◌, ℤ, length, get_or}
+use Rattle.std.specs.Prelude.{◌≡◌, false, List, [], ◌∷◌, ◌++◌, ◌⊎◌, ℕ, suc, ◌-◌, ◌*◌, ◌≤◌, ◌<◌, ℤ, length, get_or, Some, None}
 use Rattle.calendar.specs.declared.Date as calendar
 use Rattle.calendar.specs.Dates.{days_in}
 use Rattle.commitment.specs.declared.Cause.{Cause}
 use Rattle.commitment.specs.declared.Cause.TheVariants.{Form, Name, Range, Levels, Shape, Date, Horizon, Segments, Length, Scratch, NoSchedule, NotKept}
 use Rattle.costs.specs.declared.CostInputs.{CostInputs}
-use Rattle.commitment.specs.declared.Permit.{Permit}
-use Rattle.commitment.specs.declared.Permit.TheVariants.{AnyHour, Within}
+use Rattle.commitment.specs.Types.{Permit}
 use Rattle.commitment.specs.declared.UnitRecord.{UnitRecord}
 use Rattle.commitment.specs.Cells.{cells_needed}
 use Rattle.costs.specs.Figures.{total_mw}
@@ -15,8 +14,7 @@ use Rattle.casetext.specs.Form.{form_kept, names_kept}
 use Rattle.casefile.specs.Reading.{unit_in, prices_in}
 use Rattle.costs.specs.Ranges.{range_mw}
 use Rattle.curves.specs.declared.CurveInputs.{CurveInputs}
-use Rattle.listing.specs.declared.HourWord.{HourWord}
-use Rattle.listing.specs.declared.HourWord.TheVariants as hours
+use Rattle.listing.specs.Types.{HourWord}
 use Rattle.answers.specs.Sizes.{cell_room}
 use Rattle.promises.specs.Ranges.{InRange, PricesInRange, case_figures, cost_ranges, curve_ranges, clock_ranges}
 
@@ -50,8 +48,8 @@ abbrev pub NoSuchDay : calendar.Date → Type 0
 NoSuchDay d = (1 ≤ d.day) × (d.day ≤ days_in d.year d.month) → ⊥
 
 abbrev pub NoSuchDate : Permit → Type 0
-NoSuchDate AnyHour = ⊥
-NoSuchDate (Within w) = NoSuchDay w.date
+NoSuchDate None = ⊥
+NoSuchDate (Some w) = NoSuchDay w.date
 
 abbrev pub case_causes : UnitRecord → List ℤ → List Reason
 case_causes u prices =
@@ -132,8 +130,8 @@ curve_causes k levels rates room =
 
 -- a word of more than 24 bits
 abbrev pub WordTooLarge : HourWord → Type 0
-WordTooLarge hours.None = ⊥
-WordTooLarge (hours.Word word) = 16777215 < word
+WordTooLarge None = ⊥
+WordTooLarge (Some word) = 16777215 < word
 
 abbrev pub listing_causes : List ℕ → HourWord → ℕ → List Reason
 listing_causes lines word room = (Range when WordTooLarge word) ∷ (Length when room < length lines) ∷ []

@@ -1,18 +1,16 @@
 -- Both ends of every range, through the calls (specification 2, 3, 10, 12, 21, 22): the figures of an input as a list, and for each figure an input with it at
 -- its least and one with it at its most. Each of the two is answered, and 3 is what one less and one more get.
-use Rattle.std.specs.Prelude.{List, [], ◌∷◌, ℕ, zero, suc, ◌+◌, pos, neg_ℤ, get_or, set, replicate}
+use Rattle.std.specs.Prelude.{List, [], ◌∷◌, ℕ, zero, suc, ◌+◌, pos, neg_ℤ, get_or, set, replicate, Some}
 use Rattle.calendar.specs.Dates.{date}
 use Rattle.costs.specs.declared.CostInputs.{CostInputs}
-use Rattle.commitment.specs.declared.Limit.TheVariants.{At}
-use Rattle.commitment.specs.declared.Permit.TheVariants.{Within}
 use Rattle.commitment.specs.declared.UnitRecord.{UnitRecord}
 use Rattle.commitment.specs.Valuing.{no_outcomes}
-use Rattle.checking.specs.Clock.{clock_hour, clock_number}
-use Rattle.assessment.specs.Assessed.{assessed, assessed_number}
-use Rattle.costs.specs.Answers.{costed, costed_number}
-use Rattle.curves.specs.Answers.{curved, curved_number}
-use Rattle.listing.specs.declared.HourWord.TheVariants.{Word}
-use Rattle.listing.specs.Listing.{listing_written, written_number}
+use Rattle.checking.specs.Clock.{clock_hour}
+use Rattle.assessment.specs.Assessed.{assessed}
+use Rattle.costs.specs.Answers.{costed}
+use Rattle.curves.specs.Answers.{curved}
+use Rattle.listing.specs.Listing.{listing_written}
+use Rattle.commitment.specs.Causes.{answered_number}
 
 -- a figure's place, and the figures of an input with it at its least and at its most
 pub record Ends : Type 0 where
@@ -64,12 +62,12 @@ unit_at f =
       generator = record { block = get_or f 0 0; pmin = get_or f 1 0; pmax = get_or f 2 0; mot = get_or f 3 0; mdt = get_or f 4 0 };
       opening = record { was = get_or f 5 0; held = get_or f 6 0 };
       costs = record { vec = get_or f 7 0; mlc = get_or f 8 0; suc = get_or f 9 0 };
-      limits = record { starts = At (get_or f 10 0); hours = At (get_or f 11 0); mwh = At (get_or f 12 0) };
-      permit = Within (record { date = date (get_or f 13 0) (get_or f 14 0) (get_or f 15 0); word = get_or f 16 0 });
+      limits = record { starts = Some (get_or f 10 0); hours = Some (get_or f 11 0); mwh = Some (get_or f 12 0) };
+      permit = Some (record { date = date (get_or f 13 0) (get_or f 14 0) (get_or f 15 0); word = get_or f 16 0 });
     }
 
 abbrev pub case_number : List ℕ → ℕ
-case_number f = assessed_number (assessed (unit_at f) (pos 0 ∷ []) (0 ∷ []))
+case_number f = answered_number (assessed (unit_at f) (pos 0 ∷ []) (0 ∷ []))
 
 -- block 1, pmin 1 and pmax 1, mot and mdt 1, off for a quarter-hour, no costs, nothing left, 31 January 2024, no hours
 abbrev plain : List ℕ
@@ -98,10 +96,10 @@ case_ends =
 
 -- a price, above 0 and below it
 abbrev pub price_number : List ℕ → ℕ
-price_number f = assessed_number (assessed (unit_at plain) (pos (get_or f 0 0) ∷ []) (0 ∷ []))
+price_number f = answered_number (assessed (unit_at plain) (pos (get_or f 0 0) ∷ []) (0 ∷ []))
 
 abbrev pub low_price_number : List ℕ → ℕ
-low_price_number f = assessed_number (assessed (unit_at plain) (neg_ℤ (pos (get_or f 0 0)) ∷ []) (0 ∷ []))
+low_price_number f = answered_number (assessed (unit_at plain) (neg_ℤ (pos (get_or f 0 0)) ∷ []) (0 ∷ []))
 
 abbrev pub price_ends : List Ends
 price_ends = ends 0 (0 ∷ []) (200000 ∷ []) ∷ []
@@ -129,7 +127,7 @@ inputs_at f =
     }
 
 abbrev pub cost_number : List ℕ → ℕ
-cost_number f = costed_number (costed (inputs_at f) [] [])
+cost_number f = answered_number (costed (inputs_at f) [] [])
 
 abbrev costless : List ℕ
 costless = 1 ∷ 1 ∷ 1 ∷ 0 ∷ 0 ∷ 0 ∷ 0 ∷ 0 ∷ 0 ∷ 1 ∷ 0 ∷ 0 ∷ 0 ∷ 0 ∷ 0 ∷ []
@@ -156,15 +154,15 @@ cost_ends =
 -- segments of so many MW, and heat rates: MW 1, 0, 500 (more than a unit has between pmin and pmax: 6) and 501; heat rates 1, 0, 50,000 and 50,001; ten
 -- segments and eleven
 abbrev segment_number : List ℕ → List ℕ → ℕ
-segment_number mws heats = costed_number (costed (inputs_at (suc (sum_of mws) at 2 of costless)) mws heats)
+segment_number mws heats = answered_number (costed (inputs_at (suc (sum_of mws) at 2 of costless)) mws heats)
 
 abbrev pub segment_numbers : List ℕ
 segment_numbers =
     segment_number (1 ∷ []) (1 ∷ [])
     ∷ segment_number (0 ∷ []) (1 ∷ [])
     ∷ segment_number (499 ∷ []) (1 ∷ [])
-    ∷ costed_number (costed (inputs_at costless) (500 ∷ []) (1 ∷ []))
-    ∷ costed_number (costed (inputs_at costless) (501 ∷ []) (1 ∷ []))
+    ∷ answered_number (costed (inputs_at costless) (500 ∷ []) (1 ∷ []))
+    ∷ answered_number (costed (inputs_at costless) (501 ∷ []) (1 ∷ []))
     ∷ segment_number (1 ∷ []) (0 ∷ [])
     ∷ segment_number (1 ∷ []) (50000 ∷ [])
     ∷ segment_number (1 ∷ []) (50001 ∷ [])
@@ -179,7 +177,7 @@ segments_expected = 0 ∷ 3 ∷ 0 ∷ 6 ∷ 3 ∷ 3 ∷ 0 ∷ 3 ∷ 0 ∷ 3 ∷ 
 
 abbrev pub curve_number : List ℕ → ℕ
 curve_number f =
-    curved_number
+    answered_number
     (curved (record { gas = get_or f 0 0; om = get_or f 1 0; gmc = get_or f 2 0; adder = get_or f 3 0 }) (get_or f 4 0 ∷ get_or f 5 0 ∷ []) (get_or f 6 0 ∷ get_or f 7 0 ∷ [])
     1)
 
@@ -198,7 +196,7 @@ curve_ends =
 
 -- levels of 0, 1, 500 and 501 MW; one point, eleven and twelve
 abbrev many_points : ℕ → ℕ
-many_points n = curved_number (curved (record { gas = 0; om = 0; gmc = 0; adder = 0 }) (up_from 1 n) (replicate n 1) 20)
+many_points n = answered_number (curved (record { gas = 0; om = 0; gmc = 0; adder = 0 }) (up_from 1 n) (replicate n 1) 20)
 
 abbrev pub point_numbers : List ℕ
 point_numbers =
@@ -210,7 +208,7 @@ points_expected = 3 ∷ 0 ∷ 3 ∷ 3 ∷ 0 ∷ 3 ∷ []
 -- ---- the clock: year, month, day, interval
 
 abbrev pub clock_number_at : List ℕ → ℕ
-clock_number_at f = clock_number (clock_hour (date (get_or f 0 0) (get_or f 1 0) (get_or f 2 0)) (get_or f 3 0))
+clock_number_at f = answered_number (clock_hour (date (get_or f 0 0) (get_or f 1 0) (get_or f 2 0)) (get_or f 3 0))
 
 abbrev january : List ℕ
 january = 2024 ∷ 1 ∷ 31 ∷ 1 ∷ []
@@ -226,7 +224,7 @@ clock_ends =
 -- ---- the word of a listing
 
 abbrev pub word_number : List ℕ → ℕ
-word_number f = written_number (listing_written [] (pos 0) no_outcomes (Word (get_or f 0 0)) 200)
+word_number f = answered_number (listing_written [] (pos 0) no_outcomes (Some (get_or f 0 0)) 200)
 
 abbrev pub word_ends : List Ends
 word_ends = ends 0 (0 ∷ []) (16777215 ∷ []) ∷ []

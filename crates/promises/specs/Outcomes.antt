@@ -1,6 +1,5 @@
 -- The outcome of a limitation among the three, and its lower run (specification 9).
-use Rattle.std.specs.Prelude.{◌≡◌, List, ℕ, suc, ℤ}
-use Rattle.commitment.specs.declared.Limit.TheVariants.{At}
+use Rattle.std.specs.Prelude.{◌≡◌, List, ℕ, suc, ℤ, Some}
 use Rattle.commitment.specs.declared.Limitation.{Limitation}
 use Rattle.commitment.specs.declared.Limitation.TheVariants.{Starts, Hours, Mwh}
 use Rattle.commitment.specs.declared.Outcome.{Outcome}
@@ -19,7 +18,7 @@ outcome_for outcomes Mwh = outcomes.mwh
 pub record LowerRun (u : UnitRecord) (prices : List ℤ) (which : Limitation) : Type 0 where
   pub figure : ℕ
   pub less : ℕ
-  pub limited : limit_for u.limits which ≡ At figure
+  pub limited : limit_for u.limits which ≡ Some figure
   pub nine-tenths : lowered figure ≡ suc less
   pub schedule : List ℕ
   pub keeps : Rival (run_at u which less) prices schedule

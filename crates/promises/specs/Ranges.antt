@@ -1,11 +1,9 @@
 -- The figures of each call and the ends of their ranges, as the specification has them (2, 3, 10, 21, 22): a row to a figure.
-use Rattle.std.specs.Prelude.{List, [], ◌∷◌, ◌++◌, map, ℕ, ◌≤◌, ◌<◌, ℤ, pos, nat_abs, length, get_or}
+use Rattle.std.specs.Prelude.{List, [], ◌∷◌, ◌++◌, map, ℕ, ◌≤◌, ◌<◌, ℤ, pos, nat_abs, length, get_or, Some, None}
 use Rattle.calendar.specs.declared.Date.{Date}
 use Rattle.costs.specs.declared.CostInputs.{CostInputs}
-use Rattle.commitment.specs.declared.Limit.{Limit}
-use Rattle.commitment.specs.declared.Limit.TheVariants.{None, At}
-use Rattle.commitment.specs.declared.Permit.{Permit}
-use Rattle.commitment.specs.declared.Permit.TheVariants.{AnyHour, Within}
+use Rattle.commitment.specs.Types.{Limit}
+use Rattle.commitment.specs.Types.{Permit}
 use Rattle.commitment.specs.declared.UnitRecord.{UnitRecord}
 use Rattle.curves.specs.declared.CurveInputs.{CurveInputs}
 
@@ -28,14 +26,14 @@ InRange (figure ∷ figures) = (figure.least ≤ figure.given) × (figure.given 
 
 abbrev pub limit_figure : ℕ → Limit → List Figure
 limit_figure most None = []
-limit_figure most (At limit) = (0 to most is limit) ∷ []
+limit_figure most (Some limit) = (0 to most is limit) ∷ []
 
 abbrev pub date_figures : Date → List Figure
 date_figures d = (2007 to 2099 is d.year) ∷ (1 to 12 is d.month) ∷ (1 to 31 is d.day) ∷ []
 
 abbrev pub permit_figures : Permit → List Figure
-permit_figures AnyHour = []
-permit_figures (Within w) = date_figures w.date ++ (0 to 16777215 is w.word) ∷ []
+permit_figures None = []
+permit_figures (Some w) = date_figures w.date ++ (0 to 16777215 is w.word) ∷ []
 
 abbrev pub case_figures : UnitRecord → List Figure
 case_figures u =

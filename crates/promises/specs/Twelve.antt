@@ -1,25 +1,22 @@
 -- C1 to C12 (specification 18) in one table, out of those of plans and of cost figures; and what the calls answer of them and of the cases of
 -- permitted hours (specification 22), in the order and the kinds of the values given for them.
-use Rattle.std.specs.Prelude.{List, [], ◌∷◌, ◌++◌, map, ℕ, ℤ, pos, length}
+use Rattle.std.specs.Prelude.{List, [], ◌∷◌, ◌++◌, map, ℕ, ℤ, pos, length, Ok, Err}
 use Rattle.costs.specs.declared.CostInputs.{CostInputs}
 use Rattle.commitment.specs.declared.Limitation.{Limitation}
 use Rattle.commitment.specs.declared.Limitation.TheVariants.{Starts, Hours, Mwh}
 use Rattle.commitment.specs.declared.UnitRecord.{UnitRecord}
-use Rattle.commitment.specs.Causes.{number_of}
+use Rattle.commitment.specs.Causes.{number_of, answered_number}
 use Rattle.commitment.specs.PlanCases as planCases
 use Rattle.commitment.specs.PlanCases.{Value, schedule, profit, number, outcome, ties, cents, ties_of, Row, c1-prices, c1, c2, c4, c5, c6, c7, c8, c9}
 use Rattle.commitment.specs.HourCases.{c1-word, c1-on-word}
 use Rattle.costs.specs.declared.CostFigures.{CostFigures}
-use Rattle.costs.specs.declared.Costed.{Costed}
-use Rattle.costs.specs.declared.Costed.TheVariants as costing
+use Rattle.costs.specs.Types.{Costed}
 use Rattle.costs.specs.Answers.{costed}
 use Rattle.costs.specs.Cases as costCases
 use Rattle.costs.specs.Cases.{c10, c11, c12, c10-mws, c10-heats}
-use Rattle.planner.specs.declared.Planned.{Planned}
-use Rattle.planner.specs.declared.Planned.TheVariants as planning
-use Rattle.planner.specs.declared.Valued.{Valued}
-use Rattle.planner.specs.declared.Valued.TheVariants as valuing
-use Rattle.planner.specs.Planning.{planned, planned_number, part_given}
+use Rattle.planner.specs.Types.{Planned, plan_with}
+use Rattle.planner.specs.Types.{Valued}
+use Rattle.planner.specs.Planning.{planned, part_given}
 use Rattle.planner.specs.Valuing.{valued}
 use Rattle.answers.specs.Sizes.{cell_room}
 use Rattle.promises.specs.Outcomes.{outcome_for}
@@ -27,20 +24,20 @@ use Rattle.promises.specs.Outcomes.{outcome_for}
 -- ---- the values of an answer: where it is refused, the number of its cause alone
 
 abbrev plan_values : Planned → List ℕ → List Value
-plan_values (planning.Plan count p) part = schedule part ∷ profit p ∷ []
-plan_values (planning.Refused cause) part = number (number_of cause) ∷ []
+plan_values (Ok made) part = schedule part ∷ profit made.profit ∷ []
+plan_values (Err cause) part = number (number_of cause) ∷ []
 
 abbrev profit_value : Planned → Value
-profit_value (planning.Plan count p) = profit p
-profit_value (planning.Refused cause) = number (number_of cause)
+profit_value (Ok made) = profit made.profit
+profit_value (Err cause) = number (number_of cause)
 
 abbrev outcome_value : Valued → Limitation → Value
-outcome_value (valuing.Outcomes outcomes) which = outcome (outcome_for outcomes which)
-outcome_value (valuing.Refused cause) which = number (number_of cause)
+outcome_value (Ok outcomes) which = outcome (outcome_for outcomes which)
+outcome_value (Err cause) which = number (number_of cause)
 
 abbrev cents_value : Costed → (CostFigures → ℕ) → Value
-cents_value (costing.Figures figures) which = cents (which figures)
-cents_value (costing.Refused cause) which = number (number_of cause)
+cents_value (Ok figures) which = cents (which figures)
+cents_value (Err cause) which = number (number_of cause)
 
 -- ---- the calls, with the program's scratch and a schedule slice for the prices
 
@@ -78,7 +75,7 @@ answers_of_twelve =
     ∷ plans_of c4 (pos 9000 ∷ [])
     ∷ (plans_of c5 (pos 3000 ∷ []) ++ (ties (ties_of c5 (pos 3000 ∷ [])) ∷ []))
     ∷ plans_of c6 c1-prices
-    ∷ (number (planned_number (call c7 c1-prices)) ∷ outcome_at c7 Hours ∷ [])
+    ∷ (number (answered_number (call c7 c1-prices)) ∷ outcome_at c7 Hours ∷ [])
     ∷ (profit_value (call c8 c1-prices) ∷ outcome_at c8 Hours ∷ [])
     ∷ (plans_of c9 c1-prices ++ (outcome_at c9 Starts ∷ []))
     ∷ (figure_at c10 (λ figures. figures.vec) ∷ [])

@@ -1,4 +1,5 @@
 -- The output that is read off a cell is the plan's: the first that reaches the cell's number is the first that reaches its value.
+use Rattle.std.specs.Prelude.{Some}
 use mathlib.Core.Path.{◌≡◌, refl, sym, ap, subst, ◌∙◌}
 use mathlib.Core.Bool.{Bool, true, false, cond, not, true≢false, false≢true}
 use mathlib.Core.List.{List, ◌∷◌}
@@ -8,13 +9,12 @@ use native.Mathlib.Nat.{zero-mul}
 use native.Mathlib.Omega.{arith}
 use lib.IntN.{ℤ, pos, nat_abs, ◌-ℤ◌}
 use lib.Signed.{lt_z, ◌≤ℤ◌, ≤ℤ_refl}
-use Rattle.commitment.specs.declared.BestProfit.{BestProfit}
+use Rattle.commitment.specs.Types.{BestProfit}
 use Rattle.commitment.specs.Bounds.{most_price, most_intervals}
 use Rattle.integers.proofs.Order.{≤ℤ-antisym, lt_z-false, le-lt_z}
 use Rattle.lists.proofs.Conjunctions.{both}
 use Rattle.optimality.specs.declared.Figures.{Figures}
 use Rattle.optimality.specs.declared.Cell.{Cell}
-use Rattle.commitment.specs.declared.BestProfit.TheVariants.{Profit}
 use Rattle.optimality.specs.Machine.{Quarter, go, in_quarter, after}
 use Rattle.optimality.specs.Cells.{Sound, InTable, start_pays, gain, may_run, on_cell, rungs, cell_step, plan_at, value_at, off_value, on_value}
 use Rattle.optimality.proofs.Values.{no-earning}
@@ -97,7 +97,7 @@ pub record Chosen (f : Figures) (ends : Cell → BestProfit) (q : Quarter) (quar
 module _ (f : Figures) (ok : Sound f) (q : Quarter) (small : nat_abs q.price ≤ most_price) (ends : Cell → BestProfit) (quarters : List Quarter)
     (n : ℕ) (short : n < most_intervals) (stored : Cell → ℤ)
     (layer : LayerAt f n (value_at f ends quarters) stored) (c : Cell) (here : InTable f c) (best : ℤ)
-    (worth : value_at f ends (q ∷ quarters) c ≡ Profit best)
+    (worth : value_at f ends (q ∷ quarters) c ≡ Some best)
     (bound : nat_abs best ≤ suc n * swing) where
   off-offers : Offers (suc n) (off_value f (value_at f ends quarters) c) (off_stored f stored c)
   off-offers =
@@ -122,13 +122,13 @@ module _ (f : Figures) (ok : Sound f) (q : Quarter) (small : nat_abs q.price ≤
     may : may_run f c ≡ true
     may = open-runs f stored c q.price best is falls
 
-    off-short : off_value f (value_at f ends quarters) c ≡ Profit best → ⊥
+    off-short : off_value f (value_at f ends quarters) c ≡ Some best → ⊥
     off-short v =
         let i = offers-earning (suc n) (off_value f (value_at f ends quarters) c) (off_stored f stored c) best off-offers v in
         false≢true (sym (le-lt_z best best (≤ℤ_refl best)) ∙ (rw i at falls))
 
     -- an output meets the test exactly where it reaches the value
-    met : (k : ℕ) → f.pmin ≤ k → k ≤ f.pmax → reaches_on f stored c q.price best k ≡ true → on_value f (value_at f ends quarters) c q.price k ≡ Profit best
+    met : (k : ℕ) → f.pmin ≤ k → k ≤ f.pmax → reaches_on f stored c q.price best k ≡ true → on_value f (value_at f ends quarters) c q.price k ≡ Some best
     met k lo hi e =
         let b = both (room_for f stored c k) (not (lt_z (on_stored f stored c q.price k) best)) e in
         let l = lt_z-false (on_stored f stored c q.price k) best (not-true' (lt_z (on_stored f stored c q.price k) best) b.1) in
@@ -140,7 +140,7 @@ module _ (f : Figures) (ok : Sound f) (q : Quarter) (small : nat_abs q.price ≤
         not-true' true e = absurd (false≢true e)
         not-true' false e = refl
 
-    unmet : (k : ℕ) → k ≤ f.pmax → reaches_on f stored c q.price best k ≡ false → on_value f (value_at f ends quarters) c q.price k ≡ Profit best → ⊥
+    unmet : (k : ℕ) → k ≤ f.pmax → reaches_on f stored c q.price best k ≡ false → on_value f (value_at f ends quarters) c q.price k ≡ Some best → ⊥
     unmet k hi e v = by (room_for f stored c k) refl
       where
         by : (t : Bool) → room_for f stored c k ≡ t → ⊥

@@ -1,4 +1,5 @@
 -- The plan read off the layers: interval by interval, what is written and the plan from the cell reached make the whole plan.
+use Rattle.std.specs.Prelude.{None, Some}
 use mathlib.Core.Path.{◌≡◌, refl, sym, ap, ap₂, ◌∙◌}
 use mathlib.Core.Bool.{true}
 use mathlib.Core.List.{List, [], ◌∷◌, ◌++◌, append_assoc, append-nil}
@@ -16,8 +17,7 @@ use Rattle.commitment.proofs.Tries.{tries-append, tries-in-blocks}
 use Rattle.commitment.specs.Best.{Plan, nothing, plan, profit_of, schedule_of}
 use Rattle.optimality.specs.declared.Figures.{Figures}
 use Rattle.optimality.specs.declared.Cell.{Cell}
-use Rattle.commitment.specs.declared.BestProfit.{BestProfit}
-use Rattle.commitment.specs.declared.BestProfit.TheVariants.{Nothing, Profit}
+use Rattle.commitment.specs.Types.{BestProfit}
 use Rattle.optimality.specs.Machine.{Quarter, ended, after}
 use Rattle.optimality.specs.Cells.{Sound, InTable, plan_at, value_at}
 use Rattle.optimality.proofs.Values.{no-earning}
@@ -55,19 +55,19 @@ pub record ReadTurn (f : Figures) (ends : Cell → BestProfit) (q : Quarter) (qu
 pub read-layers : (f : Figures) (ends : Cell → BestProfit) (q : Quarter) (rest : List Quarter) (here stored : Cell → ℤ) (c : Cell)
     → Sound f → nat_abs q.price ≤ most_price → (n : ℕ) → n < most_intervals
     → LayerAt f (suc n) (value_at f ends (q ∷ rest)) here → LayerAt f n (value_at f ends rest) stored
-    → InTable f c → (value_at f ends (q ∷ rest) c ≡ Nothing → ⊥)
+    → InTable f c → (value_at f ends (q ∷ rest) c ≡ None → ⊥)
     → ReadTurn f ends q rest stored c (here c)
 read-layers f ends q rest here stored c ok priced n few layer next inside some = by (value_at f ends (q ∷ rest) c) refl (layer.holds c inside) some
   where
-    by : (v : BestProfit) → value_at f ends (q ∷ rest) c ≡ v → Holds (suc n) v (here c) → (v ≡ Nothing → ⊥)
+    by : (v : BestProfit) → value_at f ends (q ∷ rest) c ≡ v → Holds (suc n) v (here c) → (v ≡ None → ⊥)
         → ReadTurn f ends q rest stored c (here c)
-    by Nothing e h some = absurd (some refl)
-    by (Profit p) e h some =
-        let made : Holds (suc n) (Profit p) (quarter_stored f stored c q) = rw e at
+    by None e h some = absurd (some refl)
+    by (Some p) e h some =
+        let made : Holds (suc n) (Some p) (quarter_stored f stored c q) = rw e at
         (cell_holds f ok q.price priced ends rest n few stored next c inside q.opens) in
         let is : quarter_stored f stored c q ≡ here c = made.0 ∙ sym h.0 in
         let bound : nat_abs (here c) ≤ suc n * swing = rw h.0 h.1 in
-        let worth = e ∙ ap Profit (sym h.0) in
+        let worth = e ∙ ap Some (sym h.0) in
         record {
           on = must-reach f ok q priced ends rest n few stored next c inside (here c) worth bound is;
           choice = chosen_is f ok q priced ends rest n few stored next c inside (here c) worth bound is;
@@ -76,7 +76,7 @@ read-layers f ends q rest here stored c ok priced n few layer next inside some =
 pub read-turn : (f : Figures) (ends : Cell → BestProfit) (quarters : List Quarter) (cells : List ℤ) (t : ℕ) (c : Cell)
     → Sound f → PricedOver quarters → length quarters ≤ most_intervals
     → Filled f ends quarters cells → t < length quarters
-    → InTable f c → (value_at f ends (drop t quarters) c ≡ Nothing → ⊥)
+    → InTable f c → (value_at f ends (drop t quarters) c ≡ None → ⊥)
     → ReadTurn f ends (get_or quarters t no_quarter) (drop (suc t) quarters) (stored_at f cells (suc t * width f)) c (stored_at f cells (t * width f) c)
 read-turn f ends quarters cells t c ok priced short filled inside here some =
     let d = drop-cons quarters t no_quarter inside in
@@ -90,24 +90,24 @@ read-turn f ends quarters cells t c ok priced short filled inside here some =
 -- t outputs are written, and the rest of the plan is that of the cell reached
 pub record Written (f : Figures) (ends : Cell → BestProfit) (quarters : List Quarter) (from : Cell) (old now : List ℕ) (t : ℕ) (c : Cell) : Type 0 where
   pub inside : InTable f c
-  pub some : value_at f ends (drop t quarters) c ≡ Nothing → ⊥
+  pub some : value_at f ends (drop t quarters) c ≡ None → ⊥
   pub whole : take t now ++ schedule_of (plan_at f ends (drop t quarters) c) ≡ schedule_of (plan_at f ends quarters from)
   pub kept : drop t now ≡ drop t old
   pub same : length now ≡ length old
 
 pub written_none : (f : Figures) (ends : Cell → BestProfit) (quarters : List Quarter) (from : Cell) (old : List ℕ) → InTable f from
-    → (value_at f ends quarters from ≡ Nothing → ⊥) → Written f ends quarters from old old 0 from
+    → (value_at f ends quarters from ≡ None → ⊥) → Written f ends quarters from old old 0 from
 written_none f ends quarters from old inside some = record { inside = inside; some = some; whole = refl; kept = refl; same = refl }
 
 -- a plan with one interval in front
 pub one_more : (f : Figures) (ends : Cell → BestProfit) (q : Quarter) (rest : List Quarter) (c next : Cell) (m : ℕ) (g : ℤ)
     → plan_at f ends (q ∷ rest) c ≡ after m g (plan_at f ends rest next)
-    → (value_at f ends (q ∷ rest) c ≡ Nothing → ⊥)
-    → (schedule_of (plan_at f ends (q ∷ rest) c) ≡ m ∷ schedule_of (plan_at f ends rest next)) × (value_at f ends rest next ≡ Nothing → ⊥)
+    → (value_at f ends (q ∷ rest) c ≡ None → ⊥)
+    → (schedule_of (plan_at f ends (q ∷ rest) c) ≡ m ∷ schedule_of (plan_at f ends rest next)) × (value_at f ends rest next ≡ None → ⊥)
 one_more f ends q rest c next m g is some = by (plan_at f ends rest next) refl
   where
     by : (p : Plan) → plan_at f ends rest next ≡ p
-        → (schedule_of (plan_at f ends (q ∷ rest) c) ≡ m ∷ schedule_of (plan_at f ends rest next)) × (value_at f ends rest next ≡ Nothing → ⊥)
+        → (schedule_of (plan_at f ends (q ∷ rest) c) ≡ m ∷ schedule_of (plan_at f ends rest next)) × (value_at f ends rest next ≡ None → ⊥)
     by nothing e = absurd (some (sym (plan-value f ends (q ∷ rest) c) ∙ ap profit_of (is ∙ ap (after m g) e)))
     by (plan s p) e = (
       ap schedule_of (is ∙ ap (after m g) e) ∙ ap (λ (q : Plan). m ∷ schedule_of q) (sym e),
@@ -146,8 +146,8 @@ tries-next block pmin now t k block-some room so_far one =
 
 -- however a plan ends, no output is left
 none_left : (v : BestProfit) → schedule_of (ended v) ≡ []
-none_left Nothing = refl
-none_left (Profit p) = refl
+none_left None = refl
+none_left (Some p) = refl
 
 -- all are
 module _ (f : Figures) (ends : Cell → BestProfit) (quarters : List Quarter) (from : Cell) (old now : List ℕ) (t : ℕ) (c : Cell) (e : t ≡ length quarters)

@@ -1,8 +1,7 @@
 -- The output that is read off a cell, by the numbers that the cells of the next layer hold, and the schedule of a plan.
-use Rattle.std.specs.Prelude.{◌≡◌, Bool, true, cond, not, ◌&&◌, List, ◌++◌, map, ℕ, zero, suc, ◌+◌, ◌-◌, ◌*◌, ◌≤◌, leb, ℤ, pos, ◌+ℤ◌, length, get_or, drop}
+use Rattle.std.specs.Prelude.{◌≡◌, Bool, true, cond, not, ◌&&◌, List, ◌++◌, map, ℕ, zero, suc, ◌+◌, ◌-◌, ◌*◌, ◌≤◌, leb, ℤ, pos, ◌+ℤ◌, length, get_or, drop, None}
 use Rattle.std.specs.Int.Signed.{lt_z}
-use Rattle.commitment.specs.declared.BestProfit.{BestProfit}
-use Rattle.commitment.specs.declared.BestProfit.TheVariants.{Nothing}
+use Rattle.commitment.specs.Types.{BestProfit}
 use Rattle.commitment.specs.Best.{schedule_of}
 use Rattle.commitment.specs.Tries.{tries_over}
 use Rattle.geometry.specs.Layers.{Filled}
@@ -54,7 +53,7 @@ next_cell f c (suc k) = on_cell f c (suc k)
 pub record PlanFrom (f : Figures) (ends : Cell → BestProfit) (prices cells : List ℤ) (from : Cell) (quarters : List Quarter) : Type 0 where
   pub priced : map (λ (q : Quarter). q.price) quarters ≡ prices
   pub filled : Filled f ends quarters cells
-  pub some : value_at f ends quarters from ≡ Nothing → ⊥
+  pub some : value_at f ends quarters from ≡ None → ⊥
 
 -- the best plan from a cell stands in the schedule's front, and the rest is as it was; so many outputs were tried in all
 abbrev pub ReadOff : Figures → List ℤ → List ℤ → Cell → List ℕ → List ℕ → ℕ → Type 0

@@ -10,15 +10,15 @@ ghost use Rattle.optimality.specs.Machine.{Quarter};
 ghost use Rattle.optimality.specs.Cells.{InTable, Sound};
 ghost use Rattle.geometry.specs.Geometry.{width};
 ghost use Rattle.geometry.specs.Layers.{Room, told, in_front};
+ghost use Rattle.commitment.specs.Types.{BestProfit};
 ghost use Rattle.commitment.specs.Bounds.{most_blocks};
 ghost use Rattle.commitment.specs.Ranges.{Priced};
 ghost use Rattle.table.specs.Reading.{PlanFrom, ReadOff};
 
-use commitment::BestProfit;
 use optimality::{Cell, Figures};
 
 // The best profit that a cell of the first layer tells.
-pub fn best_at(scratch: &[i64], f: Figures, at: Cell) -> BestProfit
+pub fn best_at(scratch: &[i64], f: Figures, at: Cell) -> Option<i64>
     requires { (Sound f) × (InTable f at) × (width f ≤ length scratch.now) }
     ensures { result ≡ told (in_front f scratch.now at) }
 {

@@ -1,21 +1,18 @@
--- Cutting a string at places: the first line or field, and those past its end.
-use mathlib.Core.Path.{◌≡◌, refl, ap, ◌∙◌}
+-- Cutting a string: the first line or field, and the others behind it.
+use mathlib.Core.Path.{◌≡◌, refl, sym, ap, ap₂, ◌∙◌}
 use mathlib.Core.Bool.{Bool, true, false}
 use mathlib.Core.List.{List, [], ◌∷◌}
-use Prim.Native.Nat.{ℕ, suc, ◌+◌, ◌-◌, ◌≤◌, ◌<◌}
+use Prim.Native.Nat.{ℕ, suc, ◌+◌, ◌≤◌, ◌<◌}
 use native.Mathlib.Omega.{arith}
-use lib.Dec.{leb}
-use lib.ListN.{length, take, drop, length-drop, drop_of_length-le}
-use lib.Seq.{drop-drop, take_all}
-use borrow.Author.Tests.{le-leb, lt-leb, leb-true, leb-false}
-use Rattle.tabletext.specs.declared.Class.{Class}
+use denote.Ref.{Bor}
+use lib.ListN.{length, take, drop, drop_of_length-le}
+use lib.Seq.{take_all}
+use Rattle.std.proofs.Common.{Option, Some, None}
+use Rattle.std.specs.Option.{unwrap_or}
 use Rattle.tabletext.specs.declared.Class.TheVariants.{Comma, LineEnd}
-use Rattle.tabletext.specs.declared.Pieces.{Pieces}
-use Rattle.tabletext.specs.declared.Pieces.TheVariants.{Fields, Lines}
 use Rattle.tabletext.specs.Bytes.{is_of}
-use Rattle.tabletext.specs.Pieces.{onto, lines_of, fields_of, pieces_of}
-use Rattle.tabletext.specs.Places.{end_of, mark_of, piece, starts_below, pieces_from, Cut}
-use Rattle.tabletext.proofs.Ends.{end-within}
+use Rattle.tabletext.specs.Pieces.{onto, lines_of, fields_of}
+use Rattle.tabletext.specs.Places.{end_of, IsCut, fields_of_rest}
 
 -- ---- the first piece of a whole string
 
@@ -54,54 +51,21 @@ field-last : (s : List ℕ) → length s ≤ end_of Comma s → fields_of s ≡ 
 field-last [] h = refl
 field-last (b ∷ bs) h = field-stop b bs (is_of Comma b) refl h (field-last bs)
 
--- ---- the pieces from a place on
+-- ---- a cut gives the first piece, and leaves the others
 
-pub pieces-start : (pieces : Pieces) (s : List ℕ) → pieces_from pieces s 0 ≡ pieces_of pieces s
-pieces-start Fields s = simp (le-leb 0 (length s) (omega arith))
-pieces-start Lines s = refl
+behind-end : (s : List ℕ) (n : ℕ) → drop (suc n) s ≡ drop (n + 1) s
+behind-end s n = let k : suc n ≡ n + 1 = omega arith in ap (λ (m : ℕ). drop m s) k
 
-pub pieces_end : (pieces : Pieces) (s : List ℕ) (at : ℕ) → starts_below pieces s ≤ at → pieces_from pieces s at ≡ []
-pieces_end Fields s at h = simp (lt-leb at (length s) (omega arith))
-pieces_end Lines s at h = ap lines_of (drop_of_length-le s {i = at} h)
+pub cut_field : (s piece : List ℕ) (behind : Option (Bor (List ℕ))) → IsCut Comma s piece behind → fields_of s ≡ piece ∷ fields_of_rest behind
+cut_field s piece None c =
+    field-last s c.1 ∙ ap (λ (p : List ℕ). p ∷ []) (sym (c.0 ∙ take_all (end_of Comma s) s c.1))
+cut_field s piece (Some others) c =
+    field-first s c.1.0 ∙ ap₂ (λ (p r : List ℕ). p ∷ fields_of r) (sym c.0) (behind-end s (end_of Comma s) ∙ sym c.1.1)
 
-module _ (mark : Class) (s : List ℕ) (at end : ℕ) (here : at ≤ length s) (is : end ≡ at + end_of mark (drop at s)) where
-  pub end-between : (at ≤ end) × (end ≤ length s)
-  end-between = omega (arith, end-within mark (drop at s), length-drop at s)
-
-  first : take (end_of mark (drop at s)) (drop at s) ≡ piece at end s
-  first = let k : end_of mark (drop at s) ≡ end - at = omega arith in ap (λ (n : ℕ). take n (drop at s)) k
-
-  others : drop (suc (end_of mark (drop at s))) (drop at s) ≡ drop (end + 1) s
-  others =
-      let k : at + suc (end_of mark (drop at s)) ≡ end + 1 = omega arith in
-      drop-drop (suc (end_of mark (drop at s))) at s ∙ ap (λ (n : ℕ). drop n s) k
-
-module _ (s : List ℕ) (at end : ℕ) where
-  fields-on : at ≤ length s → end ≡ at + end_of Comma (drop at s) → pieces_from Fields s at ≡ piece at end s ∷ pieces_from Fields s (end + 1)
-  fields-on here is = go (leb (end + 1) (length s)) refl
-    where
-      go : (t : Bool) → leb (end + 1) (length s) ≡ t → pieces_from Fields s at ≡ piece at end s ∷ pieces_from Fields s (end + 1)
-      go true q =
-          let k : end_of Comma (drop at s) < length (drop at s) = omega (arith, leb-true (end + 1) (length s) q, length-drop at s) in
-          simp (le-leb at (length s) here, q) (rw (← first Comma s at end here is, ← others Comma s at end here is) (field-first (drop at s) k))
-      go false q =
-          let k : length (drop at s) ≤ end_of Comma (drop at s) = omega (arith, leb-false (end + 1) (length s) q, length-drop at s) in
-          simp (le-leb at (length s) here, q) (rw (← first Comma s at end here is, take_all (end_of Comma (drop at s)) (drop at s) k) (field-last (drop at s) k))
-
-  lines-on : at < length s → end ≡ at + end_of LineEnd (drop at s) → pieces_from Lines s at ≡ piece at end s ∷ pieces_from Lines s (end + 1)
-  lines-on more is =
-      let here : at ≤ length s = omega arith in
-      rw (← first LineEnd s at end here is, ← others LineEnd s at end here is) (some-line (drop at s) (omega (arith, length-drop at s)))
-
--- a start lies within
-pub start-within : (pieces : Pieces) (s : List ℕ) (at : ℕ) → at < starts_below pieces s → at ≤ length s
-start-within Fields s at h = omega arith
-start-within Lines s at h = omega arith
-
-pub cut_at : (pieces : Pieces) (s : List ℕ) (at end : ℕ) → at < starts_below pieces s → end ≡ at + end_of (mark_of pieces) (drop at s) → Cut pieces s at end
-cut_at Fields s at end h is =
-    let w = end-between Comma s at end (omega arith) is in
-    record { starts = w.0; stops = w.1; on = fields-on s at end (omega arith) is }
-cut_at Lines s at end h is =
-    let w = end-between LineEnd s at end (omega arith) is in
-    record { starts = w.0; stops = w.1; on = lines-on s at end h is }
+pub cut_line : (s piece : List ℕ) (behind : Option (Bor (List ℕ))) (none : Bor (List ℕ)) → none.now ≡ [] → 0 < length s → IsCut LineEnd s piece behind
+    → lines_of s ≡ piece ∷ lines_of (unwrap_or behind none).now
+cut_line s piece None none empty some c =
+    let past : length s ≤ suc (end_of LineEnd s) = omega (arith, c.1) in
+    some-line s some ∙ ap₂ (λ (p r : List ℕ). p ∷ lines_of r) (sym c.0) (drop_of_length-le s {i = suc (end_of LineEnd s)} past ∙ sym empty)
+cut_line s piece (Some others) none empty some c =
+    some-line s some ∙ ap₂ (λ (p r : List ℕ). p ∷ lines_of r) (sym c.0) (behind-end s (end_of LineEnd s) ∙ sym c.1.1)

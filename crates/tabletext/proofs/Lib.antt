@@ -1,5 +1,7 @@
--- Laws: Alike (strings of bytes), Digits (numerals), Ends (where a piece ends), Cuts (the piece at a place), Walks (from piece to piece),
--- Groups (a table of names).
+-- Laws: Classes (when two are one), Alike (strings of bytes), Digits (numerals), Ends (where a piece ends), Cuts (the first piece, and the others),
+-- Chains (walks as chains of iterators), Walks (what a walk finds), Groups (a table of names).
+pub mod Classes
+pub mod Chains
 pub mod Alike
 pub mod Ends
 pub mod Digits

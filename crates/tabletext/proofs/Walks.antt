@@ -1,58 +1,49 @@
--- A walk over the pieces of a string, from cut to cut: what its loop keeps, a turn, a way out and the end.
--- One law each for a test of every piece (`if !test { return false; }`), for a count, and for a search with a walk beside it,
--- whatever the pieces are. A proof of such a loop cites four of them: start, on, a way out, end.
-use mathlib.Core.Path.{◌≡◌, refl, sym, ap, ap₂, ◌∙◌}
-use mathlib.Core.Bool.{Bool, true, false, ◌&&◌, not, cond}
+-- What a walk over pieces finds: how many pass a test, and the value under a name.
+use Rattle.std.proofs.Common.{Option, Some, None}
+use mathlib.Core.Path.{◌≡◌, refl}
+use mathlib.Core.Bool.{Bool, true, false, ◌||◌, cond}
 use mathlib.Core.List.{List, [], ◌∷◌}
-use Prim.Native.Nat.{ℕ, suc, ◌+◌, ◌≤◌, ◌<◌}
+use Prim.Native.Nat.{ℕ, suc, ◌+◌, ◌≤◌}
 use native.Mathlib.Omega.{arith}
-use lib.Dec.{eqb}
+use lib.Dec.{leb}
 use lib.ListN.{length}
-use borrow.Author.Tests.{not-true, not-false, eq-eqb, ne_eqb, eqb-true, eqb-false}
-use Rattle.lists.specs.Every.{every}
-use Rattle.tabletext.specs.declared.Pieces.{Pieces}
-use Rattle.tabletext.specs.declared.Pieces.TheVariants.{Fields}
+use borrow.Author.Tests.{le-leb}
+use Rattle.std.specs.List.{filter, find, list_any, zip}
+use Rattle.tabletext.specs.declared.Class.TheVariants.{Comma, LineEnd}
 use Rattle.tabletext.specs.declared.Value.{Value}
 use Rattle.tabletext.specs.declared.Value.TheVariants.{Malformed}
-use Rattle.tabletext.specs.Bytes.{same}
-use Rattle.tabletext.specs.Pieces.{fields_of, pieces_of}
-use Rattle.tabletext.specs.Places.{piece, starts_below, pieces_from, Cut}
-use Rattle.tabletext.specs.Tables.{tally, under}
+use Rattle.tabletext.specs.Bytes.{is_of, same}
+use Rattle.tabletext.specs.Pieces.{onto, fields_of, lines_of}
+use Rattle.tabletext.specs.Tables.{tally, occurs, under}
 use Rattle.tabletext.specs.Values.{value_of}
-use Rattle.tabletext.proofs.Cuts.{pieces-start, pieces_end}
 
--- ---- a test of every piece: those not yet passed decide
+-- ---- how many pieces there are
 
-pub record Testing (pieces : Pieces) (test : List ℕ → Bool) (s : List ℕ) (at : ℕ) : Type 0 where
-  pub within : at ≤ length s + 1
-  pub left : every test (pieces_from pieces s at) ≡ every test (pieces_of pieces s)
+onto-few : (b n : ℕ) (pieces : List (List ℕ)) → length pieces ≤ n + 1 → length (onto b pieces) ≤ suc n + 1
+onto-few b n [] h = omega arith
+onto-few b n (piece ∷ pieces) h = omega (arith, h)
 
-pub test-start : (pieces : Pieces) (test : List ℕ → Bool) (s : List ℕ) → Testing pieces test s 0
-test-start pieces test s = record { within = omega arith; left = ap (every test) (pieces-start pieces s) }
+pub fields_few : (s : List ℕ) → length (fields_of s) ≤ length s + 1
+fields_few [] = omega arith
+fields_few (b ∷ bs) = go (is_of Comma b) refl (fields_few bs)
+  where
+    go : (t : Bool) → is_of Comma b ≡ t → length (fields_of bs) ≤ length bs + 1 → length (fields_of (b ∷ bs)) ≤ suc (length bs) + 1
+    go true e below = rw e (omega (arith, below))
+    go false e below = rw e (onto-few b (length bs) (fields_of bs) below)
 
-module _ {pieces : Pieces} {test : List ℕ → Bool} {s : List ℕ} {at : ℕ} (w : Testing pieces test s at) where
-  module _ {end : ℕ} (cut : Cut pieces s at end) {t : Bool} (is : t ≡ test (piece at end s)) where
-    abbrev rest : Bool → Bool
-    rest b = b && every test (pieces_from pieces s (end + 1))
+onto-less : (b n : ℕ) (pieces : List (List ℕ)) → length pieces ≤ n → length (onto b pieces) ≤ suc n
+onto-less b n [] h = omega arith
+onto-less b n (piece ∷ pieces) h = omega (arith, h)
 
-    turn : rest t ≡ every test (pieces_of pieces s)
-    turn = sym (ap (every test) cut.on ∙ ap rest (sym is)) ∙ w.left
+pub lines_few : (s : List ℕ) → length (lines_of s) ≤ length s
+lines_few [] = omega arith
+lines_few (b ∷ bs) = go (is_of LineEnd b) refl (lines_few bs)
+  where
+    go : (t : Bool) → is_of LineEnd b ≡ t → length (lines_of bs) ≤ length bs → length (lines_of (b ∷ bs)) ≤ suc (length bs)
+    go true e below = rw e (omega (arith, below))
+    go false e below = rw e (onto-less b (length bs) (lines_of bs) below)
 
-    pub test_on : not t ≡ false → Testing pieces test s (end + 1)
-    test_on e = record { within = omega (arith, cut.stops); left = sym (ap rest (not-false t e)) ∙ turn }
-
-    pub test-fails : not t ≡ true → false ≡ every test (pieces_of pieces s)
-    test-fails e = sym (ap rest (not-true t e)) ∙ turn
-
-  pub test-end : starts_below pieces s ≤ at → true ≡ every test (pieces_of pieces s)
-  test-end h = sym (ap (every test) (pieces_end pieces s at h)) ∙ w.left
-
--- ---- a count of the pieces that pass a test
-
-pub record Counting (pieces : Pieces) (test : List ℕ → Bool) (s : List ℕ) (count at : ℕ) : Type 0 where
-  pub within : at ≤ length s + 1
-  pub small : count ≤ at
-  pub left : tally test (pieces_of pieces s) ≡ count + tally test (pieces_from pieces s at)
+-- ---- how many pieces pass a test
 
 -- what a piece adds to a count
 abbrev pub weight : Bool → ℕ
@@ -62,85 +53,39 @@ one_at_most : (t : Bool) → weight t ≤ 1
 one_at_most true = omega arith
 one_at_most false = omega arith
 
-pub count-start : (pieces : Pieces) (test : List ℕ → Bool) (s : List ℕ) → Counting pieces test s 0 0
-count-start pieces test s = record { within = omega arith; small = omega arith; left = omega (arith, ap (tally test) (pieces-start pieces s)) }
-
-module _ {pieces : Pieces} {test : List ℕ → Bool} {s : List ℕ} {count at : ℕ} (w : Counting pieces test s count at) where
-  pub count-on : {end : ℕ} → Cut pieces s at end → {t : Bool} → t ≡ test (piece at end s) → (one : ℕ) → one ≡ cond t 1 0
-      → Counting pieces test s (count + one) (end + 1)
-  count-on {end} cut {t} is one e =
-      record {
-        within = omega (arith, cut.stops);
-        small = omega (arith, cut.starts, one_at_most t, w.small);
-        left = omega (arith, ap (tally test) cut.on, ap weight is, w.left);
-      }
-
-  pub count-end : starts_below pieces s ≤ at → count ≡ tally test (pieces_of pieces s)
-  count-end h = omega (arith, ap (tally test) (pieces_end pieces s at h), w.left)
-
--- where every piece counts, the count is the length
-pub tally-all : (xs : List (List ℕ)) → tally (λ x. true) xs ≡ length xs
-tally-all [] = refl
-tally-all (x ∷ xs) = omega (arith, tally-all xs)
-
 pub tally-most : (test : List ℕ → Bool) (xs : List (List ℕ)) → tally test xs ≤ length xs
 tally-most test [] = omega arith
 tally-most test (x ∷ xs) = omega (arith, one_at_most (test x), tally-most test xs)
 
-one_more : (m n : ℕ) → eqb (1 + m) (suc n) ≡ eqb m n
-one_more m n = go (eqb m n) refl
+pub tally-filter : (test : List ℕ → Bool) (xs : List (List ℕ)) → length (filter test xs) ≡ tally test xs
+tally-filter test [] = refl
+tally-filter test (x ∷ xs) = go (test x) refl (tally-filter test xs)
   where
-    go : (t : Bool) → eqb m n ≡ t → eqb (1 + m) (suc n) ≡ t
-    go true e = eq-eqb (1 + m) (suc n) (omega (arith, eqb-true m n e))
-    go false e = ne_eqb (1 + m) (suc n) (λ q. eqb-false m n e (omega arith))
+    go : (t : Bool) → test x ≡ t → length (filter test xs) ≡ tally test xs → length (filter test (x ∷ xs)) ≡ tally test (x ∷ xs)
+    go true e below = rw e (omega (arith, below))
+    go false e below = rw e (omega (arith, below))
 
--- as many as there are pass where every one does
-pub tally-every : (test : List ℕ → Bool) (xs : List (List ℕ)) → eqb (tally test xs) (length xs) ≡ every test xs
-tally-every test [] = refl
-tally-every test (x ∷ xs) = go (test x) (tally-every test xs)
+some : (t : Bool) (n : ℕ) (below : Bool) → below ≡ leb 1 n → t || below ≡ leb 1 (weight t + n)
+some true n below e = rw (le-leb 1 (1 + n) (omega arith))
+some false n below e = let k : 0 + n ≡ n = omega arith in rw (k, e)
+
+-- a name occurs where any field is it
+pub any_occurs : (name : List ℕ) (fields : List (List ℕ)) → list_any (λ field. same field name) fields ≡ leb 1 (occurs name fields)
+any_occurs name [] = refl
+any_occurs name (field ∷ fields) = some (same field name) (occurs name fields) (list_any (λ f. same f name) fields) (any_occurs name fields)
+
+-- ---- the value under a name
+
+abbrev pub found_value : Option (List ℕ × List ℕ) → Value
+found_value None = Malformed
+found_value (Some pair) = value_of pair.1
+
+pub find_under : (name : List ℕ) (names values : List (List ℕ)) → found_value (find (λ pair. same pair.0 name) (zip names values)) ≡ under name names values
+find_under name [] values = refl
+find_under name (field ∷ fields) [] = refl
+find_under name (field ∷ fields) (value ∷ values) = go (same field name) (find_under name fields values)
   where
-    go : (t : Bool) → eqb (tally test xs) (length xs) ≡ every test xs → eqb (cond t 1 0 + tally test xs) (suc (length xs)) ≡ t && every test xs
-    go true below = one_more (tally test xs) (length xs) ∙ below
-    go false below = ne_eqb (0 + tally test xs) (suc (length xs)) (λ e. omega (arith, tally-most test xs))
-
--- ---- a search for a name, with a walk over the values beside it
-
-pub record Seeking (name names values : List ℕ) (at below : ℕ) : Type 0 where
-  pub within : at ≤ length names + 1
-  pub beside : below ≤ length values + 1
-  pub left : under name (pieces_from Fields names at) (pieces_from Fields values below) ≡ under name (fields_of names) (fields_of values)
-
-pub seek-start : (name names values : List ℕ) → Seeking name names values 0 0
-seek-start name names values =
-    record { within = omega arith; beside = omega arith; left = ap₂ (under name) (pieces-start Fields names) (pieces-start Fields values) }
-
-no-values : (name : List ℕ) (names : List (List ℕ)) → under name names [] ≡ Malformed
-no-values name [] = refl
-no-values name (field ∷ fields) = refl
-
-module _ {name names values : List ℕ} {at below : ℕ} (w : Seeking name names values at below) where
-  abbrev whole : Value
-  whole = under name (fields_of names) (fields_of values)
-
-  -- one of the two lines is at its end
-  pub seek-no-value : length values < below → Malformed ≡ whole
-  seek-no-value h =
-      sym (ap (under name (pieces_from Fields names at)) (pieces_end Fields values below (omega arith)) ∙ no-values name (pieces_from Fields names at)) ∙ w.left
-
-  pub seek-no-name : length names < at → Malformed ≡ whole
-  seek-no-name h =
-      sym (ap (λ (fields : List (List ℕ)). under name fields (pieces_from Fields values below)) (pieces_end Fields names at (omega arith))) ∙ w.left
-
-  module _ {end until : ℕ} (cut : Cut Fields names at end) (cut_below : Cut Fields values below until)
-      {t : Bool} (is : t ≡ same (piece at end names) name) where
-    abbrev choice : Bool → Value
-    choice b = cond b (value_of (piece below until values)) (under name (pieces_from Fields names (end + 1)) (pieces_from Fields values (until + 1)))
-
-    step : choice t ≡ whole
-    step = sym (ap₂ (under name) cut.on cut_below.on ∙ ap choice (sym is)) ∙ w.left
-
-    pub seek_found : t ≡ true → value_of (piece below until values) ≡ whole
-    seek_found e = sym (ap choice e) ∙ step
-
-    pub seek-on : t ≡ false → Seeking name names values (end + 1) (until + 1)
-    seek-on e = record { within = omega (arith, cut.stops); beside = omega (arith, cut_below.stops); left = sym (ap choice e) ∙ step }
+    go : (t : Bool) → found_value (find (λ pair. same pair.0 name) (zip fields values)) ≡ under name fields values
+        → found_value (cond t (Some (field, value)) (find (λ pair. same pair.0 name) (zip fields values))) ≡ cond t (value_of value) (under name fields values)
+    go true below = refl
+    go false below = below

@@ -1,5 +1,6 @@
 -- The bytes of a text, by class (specification 11).
-use Rattle.std.specs.Prelude.{Bool, true, false, ◌&&◌, cond, List, [], ◌∷◌, ℕ, leb, eqb}
+use Rattle.std.specs.Prelude.{Bool, ◌&&◌, cond, List, ℕ, leb, eqb}
+use Rattle.std.specs.Cmp.Lexicographic.{pointwise}
 use Rattle.tabletext.specs.declared.Class.{Class}
 use Rattle.tabletext.specs.declared.Class.TheVariants.{Digit, Letter, Comma, Minus, LineEnd, Refused}
 
@@ -27,9 +28,6 @@ rank Refused = 5
 unfoldable pub is_of : Class → ℕ → Bool
 is_of class b = eqb (rank (class_of b)) (rank class)
 
--- two strings of bytes are alike
+-- two strings of bytes are alike: as long, and equal byte by byte
 abbrev pub same : List ℕ → List ℕ → Bool
-same [] [] = true
-same [] (b ∷ bs) = false
-same (a ∷ rest) [] = false
-same (a ∷ rest) (b ∷ bs) = eqb a b && same rest bs
+same a b = pointwise eqb a b

@@ -1,8 +1,6 @@
 -- A text is lines, a line is fields (specification 11).
 use Rattle.std.specs.Prelude.{Bool, false, cond, List, [], ◌∷◌, ℕ}
 use Rattle.tabletext.specs.declared.Class.TheVariants.{Comma, LineEnd}
-use Rattle.tabletext.specs.declared.Pieces.{Pieces}
-use Rattle.tabletext.specs.declared.Pieces.TheVariants.{Fields, Lines}
 use Rattle.tabletext.specs.Bytes.{is_of}
 
 -- a byte in front of the first piece
@@ -25,7 +23,3 @@ last_closed (b ∷ c ∷ bs) = last_closed (c ∷ bs)
 abbrev pub fields_of : List ℕ → List (List ℕ)
 fields_of [] = [] ∷ []
 fields_of (b ∷ bs) = cond (is_of Comma b) ([] ∷ fields_of bs) (onto b (fields_of bs))
-
-abbrev pub pieces_of : Pieces → List ℕ → List (List ℕ)
-pieces_of Fields s = fields_of s
-pieces_of Lines s = lines_of s

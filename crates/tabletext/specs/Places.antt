@@ -1,9 +1,9 @@
--- Places in a string of bytes: where a piece ends, and the pieces from a place on.
-use Rattle.std.specs.Prelude.{◌≡◌, cond, List, [], ◌∷◌, ℕ, suc, ◌+◌, ◌-◌, ◌≤◌, leb, length, take, drop}
+-- Where a string of bytes is cut, and what a walk from piece to piece has left.
+use Rattle.std.specs.Prelude.{◌≡◌, cond, List, [], ◌∷◌, ℕ, suc, ◌+◌, ◌≤◌, ◌<◌, length, take, drop, map, Option, Some, None, MatchOption}
+use denote.Ref.{Bor}
 use Rattle.tabletext.specs.declared.Class.{Class}
-use Rattle.tabletext.specs.declared.Class.TheVariants.{Comma, LineEnd}
-use Rattle.tabletext.specs.declared.Pieces.{Pieces}
-use Rattle.tabletext.specs.declared.Pieces.TheVariants.{Fields, Lines}
+use Rattle.tabletext.specs.declared.walking.Fields.{Fields}
+use Rattle.tabletext.specs.declared.walking.Lines.{Lines}
 use Rattle.tabletext.specs.Bytes.{is_of}
 use Rattle.tabletext.specs.Pieces.{lines_of, fields_of}
 
@@ -12,26 +12,24 @@ abbrev pub end_of : Class → List ℕ → ℕ
 end_of mark [] = 0
 end_of mark (b ∷ bs) = cond (is_of mark b) 0 (suc (end_of mark bs))
 
-abbrev pub mark_of : Pieces → Class
-mark_of Fields = Comma
-mark_of Lines = LineEnd
+-- a string is cut at the first byte of a class, or is one piece with nothing behind it
+abbrev pub IsCut : Class → List ℕ → List ℕ → Option (Bor (List ℕ)) → Type 0
+IsCut mark s piece behind =
+    (piece ≡ take (end_of mark s) s)
+    × MatchOption behind (length s ≤ end_of mark s) (λ others. (end_of mark s < length s) × (others.now ≡ drop (end_of mark s + 1) s))
 
--- from a place up to another
-abbrev pub piece : ℕ → ℕ → List ℕ → List ℕ
-piece at end s = take (end - at) (drop at s)
+abbrev pub fields_of_rest : Option (Bor (List ℕ)) → List (List ℕ)
+fields_of_rest None = []
+fields_of_rest (Some rest) = fields_of rest.now
 
--- a piece starts at a place below this: an empty line has a field, an empty text no line
-abbrev pub starts_below : Pieces → List ℕ → ℕ
-starts_below Fields s = length s + 1
-starts_below Lines s = length s
+-- the fields that a walk has still to give
+abbrev pub fields_left : Fields → List (List ℕ)
+fields_left it = fields_of_rest it.rest
 
--- none past the end
-abbrev pub pieces_from : Pieces → List ℕ → ℕ → List (List ℕ)
-pieces_from Fields s at = cond (leb at (length s)) (fields_of (drop at s)) []
-pieces_from Lines s at = lines_of (drop at s)
+-- the lines that a walk has still to give
+abbrev pub lines_left : Lines → List (List ℕ)
+lines_left it = lines_of it.rest.now
 
--- the first piece from a place on lies between two places, and the others are those from behind its end on
-pub record Cut (pieces : Pieces) (s : List ℕ) (at end : ℕ) : Type 0 where
-  pub starts : at ≤ end
-  pub stops : end ≤ length s
-  pub on : pieces_from pieces s at ≡ piece at end s ∷ pieces_from pieces s (end + 1)
+-- the groups of a table of names, a line each
+abbrev pub groups_of : List ℕ → List (List (List ℕ))
+groups_of s = map fields_of (lines_of s)

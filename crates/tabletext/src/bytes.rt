@@ -1,9 +1,9 @@
-// Bytes by class, and strings of them.
+// Bytes by class, and the first piece of a string of them.
 
-ghost use Rattle.std.specs.Prelude.{◌≡◌, ◌+◌, ◌≤◌, length, drop};
+ghost use Rattle.std.specs.Prelude.{◌≡◌};
 ghost use Rattle.lists.specs.Every.{every};
-ghost use Rattle.tabletext.specs.Bytes.{class_of, rank, is_of, same};
-ghost use Rattle.tabletext.specs.Places.{end_of};
+ghost use Rattle.tabletext.specs.Bytes.{class_of, is_of};
+ghost use Rattle.tabletext.specs.Places.{IsCut};
 
 use crate::Class;
 
@@ -12,77 +12,34 @@ pub fn class_of(b: u8) -> Class
     ensures { result ≡ class_of b }
 {
     match b {
-        48..=57 => Class::Digit,
-        97..=122 => Class::Letter,
-        44 => Class::Comma,
-        45 => Class::Minus,
-        10 => Class::LineEnd,
+        b'0'..=b'9' => Class::Digit,
+        b'a'..=b'z' => Class::Letter,
+        b',' => Class::Comma,
+        b'-' => Class::Minus,
+        b'\n' => Class::LineEnd,
         _ => Class::Refused,
-    }
-}
-
-// Classes as numbers, to compare them.
-fn rank_of(class: Class) -> u64
-    ensures { result ≡ rank class }
-{
-    match class {
-        Class::Digit => 0,
-        Class::Letter => 1,
-        Class::Comma => 2,
-        Class::Minus => 3,
-        Class::LineEnd => 4,
-        Class::Refused => 5,
     }
 }
 
 pub fn is_of(class: Class, b: u8) -> bool
     ensures { result ≡ is_of class b }
 {
-    rank_of(class_of(b)) == rank_of(class)
+    class_of(b) == class
 }
 
 // Every byte is of the class.
 pub fn all_of(class: Class, s: &[u8]) -> bool
     ensures { result ≡ every (is_of class) s.now }
 {
-    let mut i = 0;
-    while i < s.len() {
-        if !is_of(class, s[i]) {
-            return false;
-        }
-        i += 1;
-    }
-    true
+    s.iter().all(|b| is_of(class, *b))
 }
 
-// The place of the first byte of the class from `at` on, or the length.
-pub fn end_from(s: &[u8], at: usize, mark: Class) -> usize
-    requires { at ≤ length s.now }
-    ensures { result ≡ at + end_of mark (drop at s.now) }
+// What stands before the first byte of the class, and what stands behind it, if there is one.
+pub fn cut(s: &[u8], mark: Class) -> (&[u8], Option<&[u8]>)
+    ensures { IsCut mark s.now result.0.now result.1 }
 {
-    let mut i = at;
-    while i < s.len() {
-        if is_of(mark, s[i]) {
-            return i;
-        }
-        i += 1;
+    match s.iter().position(|b| is_of(mark, *b)) {
+        Some(end) => (&s[..end], Some(&s[end + 1..])),
+        None => (s, None),
     }
-    i
-}
-
-// Of one length, with the same bytes.
-pub fn same_as(a: &[u8], b: &[u8]) -> bool
-    ensures { result ≡ same a.now b.now }
-{
-    if a.len() != b.len() {
-        return false;
-    }
-    let mut i = 0;
-    while i < a.len() {
-        if a[i] != b[i] {
-            return false;
-        }
-        i += 1;
-    }
-    true
 }

@@ -1,76 +1,68 @@
-// Walks from piece to piece. A walk goes from a place to the mark after it, with no special case for the last piece.
-// A new count is a variant of `Counted`, its clause in `Walks.antt` and an arm here; a new test is one of `Asked`, with its arm in `tables`.
+// Walks from piece to piece: over the fields of a line, which commas part, and over the lines of a text, which line ends close.
 
-ghost use Rattle.std.specs.Prelude.{◌≡◌, cond, ◌<◌, length};
-ghost use Rattle.tabletext.specs.Pieces.{pieces_of};
-ghost use Rattle.tabletext.specs.Places.{mark_of, starts_below, Cut};
-ghost use Rattle.tabletext.specs.Tables.{tally};
-ghost use Rattle.tabletext.specs.Walks.{counts};
+ghost use Rattle.std.specs.Prelude.{◌≡◌};
+ghost use Rattle.std.specs.Iterator.{YieldsFirstRef, item_count};
+ghost use Rattle.tabletext.specs.Pieces.{fields_of, lines_of};
+ghost use Rattle.tabletext.specs.Places.{fields_left, lines_left};
 
-use crate::{Class, Counted, Pieces, bytes, values};
+use crate::{Class, bytes};
 
-// A piece starts at a place below this.
-pub fn starts_below(pieces: Pieces, s: &[u8]) -> usize
-    ensures { result ≡ starts_below pieces s.now }
-{
-    match pieces {
-        Pieces::Fields => s.len() + 1,
-        Pieces::Lines => s.len(),
+// An empty line has one field, which is empty: so `None` stands for no field left.
+#[derive(Drop)]
+pub struct Fields<'a> {
+    rest: Option<&'a [u8]>,
+}
+
+// An empty text has no line: so the text of the lines that are left says when the walk is at its end. A type for both walks would have to
+// know which of the two it is; what they share is `bytes::cut`.
+#[derive(Drop)]
+pub struct Lines<'a> {
+    pub rest: &'a [u8],
+}
+
+impl<'a> Fields<'a> {
+    pub fn of(line: &'a [u8]) -> Fields<'a>
+        ensures { fields_left result ≡ fields_of line.now }
+    {
+        Fields { rest: Some(line) }
     }
 }
 
-// The byte that ends a piece.
-fn mark_of(pieces: Pieces) -> Class
-    ensures { result ≡ mark_of pieces }
-{
-    match pieces {
-        Pieces::Fields => Class::Comma,
-        Pieces::Lines => Class::LineEnd,
+impl<'a> Lines<'a> {
+    pub fn of(text: &'a [u8]) -> Lines<'a>
+        ensures { lines_left result ≡ lines_of text.now }
+    {
+        Lines { rest: text }
     }
 }
 
-// Where the piece that starts at a place ends.
-pub fn piece_end(pieces: Pieces, s: &[u8], at: usize) -> usize
-    requires { at < starts_below pieces s.now }
-    ensures { Cut pieces s.now at result }
-{
-    bytes::end_from(s, at, mark_of(pieces))
-}
+impl<'a> Iterator for Fields<'a> {
+    type Item = &'a [u8];
 
-pub fn pieces_in(pieces: Pieces, s: &[u8]) -> usize
-    ensures { result ≡ length (pieces_of pieces s.now) }
-{
-    count(pieces, Counted::All, s, b"")
-}
+    ghost next_gives = { YieldsFirstRef fields_left };
 
-// How many pieces count; `name` is what those that are alike are like.
-pub fn count(pieces: Pieces, counted: Counted, s: &[u8], name: &[u8]) -> usize
-    ensures { result ≡ tally (counts counted name.now) (pieces_of pieces s.now) }
-{
-    let below = starts_below(pieces, s);
-    let mut total = 0;
-    let mut at = 0;
-    while at < below {
-        let end = piece_end(pieces, s, at);
-        total += one_if(counts_piece(counted, &s[at..end], name));
-        at = end + 1;
-    }
-    total
-}
+    ghost remaining = { item_count fields_left };
 
-// All that is counted, so that one walk serves every count.
-fn counts_piece(counted: Counted, s: &[u8], name: &[u8]) -> bool
-    ensures { result ≡ counts counted name.now s.now }
-{
-    match counted {
-        Counted::All => true,
-        Counted::Values => values::is_value(s),
-        Counted::Alike => bytes::same_as(s, name),
+    fn next(&mut self) -> Option<&'a [u8]> {
+        let (field, rest) = bytes::cut(self.rest?, Class::Comma);
+        self.rest = rest;
+        Some(field)
     }
 }
 
-fn one_if(test: bool) -> usize
-    ensures { result ≡ cond test 1 0 }
-{
-    if test { 1 } else { 0 }
+impl<'a> Iterator for Lines<'a> {
+    type Item = &'a [u8];
+
+    ghost next_gives = { YieldsFirstRef lines_left };
+
+    ghost remaining = { item_count lines_left };
+
+    fn next(&mut self) -> Option<&'a [u8]> {
+        if self.rest.is_empty() {
+            return None;
+        }
+        let (line, rest) = bytes::cut(self.rest, Class::LineEnd);
+        self.rest = rest.unwrap_or(b"");
+        Some(line)
+    }
 }

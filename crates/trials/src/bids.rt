@@ -3,7 +3,7 @@
 
 ghost use Rattle.std.specs.Prelude.{◌≤◌};
 
-use curves::{CurveInputs, Curved};
+use curves::CurveInputs;
 use enumeration::printing::{cells, line, text};
 use std::io;
 
@@ -68,14 +68,15 @@ fn try_points(
     let mut tos = [0u64; 10];
     let mut prices = [0i64; 10];
     match curves::curve_into(inputs, levels, rates, &mut froms, &mut tos, &mut prices) {
-        Curved::Refused(cause) => {
+        Err(cause) => {
             text(rt, name)?;
-            line(rt, b" refused,", commitment::number_of(cause))
+            line(rt, b" refused,", u64::from(cause))
         }
-        Curved::Segments(count) => print_segments(rt, name, count, &froms, &tos, &prices),
+        Ok(count) => print_segments(rt, name, count, &froms, &tos, &prices),
     }
 }
 
+// As many as there are, from the front of the three slices.
 fn print_segments(
     rt: &impl Print,
     name: &[u8],
@@ -84,45 +85,16 @@ fn print_segments(
     tos: &[u64],
     prices: &[i64],
 ) -> io::Result<()> {
-    for i in 0..count {
-        print_segment(rt, name, i, froms, tos, prices)?;
+    for ((from, to), price) in froms.iter().zip(tos).zip(prices).take(count) {
+        text(rt, name)?;
+        cells(rt, &[*from, *to])?;
+        line(rt, b",", *price)?;
     }
     Ok(())
-}
-
-// Each place is tested, so that nothing need be known of the count.
-fn print_segment(
-    rt: &impl Print,
-    name: &[u8],
-    i: usize,
-    froms: &[u64],
-    tos: &[u64],
-    prices: &[i64],
-) -> io::Result<()> {
-    if i < froms.len() {
-        if i < tos.len() {
-            if i < prices.len() {
-                text(rt, name)?;
-                cells(rt, &[froms[i], tos[i]])?;
-                print_price(rt, prices[i])?;
-            }
-        }
-    }
-    Ok(())
-}
-
-// With its sign, and a line end.
-fn print_price(rt: &impl Print, price: i64) -> io::Result<()> {
-    let size = integers::magnitude(price);
-    if price < 0 {
-        line(rt, b",-", size)
-    } else {
-        line(rt, b",", size)
-    }
 }
 
 // The price of heat over so many MW at the bid of the example. Cents are counted up by two, so that the count is even, and what is left is nearest to
-// none, one or two: half a cent goes to none, one and a half to two.
+// none, one or two: half a cent goes to none, one and a half to two. A while: division is what this is held beside.
 fn counted_up(heat: u64, mw: u64) -> u64
     requires { (heat ≤ 25000000) × ((1 ≤ mw) × (mw ≤ 500)) }
 {

@@ -3,7 +3,7 @@
 use calendar::Date;
 use checking::clock;
 use enumeration::printing::{line, row, text};
-use std::io;
+use std::{array, io};
 
 // From a midnight past that of the day after.
 const HOURS: usize = 26;
@@ -36,19 +36,13 @@ fn try_date(rt: &impl Print, name: &[u8], date: Date) -> io::Result<()> {
 }
 
 fn hours_from(date: Date) -> [u64; HOURS] {
-    let mut hours = [0u64; HOURS];
-    let mut i = 0;
-    while i < HOURS {
-        hours[i] = clock::hour_in(clock::clock_hour(date, (4 * i + 1) as u64));
-        i += 1;
-    }
-    hours
+    array::from_fn(|i| clock::clock_hour(date, (4 * i + 1) as u64).unwrap_or(0))
 }
 
 fn try_interval(rt: &impl Print, name: &[u8], date: Date, interval: u64) -> io::Result<()> {
     line(
         rt,
         name,
-        clock::number_of(clock::clock_hour(date, interval)),
+        commitment::number_in(&clock::clock_hour(date, interval)),
     )
 }

@@ -1,6 +1,6 @@
 // The cost figures: C10 to C12, a unit of 1 MW, figures at a half, the tops of all ranges, and each cause for which there are no figures.
 
-use costs::{CostInputs, Costed};
+use costs::CostInputs;
 use enumeration::printing::{line, row, text};
 use std::io;
 
@@ -55,8 +55,8 @@ fn try_inputs(
 ) -> io::Result<()> {
     text(rt, name)?;
     match costs::figures(inputs, mws, heats) {
-        Costed::Refused(cause) => line(rt, b" refused,", commitment::number_of(cause)),
-        Costed::Figures(figures) => row(rt, &[figures.vec, figures.suc, figures.mlc]),
+        Err(cause) => line(rt, b" refused,", u64::from(cause)),
+        Ok(figures) => row(rt, &[figures.vec, figures.suc, figures.mlc]),
     }
 }
 
@@ -81,41 +81,45 @@ fn gas_unit() -> CostInputs {
 }
 
 fn with_allowances(unit: CostInputs) -> CostInputs {
-    let mut inputs = unit;
-    inputs.gmc = 50;
-    inputs.allowance = 1300;
-    inputs.rate = 531148;
-    inputs
+    CostInputs {
+        gmc: 50,
+        allowance: 1300,
+        rate: 531148,
+        ..unit
+    }
 }
 
 fn with_start(unit: CostInputs) -> CostInputs {
-    let mut inputs = unit;
-    inputs.fuel = 100;
-    inputs.aux = 2;
-    inputs.minutes = 30;
-    inputs.gmc = 50;
-    inputs
+    CostInputs {
+        fuel: 100,
+        aux: 2,
+        minutes: 30,
+        gmc: 50,
+        ..unit
+    }
 }
 
 // The same span of 80 MW, above 1 MW.
 fn of_one_mw(unit: CostInputs) -> CostInputs {
-    let mut inputs = unit;
-    inputs.block = 1;
-    inputs.pmin = 1;
-    inputs.pmax = 81;
-    inputs
+    CostInputs {
+        block: 1,
+        pmin: 1,
+        pmax: 81,
+        ..unit
+    }
 }
 
 // 1 MW: a start costs half the grid charge, minimum load the charge and half the gas price.
 fn at_halves(gas: u64, gmc: u64) -> CostInputs {
-    let mut inputs = of_one_mw(gas_unit());
-    inputs.pmax = 1;
-    inputs.gas = gas;
-    inputs.om = 0;
-    inputs.gmc = gmc;
-    inputs.min_heat = 500;
-    inputs.minutes = 60;
-    inputs
+    CostInputs {
+        pmax: 1,
+        gas,
+        om: 0,
+        gmc,
+        min_heat: 500,
+        minutes: 60,
+        ..of_one_mw(gas_unit())
+    }
 }
 
 // Every input at the top of its range; 500 blocks are of 1 MW.
@@ -140,7 +144,5 @@ fn tops() -> CostInputs {
 }
 
 fn with_pmin(unit: CostInputs, pmin: u64) -> CostInputs {
-    let mut inputs = unit;
-    inputs.pmin = pmin;
-    inputs
+    CostInputs { pmin, ..unit }
 }

@@ -4,12 +4,9 @@
 ghost use Rattle.std.specs.Prelude.{◌≡◌, ◌≤◌, length, take};
 ghost use Rattle.std.specs.Io.{ReadsAtMost};
 
-use assessment::Assessed;
-use commitment::{Outcomes, Permit, UnitRecord};
+use commitment::{Outcomes, UnitRecord, Window};
 use enumeration::numbers::one_if;
 use enumeration::printing::{line, text};
-use listing::HourWord;
-use planner::Valued;
 use std::env::{Env, FillError};
 use std::io::Read;
 use std::rt::Files;
@@ -59,7 +56,7 @@ fn opened<R: Files>(rt: &R, path: &[u8]) -> io::Result<R::File> {
     }
 }
 
-// Reads until the file ends or the slice is full.
+// Reads until the file ends or the slice is full. A while: each turn goes on by as much as was read.
 fn read_full(file: &mut impl Read, bytes: &mut [u8]) -> io::Result<usize>
     ensures { ReadsAtMost result bytes.new }
 {
@@ -94,8 +91,8 @@ pub fn try_case(
     scratch: &mut [i64],
 ) -> io::Result<()> {
     match planner::value(unit, prices, &mut *scratch) {
-        Valued::Refused(cause) => refused(rt, commitment::number_of(cause)),
-        Valued::Outcomes(outcomes) => try_plan(rt, unit, prices, outcomes, scratch),
+        Err(cause) => refused(rt, u64::from(cause)),
+        Ok(outcomes) => try_plan(rt, unit, prices, outcomes, scratch),
     }
 }
 
@@ -117,16 +114,12 @@ fn try_plan(
         &mut number,
         &mut profit,
     );
-    let permit = unit.permit;
-    planned(rt, &plan[..], profit, outcomes, word_of(permit))?;
+    planned(rt, &plan[..], profit, outcomes, word_of(unit.permit))?;
     hand_in(rt, unit, prices, &plan[..], profit)
 }
 
-fn word_of(permit: Permit) -> HourWord {
-    match permit {
-        Permit::AnyHour => HourWord::None,
-        Permit::Within(window) => HourWord::Word(window.word),
-    }
+fn word_of(permit: Option<Window>) -> Option<u64> {
+    permit.map(|window| window.word)
 }
 
 fn planned(
@@ -134,7 +127,7 @@ fn planned(
     schedule: &[u64],
     profit: i64,
     outcomes: Outcomes,
-    word: HourWord,
+    word: Option<u64>,
 ) -> io::Result<()> {
     let mut out = [0u8; 32768];
     let bytes = put_listing(schedule, profit, outcomes, word, &mut out);
@@ -146,13 +139,13 @@ fn put_listing(
     schedule: &[u64],
     profit: i64,
     outcomes: Outcomes,
-    word: HourWord,
+    word: Option<u64>,
     out: &mut [u8],
 ) -> usize
     ensures within { result ≤ length out.new }
     ensures front { result ≡ length (take result out.new) }
 {
-    listing::bytes_in(listing::write_listing(schedule, profit, outcomes, word, out))
+    listing::write_listing(schedule, profit, outcomes, word, out).unwrap_or(0)
 }
 
 fn refused(rt: &impl Print, number: u64) -> io::Result<()> {
@@ -165,7 +158,7 @@ fn put_refusal(number: u64, out: &mut [u8]) -> usize
     ensures within { result ≤ length out.new }
     ensures front { result ≡ length (take result out.new) }
 {
-    listing::bytes_in(listing::write_refusal(number, out))
+    listing::write_refusal(number, out).unwrap_or(0)
 }
 
 // A schedule handed in: whether it earns the profit named, or the number of its refusal.
@@ -177,11 +170,7 @@ pub fn hand_in(
     profit: i64,
 ) -> io::Result<()> {
     match assessment::assess(unit, prices, schedule) {
-        Assessed::Refused(cause) => {
-            line(rt, b"handed in and refused,", commitment::number_of(cause))
-        }
-        Assessed::Profit(earned) => {
-            line(rt, b"handed in with that profit,", one_if(earned == profit))
-        }
+        Err(cause) => line(rt, b"handed in and refused,", u64::from(cause)),
+        Ok(earned) => line(rt, b"handed in with that profit,", one_if(earned == profit)),
     }
 }

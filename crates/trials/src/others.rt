@@ -1,8 +1,8 @@
 // C1 besides its plan: the cells that it needs, slices too short, schedules handed in, and those two where only hour 0 is permitted. The cells of other cases.
 
 use crate::files::{contents, hand_in, try_case};
-use casefile::CaseRead;
-use commitment::UnitRecord;
+use casefile::Case;
+use commitment::{Cause, UnitRecord};
 use enumeration::lending;
 use enumeration::numbers::one_if;
 use enumeration::printing::{line, text};
@@ -27,7 +27,11 @@ fn unit_in(rt: &(impl Files + Print), path: &[u8], prices: &mut [i64]) -> io::Re
     Ok(casefile::unit_of(answer))
 }
 
-fn read_from(rt: &(impl Files + Print), path: &[u8], prices: &mut [i64]) -> io::Result<CaseRead> {
+fn read_from(
+    rt: &(impl Files + Print),
+    path: &[u8],
+    prices: &mut [i64],
+) -> io::Result<Result<Case, Cause>> {
     let mut bytes = [0u8; 512];
     let size = contents(rt, path, &mut bytes)?;
     Ok(casefile::read_into(&bytes[..size], prices))
@@ -36,7 +40,11 @@ fn read_from(rt: &(impl Files + Print), path: &[u8], prices: &mut [i64]) -> io::
 fn try_prices(rt: &(impl Files + Print)) -> io::Result<()> {
     let mut short = [0i64; 5];
     let answer = read_from(rt, b"c1.csv", &mut short)?;
-    line(rt, b"c1 read into 5 prices,", casefile::number_of(answer))
+    line(
+        rt,
+        b"c1 read into 5 prices,",
+        commitment::number_in(&answer),
+    )
 }
 
 // The long table, two layers with cells beyond them, two layers, and too few.
@@ -108,7 +116,7 @@ fn try_two_layers(rt: &(impl Files + Print)) -> io::Result<()> {
 // With room for six intervals, the most that these cases have.
 fn planned(unit: UnitRecord, prices: &[i64], scratch: &mut [i64]) -> u64 {
     let mut schedule = [0u64; 6];
-    planner::contents::planned_number(planner::plan_into(unit, prices, scratch, &mut schedule))
+    commitment::number_in(&planner::plan_into(unit, prices, scratch, &mut schedule))
 }
 
 fn try_schedules(rt: &impl Print, unit: UnitRecord, prices: &[i64]) -> io::Result<()> {
@@ -118,7 +126,7 @@ fn try_schedules(rt: &impl Print, unit: UnitRecord, prices: &[i64]) -> io::Resul
     line(
         rt,
         b"c1 planned into 5 entries,",
-        planner::contents::planned_number(answer),
+        commitment::number_in(&answer),
     )?;
     hand_in(rt, unit, prices, &[0, 20, 20, 10, 20], 400000)?;
     hand_in(rt, unit, prices, &[0, 20, 20, 10, 20, 20], 400000)?;

@@ -1,12 +1,12 @@
 -- What a first layer tells: the best profit of every run, and whether there is a plan.
+use Rattle.std.specs.Prelude.{None, Some}
 use mathlib.Core.Path.{◌≡◌, sym, ◌∙◌}
 use mathlib.Core.List.{List}
 use Prim.Native.Nat.{ℕ, ◌≤◌, ◌<◌}
 use native.Mathlib.Omega.{arith}
 use lib.IntN.{ℤ, nat_abs}
 use lib.ListN.{length}
-use Rattle.commitment.specs.declared.BestProfit.{BestProfit}
-use Rattle.commitment.specs.declared.BestProfit.TheVariants.{Nothing, Profit}
+use Rattle.commitment.specs.Types.{BestProfit}
 use Rattle.commitment.specs.declared.Limits.{Limits}
 use Rattle.commitment.specs.declared.UnitRecord.{UnitRecord}
 use Rattle.commitment.specs.Best.{best, profit_of}
@@ -27,8 +27,8 @@ use Rattle.geometry.proofs.Telling.{front-told}
 use Rattle.valuation.specs.Telling.{amount, most_amount, Told}
 
 stored-small : (n : ℕ) (v : BestProfit) (r : ℤ) → n ≤ most_intervals → Holds n v r → nat_abs (amount v) < most_amount
-stored-small n Nothing r h k = omega arith
-stored-small n (Profit p) r h k = omega (arith, k.1)
+stored-small n None r h k = omega arith
+stored-small n (Some p) r h k = omega (arith, k.1)
 
 -- of a case in order, the first layer at the front
 pub told_in : (u : UnitRecord) (prices cells : List ℤ) → InOrder u (length prices) → width (figures_of u (length prices)) ≤ length cells
@@ -70,6 +70,6 @@ module _ (u : UnitRecord) (prices cells : List ℤ) (t : Told u prices cells) wh
   opening-plan = sym (best-cell u unit-ranged prices)
 
   -- where there is a schedule, the opening cell has a plan
-  pub opening-some : (profit_of (best u prices) ≡ Nothing → ⊥)
-      → value_at (figures_of u (length prices)) anywhere (quarters_of u prices) (opening_cell u (length prices)) ≡ Nothing → ⊥
+  pub opening-some : (profit_of (best u prices) ≡ None → ⊥)
+      → value_at (figures_of u (length prices)) anywhere (quarters_of u prices) (opening_cell u (length prices)) ≡ None → ⊥
   opening-some some none = some (profit-under u unit-ranged prices u.limits (under-itself u.limits) ∙ none)

@@ -1,7 +1,6 @@
 -- What the functions that look up a run ask: a first layer that tells the best profit of every cell.
-use Rattle.std.specs.Prelude.{◌≡◌, List, ℕ, ◌^◌, ◌≤◌, ◌<◌, ℤ, pos, nat_abs, length}
-use Rattle.commitment.specs.declared.BestProfit.{BestProfit}
-use Rattle.commitment.specs.declared.BestProfit.TheVariants.{Nothing, Profit}
+use Rattle.std.specs.Prelude.{◌≡◌, List, ℕ, ◌^◌, ◌≤◌, ◌<◌, ℤ, pos, nat_abs, length, Some, None}
+use Rattle.commitment.specs.Types.{BestProfit}
 use Rattle.commitment.specs.declared.UnitRecord.{UnitRecord}
 use Rattle.commitment.specs.Ranges.{InOrder}
 use Rattle.optimality.specs.declared.Cell.{Cell}
@@ -13,8 +12,8 @@ use Rattle.geometry.specs.Layers.{told, in_front}
 
 -- a profit, 0 where there is none, and the most that the difference of two leaves room for
 abbrev pub amount : BestProfit → ℤ
-amount Nothing = pos 0
-amount (Profit p) = p
+amount None = pos 0
+amount (Some p) = p
 
 abbrev pub most_amount : ℕ
 most_amount = 2 ^ 61

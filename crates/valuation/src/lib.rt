@@ -2,15 +2,14 @@
 
 #![tactic(auto)]
 
-ghost use Rattle.std.specs.Prelude.{◌≡◌, ◌<◌, nat_abs};
-ghost use Rattle.commitment.specs.declared.Limit.TheVariants.{At};
+ghost use Rattle.std.specs.Prelude.{◌≡◌, ◌<◌, nat_abs, Some};
 ghost use Rattle.commitment.specs.Best.{best, profit_of};
 ghost use Rattle.commitment.specs.Limits.{limit_for, limited};
 ghost use Rattle.commitment.specs.Valuing.{run_at, gap_between, gap_at, outcome_of, outcomes_of};
 ghost use Rattle.optimality.specs.Runs.{AtMost, Under};
 ghost use Rattle.valuation.specs.Telling.{ToldBy, amount, most_amount};
 
-use commitment::{BestProfit, Limit, Limitation, Limits, Outcome, Outcomes, UnitRecord};
+use commitment::{Limitation, Limits, Outcome, Outcomes, UnitRecord};
 use optimality::Figures;
 
 // All from one first layer: a run with less is a cell of it with less left.
@@ -18,10 +17,11 @@ pub fn outcomes_in(unit: UnitRecord, f: Figures, prices: &[i64], cells: &[i64]) 
     requires { ToldBy f unit prices.now cells.now }
     ensures { result ≡ outcomes_of unit prices.now }
 {
-    let starts = outcome_in(unit, f, prices, cells, Limitation::Starts);
-    let hours = outcome_in(unit, f, prices, cells, Limitation::Hours);
-    let mwh = outcome_in(unit, f, prices, cells, Limitation::Mwh);
-    Outcomes { starts, hours, mwh }
+    Outcomes {
+        starts: outcome_in(unit, f, prices, cells, Limitation::Starts),
+        hours: outcome_in(unit, f, prices, cells, Limitation::Hours),
+        mwh: outcome_in(unit, f, prices, cells, Limitation::Mwh),
+    }
 }
 
 // What is not limited is not valued.
@@ -35,11 +35,9 @@ fn outcome_in(
     requires { ToldBy f unit prices.now cells.now }
     ensures { result ≡ outcome_of unit prices.now which }
 {
-    let limits = unit.limits;
-    let limit = commitment::limit_for(limits, which);
-    match limit {
-        Limit::None => Outcome::None,
-        Limit::At(figure) => run_pair(unit, f, prices, cells, which, budgets::lowered(figure)),
+    match commitment::limit_for(unit.limits, which) {
+        None => Outcome::None,
+        Some(figure) => run_pair(unit, f, prices, cells, which, budgets::lowered(figure)),
     }
 }
 
@@ -53,7 +51,7 @@ fn run_pair(
     figure: u64,
 ) -> Outcome
     requires told_by { ToldBy f unit prices.now cells.now }
-    requires at_most { AtMost (At figure) (limit_for unit.limits which) }
+    requires at_most { AtMost (Some figure) (limit_for unit.limits which) }
     ensures { result ≡ gap_at (λ k. profit_of (best (run_at unit which k) prices.now)) figure }
 {
     if figure == 0 {
@@ -72,23 +70,21 @@ fn run_profit(
     cells: &[i64],
     which: Limitation,
     figure: u64,
-) -> BestProfit
+) -> Option<i64>
     requires told_by { ToldBy f unit prices.now cells.now }
-    requires at_most { AtMost (At figure) (limit_for unit.limits which) }
+    requires at_most { AtMost (Some figure) (limit_for unit.limits which) }
     ensures { result ≡ profit_of (best (run_at unit which figure) prices.now) }
 {
-    let limits = unit.limits;
-    let lower = commitment::with_limit(limits, which, Limit::At(figure));
+    let lower = commitment::with_limit(unit.limits, which, Some(figure));
     profit_under(unit, lower, f, prices, cells)
 }
 
 // The best profit of the case itself.
-pub fn whole_profit(unit: UnitRecord, f: Figures, prices: &[i64], cells: &[i64]) -> BestProfit
+pub fn whole_profit(unit: UnitRecord, f: Figures, prices: &[i64], cells: &[i64]) -> Option<i64>
     requires { ToldBy f unit prices.now cells.now }
     ensures { result ≡ profit_of (best unit prices.now) }
 {
-    let limits = unit.limits;
-    profit_under(unit, limits, f, prices, cells)
+    profit_under(unit, unit.limits, f, prices, cells)
 }
 
 // Under limitations at most the unit's.
@@ -98,7 +94,7 @@ fn profit_under(
     f: Figures,
     prices: &[i64],
     cells: &[i64],
-) -> BestProfit
+) -> Option<i64>
     requires told_by { ToldBy f unit prices.now cells.now }
     requires under { Under limits unit.limits }
     ensures { result ≡ profit_of (best (limited unit limits) prices.now) }
@@ -108,14 +104,14 @@ fn profit_under(
 }
 
 // Without a schedule of the lower run there is nothing to compare with.
-fn gap_between(first: BestProfit, lower: BestProfit) -> Outcome
+fn gap_between(first: Option<i64>, lower: Option<i64>) -> Outcome
     requires { (nat_abs (amount first) < most_amount) × (nat_abs (amount lower) < most_amount) }
     ensures { result ≡ gap_between first lower }
 {
-    let BestProfit::Profit(least) = lower else {
+    let Some(least) = lower else {
         return Outcome::Never;
     };
-    let BestProfit::Profit(most) = first else {
+    let Some(most) = first else {
         return Outcome::Never;
     };
     Outcome::Gap(most - least)

@@ -1,4 +1,5 @@
 -- Demand 1's sentence: in a text that is not refused each field is the value written under its name, and the prices are those of the lines in order.
+use Rattle.std.specs.Prelude.{None, Ok, Some}
 use mathlib.Core.Path.{◌≡◌, refl, sym, ap, ap₂, ◌∙◌}
 use mathlib.Core.Bool.{Bool, true, false, ◌&&◌, cond}
 use mathlib.Core.List.{List, [], ◌∷◌, map}
@@ -10,8 +11,6 @@ use lib.ListN.{length, take, drop, get_or, length-map}
 use lib.Seq.{take-append_seam}
 use borrow.Author.Tests.{leb-true, eqb-true}
 use Rattle.commitment.specs.Bounds.{most_starts, most_hours, most_mwh}
-use Rattle.commitment.specs.declared.Checked.TheVariants.{Passed}
-use Rattle.commitment.specs.declared.Permit.TheVariants.{AnyHour, Within}
 use Rattle.commitment.specs.declared.UnitRecord.{UnitRecord}
 use Rattle.commitment.specs.Limits.{limit_kept}
 use Rattle.commitment.specs.Ranges.{permit_kept, prices_kept, case_checked}
@@ -28,7 +27,6 @@ use Rattle.tabletext.specs.Pieces.{onto, lines_of, last_closed, fields_of}
 use Rattle.tabletext.specs.Tables.{name_line, value_line, occurs, standing, known, named, under}
 use Rattle.tabletext.specs.Values.{value_of, is_value}
 use Rattle.tabletext.proofs.Alike.{same-eq}
-use Rattle.casefile.specs.declared.CaseRead.TheVariants.{Case}
 use Rattle.casefile.specs.Answers.{read_case, read_prices}
 use Rattle.casetext.specs.Names.{block_name, pmin_name, pmax_name, mot_name, mdt_name, was_name, held_name, vec_name, mlc_name, suc_name}
 use Rattle.casetext.specs.Names.{starts_name, hours_name, mwh_name, year_name, month_name, day_name, window_name}
@@ -41,6 +39,7 @@ use Rattle.writing.specs.Writing.{names_for}
 use Rattle.writing.proofs.Places.{nowhere, stands}
 use Rattle.writing.proofs.Sequences.{Named, names-are, none_of, all-this}
 use Rattle.writing.proofs.Permits.{named-for}
+use Rattle.casefile.specs.Types.{case_with}
 
 -- ---- a number in its range is the number that is written
 
@@ -159,7 +158,7 @@ abbrev found : List ℕ → List ℕ → Value
 found text name = under name (names_in text) (values_in text)
 
 module _ (text : List ℕ) (form : form_kept text ≡ true) (names-once : names_kept text ≡ true)
-    (checks : case_checked (unit_in text) (prices_kept (prices_in text)) (length (prices_in text)) ≡ Passed) where
+    (checks : case_checked (unit_in text) (prices_kept (prices_in text)) (length (prices_in text)) ≡ Ok tt) where
   formed : Formed text
   formed = formed-is text form
 
@@ -189,7 +188,7 @@ module _ (text : List ℕ) (form : form_kept text ≡ true) (names-once : names_
 
   -- the permit, by whether the four names are there
   permit-at : (t : Bool) →
-      let p = cond t (Within (window_of (names_in text) (values_in text))) AnyHour in
+      let p = cond t (Some (window_of (names_in text) (values_in text))) None in
       Named (names_for p) (names_in text) → permit_kept p ≡ true → PermitWritten (names_in text) (values_in text) p
   permit-at true n k =
       let r = window-ranges (window_of (names_in text) (values_in text)) k in
@@ -264,7 +263,7 @@ module _ (text : List ℕ) (form : form_kept text ≡ true) (names-once : names_
 
 -- ---- the sentence, of what reading answers and of what it leaves in the slice
 
-pub read-as-written : (text : List ℕ) (slice : List ℤ) (u : UnitRecord) (count : ℕ) → read_case text (length slice) ≡ Case u count
+pub read-as-written : (text : List ℕ) (slice : List ℤ) (u : UnitRecord) (count : ℕ) → read_case text (length slice) ≡ case_with u count
     → AsWritten text u (take count (read_prices text slice))
 unfolding read_case
 read-as-written text slice u count e =

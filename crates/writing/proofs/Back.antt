@@ -1,4 +1,5 @@
 -- The way back: the text that a writer makes of any record and prices within range, its names in any sequence, is read as that record and those prices.
+use Rattle.std.specs.Prelude.{None, Ok, Some}
 use mathlib.Core.Path.{◌≡◌, refl, sym, ap, ap₂, ◌∙◌}
 use mathlib.Core.Bool.{Bool, true, false, ◌&&◌, cond}
 use mathlib.Core.List.{List, [], ◌∷◌, ◌++◌, map}
@@ -13,12 +14,9 @@ use Rattle.commitment.specs.declared.Costs.{Costs}
 use Rattle.commitment.specs.declared.Generator.{Generator}
 use Rattle.commitment.specs.declared.Limits.{Limits}
 use Rattle.commitment.specs.Bounds.{most_starts, most_hours, most_mwh}
-use Rattle.commitment.specs.declared.Checked.{Checked}
-use Rattle.commitment.specs.declared.Checked.TheVariants.{Passed}
-use Rattle.commitment.specs.declared.Limit.{Limit}
-use Rattle.commitment.specs.declared.Limit.TheVariants.{None, At}
-use Rattle.commitment.specs.declared.Permit.{Permit}
-use Rattle.commitment.specs.declared.Permit.TheVariants.{AnyHour, Within}
+use Rattle.commitment.specs.Types.{Checked}
+use Rattle.commitment.specs.Types.{Limit}
+use Rattle.commitment.specs.Types.{Permit}
 use Rattle.commitment.specs.declared.Window.{Window}
 use Rattle.commitment.specs.declared.UnitRecord.{UnitRecord}
 use Rattle.commitment.specs.Limits.{limit_kept}
@@ -37,7 +35,6 @@ use Rattle.tabletext.proofs.Alike.{same-eq}
 use Rattle.tabletext.proofs.Groups.{every_map}
 use Rattle.commitment.specs.Causes.{first_of}
 use Rattle.commitment.proofs.Causes.{checked_then}
-use Rattle.casefile.specs.declared.CaseRead.TheVariants.{Case}
 use Rattle.casefile.specs.Answers.{read_by, read_case, read_prices}
 use Rattle.casetext.specs.Names.{block_name, pmin_name, pmax_name, mot_name, mdt_name, was_name, held_name, vec_name, mlc_name, suc_name}
 use Rattle.casetext.specs.Names.{starts_name, hours_name, mwh_name, year_name, month_name, day_name, window_name}
@@ -51,6 +48,7 @@ use Rattle.writing.proofs.Numbers.{whole_back, price-back, limit-back, whole-unp
 use Rattle.writing.proofs.Sequences.{Named, names-are, some-name, of-names}
 use Rattle.writing.proofs.Permits.{dated, every-name, year-tells, unit-named}
 use Rattle.writing.proofs.Pieces.{free, field-alone, fields_back, lines-back, closing-closed, joined_line}
+use Rattle.casefile.specs.Types.{case_with}
 
 -- ---- tests of every element
 
@@ -79,12 +77,12 @@ map_back : (f : List ℕ → ℤ) (g : ℤ → List ℕ) (zs : List ℤ) → ((i
 map_back f g [] h = refl
 map_back f g (z ∷ zs) h = ap₂ ◌∷◌ (h 0 (omega arith)) (map_back f g zs (λ i l. h (suc i) (omega arith)))
 
-limit-small : (most : ℕ) (l : Limit) → most < 10 ^ 10 → limit_kept most l ≡ true → (n : ℕ) → l ≡ At n → n < 10 ^ 10
+limit-small : (most : ℕ) (l : Limit) → most < 10 ^ 10 → limit_kept most l ≡ true → (n : ℕ) → l ≡ Some n → n < 10 ^ 10
 limit-small most l m k n e = omega (arith, leb-true n most (ap (limit_kept most) (sym e) ∙ k))
 
 limit-of-value : (l : Limit) → limit_of (limit_value l) ≡ l
 limit-of-value None = refl
-limit-of-value (At n) = refl
+limit-of-value (Some n) = refl
 
 -- ---- groups, and records, are alike where each field is
 
@@ -115,7 +113,7 @@ unit-alike p q r s t = cc
 -- ---- a record and prices within range, and the names in some sequence
 
 module _ (u : UnitRecord) (prices : List ℤ) (names : List (List ℕ))
-    (kept : case_checked u (prices_kept prices) (length prices) ≡ Passed) (each : named (names_for u.permit) [] names ≡ true) where
+    (kept : case_checked u (prices_kept prices) (length prices) ≡ Ok tt) (each : named (names_for u.permit) [] names ≡ true) where
   names-for : (p : Permit) → u.permit ≡ p → Named (names_for p) names
   names-for p is = names-are (names_for p) names (ap (λ (q : Permit). named (names_for q) [] names) (sym is) ∙ each)
 
@@ -137,11 +135,11 @@ module _ (u : UnitRecord) (prices : List ℤ) (names : List (List ℕ))
 
   -- ---- of a record with a date
 
-  module _ (w : Window) (is : u.permit ≡ Within w) where
+  module _ (w : Window) (is : u.permit ≡ Some w) where
     dated-ranges : WindowRanges w
     dated-ranges = window-ranges w (ap permit_kept (sym is) ∙ ranges.permit)
 
-    dated-shown : (name : List ℕ) → shown_dated u.permit name ≡ shown_dated (Within w) name
+    dated-shown : (name : List ℕ) → shown_dated u.permit name ≡ shown_dated (Some w) name
     dated-shown name = ap (λ (p : Permit). shown_dated p name) is
 
   -- ---- tests that what is shown passes
@@ -154,8 +152,8 @@ module _ (u : UnitRecord) (prices : List ℤ) (names : List (List ℕ))
 
   dated-pass : (test : List ℕ → Bool) → ((n : ℕ) → n < 10 ^ 10 → test (shown_whole n) ≡ true) → (p : Permit) → u.permit ≡ p
       → every (λ name. test (shown_field u name)) (dated_for p) ≡ true
-  dated-pass test whole AnyHour is = refl
-  dated-pass test whole (Within w) is =
+  dated-pass test whole None is = refl
+  dated-pass test whole (Some w) is =
       let r = dated-ranges w is in
       let shown = dated-shown w is in
       conj (ap test (shown year_name) ∙ whole w.date.year (omega (arith, r.year-most)))
@@ -165,7 +163,7 @@ module _ (u : UnitRecord) (prices : List ℤ) (names : List (List ℕ))
 
   -- a test that every number and every limitation passes as it is shown, every field of the record passes
   fields-pass : (test : List ℕ → Bool) → ((n : ℕ) → n < 10 ^ 10 → test (shown_whole n) ≡ true)
-      → ((l : Limit) → ((n : ℕ) → l ≡ At n → n < 10 ^ 10) → test (shown_limit l) ≡ true)
+      → ((l : Limit) → ((n : ℕ) → l ≡ Some n → n < 10 ^ 10) → test (shown_limit l) ≡ true)
       → every (λ name. test (shown_field u name)) (names_for u.permit) ≡ true
   fields-pass test whole limit =
       let r = ranges in
@@ -244,7 +242,7 @@ module _ (u : UnitRecord) (prices : List ℤ) (names : List (List ℕ))
 
   limit-value : (l : Limit) → well_formed (limit_value l) ≡ true
   limit-value None = refl
-  limit-value (At n) = refl
+  limit-value (Some n) = refl
 
   as_many : length (fields_of (joined values)) ≡ length (fields_of (joined names))
   as_many = rw (values-back, names-back) (length-map names (shown_field u))
@@ -298,17 +296,17 @@ module _ (u : UnitRecord) (prices : List ℤ) (names : List (List ℕ))
         ap limit_of (under_back (shown_field u) name names (omega (arith, once)) ∙ ap value_of e ∙ limit-back l (limit-small most l m b)) ∙ limit-of-value l
 
     -- the four names stand where the record has a date
-    told : (p : Permit) → u.permit ≡ p → permit_of names values ≡ cond (dated p) (Within (window_of names values)) AnyHour
-    told p is = ap (λ (t : Bool). cond t (Within (window_of names values)) AnyHour) (year-tells names p (names-for p is))
+    told : (p : Permit) → u.permit ≡ p → permit_of names values ≡ cond (dated p) (Some (window_of names values)) None
+    told p is = ap (λ (t : Bool). cond t (Some (window_of names values)) None) (year-tells names p (names-for p is))
 
     permit-is : (p : Permit) → u.permit ≡ p → permit_of names values ≡ p
-    permit-is AnyHour is = told AnyHour is
-    permit-is (Within w) is =
-        let once = (names-for (Within w) is).once in
+    permit-is None is = told None is
+    permit-is (Some w) is =
+        let once = (names-for (Some w) is).once in
         let r = dated-ranges w is in
         let shown = dated-shown w is in
-        told (Within w) is
-        ∙ ap Within
+        told (Some w) is
+        ∙ ap Some
         (window-alike
         (whole-field year_name (once 13 (omega arith)) w.date.year (omega (arith, r.year-most)) (shown year_name))
         (whole-field month_name (once 14 (omega arith)) w.date.month (omega (arith, r.month-most)) (shown month_name))
@@ -357,21 +355,21 @@ module _ (u : UnitRecord) (prices : List ℤ) (names : List (List ℕ))
 
     -- ---- what is read
 
-    passed : text_checked text room ≡ Passed
+    passed : text_checked text room ≡ Ok tt
     unfolding case_in
     passed =
         text_in-turn text room
         ∙ ap (λ (k : Checked). checked_then k (first_of (room_checks text room))) (sym (case-decides text form named-text))
         ∙ rw (unit-is, prices-are, kept, le-leb (length prices) room fits)
 
-    case-read : read_case text room ≡ Case u (length prices)
+    case-read : read_case text room ≡ case_with u (length prices)
     unfolding read_case
-    case-read = ap₂ (λ (k : Checked) (v : UnitRecord). read_by k v (length (prices_in text))) passed unit-is ∙ ap (λ (l : List ℤ). Case u (length l)) prices-are
+    case-read = ap₂ (λ (k : Checked) (v : UnitRecord). read_by k v (length (prices_in text))) passed unit-is ∙ ap (λ (l : List ℤ). case_with u (length l)) prices-are
 
 -- what is written is read: the answer is the record, and the slice has the prices in front and behind them what was there
-pub written_read : (u : UnitRecord) (prices : List ℤ) (names : List (List ℕ)) (slice : List ℤ) → case_checked u (prices_kept prices) (length prices) ≡ Passed
+pub written_read : (u : UnitRecord) (prices : List ℤ) (names : List (List ℕ)) (slice : List ℤ) → case_checked u (prices_kept prices) (length prices) ≡ Ok tt
     → named (names_for u.permit) [] names ≡ true → length (written names u prices) ≤ most_bytes → length prices ≤ length slice
-    → (read_case (written names u prices) (length slice) ≡ Case u (length prices))
+    → (read_case (written names u prices) (length slice) ≡ case_with u (length prices))
     × (read_prices (written names u prices) slice ≡ prices ++ drop (length prices) slice)
 written_read u prices names slice kept each short fits =
     let room = length slice in (

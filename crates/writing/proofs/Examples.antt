@@ -1,23 +1,22 @@
 -- C1's text as it stands in the specification, the same with a date, and damaged ones, each with the number that it gets: from the
 -- definitions alone, by computing.
+use Rattle.std.specs.Prelude.{None, Ok, Some}
 use mathlib.Core.List.{List, [], ◌∷◌, ◌++◌, map}
 use mathlib.Core.Path.{◌≡◌, refl}
 use Prim.Native.Nat.{ℕ}
 use Prim.Native.String.{String}
 use lib.IntN.{pos}
 use lib.ListN.{replicate}
-use Rattle.commitment.specs.declared.Limit.TheVariants.{None, At}
-use Rattle.commitment.specs.declared.Permit.TheVariants.{AnyHour, Within}
-use Rattle.commitment.specs.Causes.{checked_number}
+use Rattle.commitment.specs.Causes.{answered_number}
 use Rattle.commitment.specs.Ranges.{ranges_kept, prices_kept}
 use Rattle.lists.specs.Text.{bytes}
 use Rattle.tabletext.specs.Bytes.{is_of}
 use Rattle.tabletext.specs.Values.{is_name, numeral, value_of, is_value}
-use Rattle.casefile.specs.declared.CaseRead.TheVariants.{Case}
 use Rattle.casefile.specs.Answers.{read_case}
 use Rattle.casetext.specs.Form.{form_kept, names_kept}
 use Rattle.casefile.specs.Reading.{unit_in, prices_in, text_checked}
 use Rattle.writing.specs.Writing.{closing}
+use Rattle.casefile.specs.Types.{case_with}
 
 abbrev names : List ℕ
 names = bytes "block,pmin,pmax,mot,mdt,was,held,vec,mlc,suc,starts,hours,mwh"
@@ -35,12 +34,12 @@ abbrev c1 : List ℕ
 c1 = closing (names ∷ values ∷ [] ∷ head ∷ prices)
 
 pub c1-case : read_case c1 6
-    ≡ Case (record {
+    ≡ case_with (record {
       generator = record { block = 10; pmin = 1; pmax = 2; mot = 2; mdt = 2 };
       costs = record { vec = 3000; mlc = 30000; suc = 5000 };
       opening = record { was = 0; held = 2 };
-      limits = record { starts = At 2; hours = At 2; mwh = None };
-      permit = AnyHour;
+      limits = record { starts = Some 2; hours = Some 2; mwh = None };
+      permit = None;
     }) 6
 unfolding is_of is_name numeral value_of is_value ranges_kept prices_kept form_kept names_kept unit_in prices_in text_checked read_case
 c1-case = refl
@@ -53,12 +52,12 @@ c1-dated =
     ∷ bytes "16776960,10,1,2,8,2,2,0,2,3000,2026,30000,5000,2,2,none,3" ∷ [] ∷ head ∷ prices)
 
 pub c1-dated-case : read_case c1-dated 6
-    ≡ Case (record {
+    ≡ case_with (record {
       generator = record { block = 10; pmin = 1; pmax = 2; mot = 2; mdt = 2 };
       costs = record { vec = 3000; mlc = 30000; suc = 5000 };
       opening = record { was = 0; held = 2 };
-      limits = record { starts = At 2; hours = At 2; mwh = None };
-      permit = Within (record { date = record { year = 2026; month = 3; day = 8 }; word = 16776960 });
+      limits = record { starts = Some 2; hours = Some 2; mwh = None };
+      permit = Some (record { date = record { year = 2026; month = 3; day = 8 }; word = 16776960 });
     }) 6
 unfolding is_of is_name numeral value_of is_value ranges_kept prices_kept form_kept names_kept unit_in prices_in text_checked read_case
 c1-dated-case = refl
@@ -68,7 +67,7 @@ unfolding is_of is_name numeral value_of is_value ranges_kept prices_kept form_k
 c1-prices = refl
 
 -- a slice with room for five of the six prices
-pub c1-short : checked_number (text_checked c1 5) ≡ 7
+pub c1-short : answered_number (text_checked c1 5) ≡ 7
 unfolding is_of is_name numeral value_of is_value ranges_kept prices_kept form_kept names_kept unit_in prices_in text_checked
 c1-short = refl
 
@@ -184,7 +183,7 @@ texts =
     ∷ (closing (dated ∷ bytes "10,3,2,2,2,0,2,3000,30000,5000,2,2,none,2024,2,30,1" ∷ [] ∷ head ∷ prices))
     ∷ []
 
-pub numbers : map (λ text. checked_number (text_checked text 6144)) texts
+pub numbers : map (λ text. answered_number (text_checked text 6144)) texts
     ≡ 0 ∷ 0 ∷ 1 ∷ 1 ∷ 1 ∷ 1 ∷ 1 ∷ 1 ∷ 1 ∷ 1 ∷ 1 ∷ 1 ∷ 1 ∷ 1 ∷ 1 ∷ 1 ∷ 1 ∷ 1 ∷ 1 ∷ 1 ∷ 1 ∷ 1 ∷ 1 ∷ 1
     ∷ 2 ∷ 2 ∷ 2 ∷ 2 ∷ 2 ∷ 2 ∷ 3 ∷ 3 ∷ 3 ∷ 3 ∷ 3 ∷ 3 ∷ 4 ∷ 4 ∷ 5 ∷ 5 ∷ 3 ∷ 0 ∷ 2 ∷ 2 ∷ 2 ∷ 3 ∷ 3 ∷ 3
     ∷ 12 ∷ 12 ∷ 4 ∷ []

@@ -1,4 +1,5 @@
 -- Numbers and limitations that are written are read back.
+use Rattle.std.specs.Prelude.{None, Some}
 use mathlib.Core.Path.{◌≡◌, refl, ap, ◌∙◌}
 use mathlib.Core.Bool.{Bool, true, false, ◌&&◌, not, cond}
 use mathlib.Core.List.{List, [], ◌∷◌}
@@ -9,8 +10,7 @@ use lib.Dec.{ltb, leb, eqb}
 use lib.IntN.{ℤ, pos, negsuc, nat_abs}
 use lib.ListN.{length}
 use borrow.Author.Tests.{ltb-true, ltb-false, le-leb, ne_eqb, eqb-true}
-use Rattle.commitment.specs.declared.Limit.{Limit}
-use Rattle.commitment.specs.declared.Limit.TheVariants.{None, At}
+use Rattle.commitment.specs.Types.{Limit}
 use Rattle.lists.specs.Every.{every}
 use Rattle.lists.proofs.Conjunctions.{both}
 use Rattle.tabletext.specs.declared.Class.{Class}
@@ -142,10 +142,10 @@ price-back (negsuc n) h =
     let k = shown (suc n) h in
     minus-value (shown_whole (suc n)) ∙ negated_back (shown_whole (suc n)) n k.numeral-is k.number
 
-pub limit-back : (l : Limit) → ((n : ℕ) → l ≡ At n → n < 10 ^ 10) → value_of (shown_limit l) ≡ limit_value l
+pub limit-back : (l : Limit) → ((n : ℕ) → l ≡ Some n → n < 10 ^ 10) → value_of (shown_limit l) ≡ limit_value l
 unfolding value_of
 limit-back None h = refl
-limit-back (At n) h = whole_back n (h n refl)
+limit-back (Some n) h = whole_back n (h n refl)
 
 -- ---- none of these has a byte that parts
 
@@ -173,7 +173,7 @@ unfolding is_of
 price-unparted (pos n) h = whole-unparted n h
 price-unparted (negsuc n) h = let w = whole-unparted (suc n) h in record { no-comma = w.no-comma; no_end = w.no_end }
 
-pub limit-unparted : (l : Limit) → ((n : ℕ) → l ≡ At n → n < 10 ^ 10) → Unparted (shown_limit l)
+pub limit-unparted : (l : Limit) → ((n : ℕ) → l ≡ Some n → n < 10 ^ 10) → Unparted (shown_limit l)
 unfolding is_of
 limit-unparted None h = record { no-comma = refl; no_end = refl }
-limit-unparted (At n) h = whole-unparted n (h n refl)
+limit-unparted (Some n) h = whole-unparted n (h n refl)

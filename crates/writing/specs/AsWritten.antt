@@ -1,9 +1,7 @@
 -- A text read as the figures written in it (specification 11): each field is the value under its name, and the prices are those of the lines in order.
-use Rattle.std.specs.Prelude.{◌≡◌, List, [], ◌∷◌, ℕ, ◌<◌, ℤ, pos, length, get_or}
-use Rattle.commitment.specs.declared.Limit.{Limit}
-use Rattle.commitment.specs.declared.Limit.TheVariants.{None, At}
-use Rattle.commitment.specs.declared.Permit.{Permit}
-use Rattle.commitment.specs.declared.Permit.TheVariants.{AnyHour, Within}
+use Rattle.std.specs.Prelude.{◌≡◌, List, [], ◌∷◌, ℕ, ◌<◌, ℤ, pos, length, get_or, Some, None}
+use Rattle.commitment.specs.Types.{Limit}
+use Rattle.commitment.specs.Types.{Permit}
 use Rattle.commitment.specs.declared.Window.{Window}
 use Rattle.commitment.specs.declared.UnitRecord.{UnitRecord}
 use Rattle.tabletext.specs.declared.Value.{Value}
@@ -25,7 +23,7 @@ pub record StandsUnder (names values : List (List ℕ)) (name : List ℕ) (value
 -- the value of a limitation, as it is written
 abbrev pub limit_value : Limit → Value
 limit_value None = WordNone
-limit_value (At n) = Number (pos n)
+limit_value (Some n) = Number (pos n)
 
 -- the name stands at no place of the line of names
 abbrev pub StandsNowhere : List (List ℕ) → List ℕ → Type 0
@@ -45,8 +43,8 @@ pub record NoWindow (names : List (List ℕ)) : Type 0 where
 
 -- a date and its word stand under their four names; where every hour is permitted, none of the four names is there
 abbrev pub PermitWritten : List (List ℕ) → List (List ℕ) → Permit → Type 0
-PermitWritten names values AnyHour = NoWindow names
-PermitWritten names values (Within w) = WindowWritten names values w
+PermitWritten names values None = NoWindow names
+PermitWritten names values (Some w) = WindowWritten names values w
 
 pub record AsWritten (text : List ℕ) (u : UnitRecord) (prices : List ℤ) : Type 0 where
   pub lines : lines_of text ≡ unit_head text ∷ unit_row text ∷ [] ∷ price_head text ∷ price_rows text

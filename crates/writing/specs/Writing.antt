@@ -1,9 +1,7 @@
 -- The text that a writer of the format makes of a record and prices (specification 11).
-use Rattle.std.specs.Prelude.{cond, List, [], ◌∷◌, ◌++◌, map, ℕ, zero, suc, ◌+◌, ◌/◌, ◌%◌, ltb, ℤ, pos, negsuc}
-use Rattle.commitment.specs.declared.Limit.{Limit}
-use Rattle.commitment.specs.declared.Limit.TheVariants.{None, At}
-use Rattle.commitment.specs.declared.Permit.{Permit}
-use Rattle.commitment.specs.declared.Permit.TheVariants.{AnyHour, Within}
+use Rattle.std.specs.Prelude.{cond, List, [], ◌∷◌, ◌++◌, map, ℕ, zero, suc, ◌+◌, ◌/◌, ◌%◌, ltb, ℤ, pos, negsuc, Some, None}
+use Rattle.commitment.specs.Types.{Limit}
+use Rattle.commitment.specs.Types.{Permit}
 use Rattle.commitment.specs.declared.UnitRecord.{UnitRecord}
 use Rattle.tabletext.specs.Bytes.{same}
 use Rattle.tabletext.specs.Values.{none_word}
@@ -36,12 +34,12 @@ shown_price (negsuc n) = 45 ∷ shown_whole (suc n)
 
 abbrev pub shown_limit : Limit → List ℕ
 shown_limit None = none_word
-shown_limit (At n) = shown_whole n
+shown_limit (Some n) = shown_whole n
 
 -- of a date and its word, by the name
 abbrev pub shown_dated : Permit → List ℕ → List ℕ
-shown_dated AnyHour name = []
-shown_dated (Within w) name =
+shown_dated None name = []
+shown_dated (Some w) name =
     cond (same name year_name) (shown_whole w.date.year)
     (cond (same name month_name) (shown_whole w.date.month)
     (cond (same name day_name) (shown_whole w.date.day)
@@ -68,8 +66,8 @@ shown_field u name =
 
 -- the names that a record is written under: the thirteen, and with a date the four
 abbrev pub dated_for : Permit → List (List ℕ)
-dated_for AnyHour = []
-dated_for (Within w) = dated_names
+dated_for None = []
+dated_for (Some w) = dated_names
 
 abbrev pub names_for : Permit → List (List ℕ)
 names_for permit = unit_names ++ dated_for permit

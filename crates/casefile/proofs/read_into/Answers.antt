@@ -1,23 +1,25 @@
 -- A text in which a cause was found keeps it; of any other the prices are stored where they fit.
-use Rattle.std.proofs.Common.{sym, ◌∙◌, arith}
+use Rattle.std.proofs.Common.{rules, sym, ◌∙◌, arith}
 use Rattle.casefile.proofs.Checking.{found-refused, held-is, no_room, room}
 use Rattle.casefile.proofs.read_into.Goals as goal
 
-pub returns-in-Refused : goal.returns-in-Refused
-returns-in-Refused c = found-refused c.args.text.now c.args.prices.now c.in-Refused.cause (sym c.found.ensures ∙ c.in-Refused.is)
+pub returns-in_err-case : goal.returns-in_err-case
+returns-in_err-case c =
+    let kept = found-refused c.args.text.now c.args.prices.now c.in_err-case.field-0.0 (sym c.found.ensures ∙ c.in_err-case.was) in
+    (rw (sym kept.0) (search rules), kept.1)
 
-pub returns-then-prices-count : goal.returns-then-prices-count
-returns-then-prices-count c =
-    let held = held-is c.args.text.now c.args.prices.now c.in-Case.unit c.in-Case.count (sym c.found.ensures ∙ c.in-Case.is) in
-    no_room _ _ held c.if-prices-count.true
+pub returns-then-prices-case : goal.returns-then-prices-case
+returns-then-prices-case c =
+    let held = held-is c.args.text.now c.args.prices.now c.in_ok-case.case.unit c.in_ok-case.case.count (sym c.found.ensures ∙ c.in_ok-case.was) in
+    no_room _ _ held c.if-prices-case.true
 
 pub store-requires : goal.store-requires
 store-requires c =
-    let held = held-is c.args.text.now c.args.prices.now c.in-Case.unit c.in-Case.count (sym c.found.ensures ∙ c.in-Case.is) in
+    let held = held-is c.args.text.now c.args.prices.now c.in_ok-case.case.unit c.in_ok-case.case.count (sym c.found.ensures ∙ c.in_ok-case.was) in
     omega (arith, held.count-is)
 
-pub returns-else-prices-count : goal.returns-else-prices-count
-returns-else-prices-count c =
-    let held = held-is c.args.text.now c.args.prices.now c.in-Case.unit c.in-Case.count (sym c.found.ensures ∙ c.in-Case.is) in
-    let made = room _ _ held c.if-prices-count.false in
+pub returns : goal.returns
+returns c =
+    let held = held-is c.args.text.now c.args.prices.now c.in_ok-case.case.unit c.in_ok-case.case.count (sym c.found.ensures ∙ c.in_ok-case.was) in
+    let made = room _ _ held c.if-prices-case.false in
     (made.0, c.store.ensures ∙ made.1)

@@ -4,13 +4,13 @@ use Rattle.costs.proofs.Ranges.{accepted, start-sizes, load-sizes}
 use Rattle.costs.proofs.three_figures.Statement.{statement}
 use Rattle.costs.proofs.three_figures.Tie as tie
 
-suc-of-requires : tie.Need-suc_of-suc-requires
+suc-of-requires : tie.Need-suc_of-requires
 suc-of-requires c κs =
     let o = c.before.before.before in
     let a = accepted _ _ _ o.requires in
     start-sizes o.args.inputs a.inputs a.shape
 
-mlc-of-requires : tie.Need-mlc_of-mlc-requires
+mlc-of-requires : tie.Need-mlc_of-requires
 mlc-of-requires c κs =
     let o = c.before.before.before.before in
     let a = accepted _ _ _ o.requires in

@@ -1,4 +1,5 @@
 -- The end is put behind the last interval, the layers before it are filled, and the plan is read off.
+use Rattle.std.specs.Prelude.{None}
 use mathlib.Core.Path.{◌≡◌, sym, ap, ap₂, subst, ◌∙◌}
 use mathlib.Core.List.{List, [], ◌++◌}
 use mathlib.Core.Logic.{inr}
@@ -10,7 +11,6 @@ use Rattle.lists.proofs.Fills.{tail-part}
 use Rattle.commitment.specs.Best.{Plan, schedule_of}
 use Rattle.commitment.specs.Tries.{tries_over}
 use Rattle.commitment.specs.Windows.{opens}
-use Rattle.commitment.specs.declared.BestProfit.TheVariants.{Nothing}
 use Rattle.optimality.specs.Machine.{Quarter}
 use Rattle.optimality.specs.Cells.{plan_at, value_at}
 use Rattle.optimality.proofs.Quarters.{quarters-length, quarters-priced}
@@ -92,7 +92,7 @@ plans c =
     record {
       priced = quarters-priced (opens a.g.hours) a.t.from (prices_here o);
       filled = c.fill.ensures.0 (ends_by a.t.end) (rw (as_many o) (last put));
-      some = subst (λ (qs : List Quarter). value_at a.g.figures (ends_by a.t.end) qs a.t.cell ≡ Nothing → ⊥)
+      some = subst (λ (qs : List Quarter). value_at a.g.figures (ends_by a.t.end) qs a.t.cell ≡ None → ⊥)
           (quarters-of a.g.hours a.prices.now a.t.from a.t.to)
           (asked o).given.some;
     }

@@ -1,4 +1,5 @@
 -- The whole case, cut at its middle.
+use Rattle.std.specs.Prelude.{None}
 use mathlib.Core.Path.{◌≡◌, ap, ◌∙◌}
 use mathlib.Core.List.{List, ◌++◌}
 use native.Mathlib.Omega.{arith}
@@ -9,7 +10,6 @@ use Rattle.optimality.specs.Machine.{Quarter, anywhere}
 use Rattle.optimality.specs.Cells.{plan_at}
 use Rattle.layers.specs.Filling.{quarters_in}
 use Rattle.intervals.proofs.Stretches.{same_from}
-use Rattle.halving.specs.declared.End.TheVariants.{Anywhere}
 use Rattle.halving.specs.Tasks.{plan_of}
 use Rattle.halving.proofs.Joining.{whole}
 use borrow.Author.Rules.{rules}
@@ -39,7 +39,7 @@ halves-requires c κs =
 -- the plan of all quarters
 same : (c : tie.Start) →
     let a = c.args in
-    plan_of a.f a.prices.now a.hours (record { from = 0; to = length a.prices.now; cell = a.from; end = Anywhere })
+    plan_of a.f a.prices.now a.hours (record { from = 0; to = length a.prices.now; cell = a.from; end = None })
     ≡ plan_at a.f anywhere (quarters_in a.hours a.prices.now) a.from
 same c =
     let a = c.args in

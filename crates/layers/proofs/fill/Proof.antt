@@ -6,7 +6,7 @@ use native.Mathlib.Omega.{arith}
 use lib.IntN.{ℤ, pos, nat_abs}
 use lib.ListN.{length, get_or, drop, length-drop}
 use Rattle.integers.proofs.Ranges.{plain_fits}
-use Rattle.commitment.specs.declared.BestProfit.{BestProfit}
+use Rattle.commitment.specs.Types.{BestProfit}
 use Rattle.commitment.specs.Bounds.{most_price}
 use Rattle.optimality.specs.declared.Figures.{Figures}
 use Rattle.optimality.specs.declared.Cell.{Cell}

@@ -1,12 +1,12 @@
 -- The totals and the window first, then the intervals in the room that they leave.
-use Rattle.std.proofs.Common.{◌≡◌, sym, ap, ◌∙◌, ℕ, ◌+◌, ◌-◌, ◌≤◌, List, length, arith}
+use Rattle.std.specs.Prelude.{None, Some}
+use Rattle.std.proofs.Common.{rules, ◌≡◌, sym, ap, ◌∙◌, ℕ, ◌+◌, ◌-◌, ◌≤◌, List, length, arith}
 use borrow.Author.Tests.{lt-leb}
 use lib.IntN.{ℤ}
 use Rattle.commitment.specs.declared.Outcomes.{Outcomes}
 use Rattle.integers.proofs.Ranges.{plain_fits}
-use Rattle.listing.specs.declared.Fit.{Fit}
-use Rattle.listing.specs.declared.Fit.TheVariants.{Bytes, TooLong}
-use Rattle.listing.specs.declared.HourWord.{HourWord}
+use Rattle.listing.specs.Types.{Fit}
+use Rattle.listing.specs.Types.{HourWord}
 use Rattle.listing.specs.Listing.{interval_lines, profit_line, outcome_lines, window_line, listing, fitted}
 use Rattle.listing.proofs.Fitting.{lengthened, fit-more}
 use Rattle.listing.proofs.Lengths.{totals-short, window-short, listing-length}
@@ -38,14 +38,14 @@ returns-then-room-totals c =
     let all = parts c.args.schedule.now c.args.profit c.args.outcomes c.args.word totals-are c.window_length.ensures in
     simp (lt-leb (length (listing c.args.schedule.now c.args.profit c.args.outcomes c.args.word)) c.args.room (omega (arith, all)))
 
-pub returns-in-TooLong : goal.returns-in-TooLong
-returns-in-TooLong c =
+pub returns-in_err-bytes : goal.returns-in_err-bytes
+returns-in_err-bytes c =
     let totals-are = rw (plain_fits c.ranges.profit) at c.totals_length.ensures in
-    whole c.args.schedule.now c.args.profit c.args.outcomes c.args.word totals-are c.window_length.ensures
-    c.if-room-totals.false c.intervals_fit.ensures TooLong c.in-TooLong.is
+    rw (sym (whole c.args.schedule.now c.args.profit c.args.outcomes c.args.word totals-are c.window_length.ensures
+    c.if-room-totals.false c.intervals_fit.ensures None c.in_err-bytes.was)) (search rules)
 
-pub returns-in-Bytes : goal.returns-in-Bytes
-returns-in-Bytes c =
+pub returns : goal.returns
+returns c =
     let totals-are = rw (plain_fits c.ranges.profit) at c.totals_length.ensures in
     whole c.args.schedule.now c.args.profit c.args.outcomes c.args.word totals-are c.window_length.ensures
-    c.if-room-totals.false c.intervals_fit.ensures (Bytes c.in-Bytes.bytes) c.in-Bytes.is
+    c.if-room-totals.false c.intervals_fit.ensures (Some c.in_ok-bytes.bytes) c.in_ok-bytes.was

@@ -9,7 +9,7 @@ use lib.IntN.{ℤ, pos, nat_abs}
 use lib.ListN.{length, get_or, take, drop, length-drop}
 use mir.Syntax.{w64}
 use mir.Val.{to_z, of_z}
-use Rattle.commitment.specs.declared.BestProfit.{BestProfit}
+use Rattle.commitment.specs.Types.{BestProfit}
 use Rattle.commitment.specs.Bounds.{most_price, most_intervals, most_blocks}
 use Rattle.commitment.specs.Tries.{tries_over}
 use Rattle.commitment.proofs.Tries.{tries-most}

@@ -1,10 +1,10 @@
 -- Above 0, the gap between two runs.
+use Rattle.std.specs.Prelude.{Some}
 use mathlib.Core.Path.{◌≡◌, sym, ap, ap₂, ◌∙◌}
 use Prim.Native.Nat.{ℕ, ◌-◌, ◌<◌}
 use native.Mathlib.Omega.{arith}
 use lib.IntN.{nat_abs}
-use Rattle.commitment.specs.declared.BestProfit.{BestProfit}
-use Rattle.commitment.specs.declared.Limit.TheVariants.{At}
+use Rattle.commitment.specs.Types.{BestProfit}
 use Rattle.commitment.specs.Best.{best, profit_of}
 use Rattle.commitment.specs.Limits.{limit_for, with_limit}
 use Rattle.commitment.specs.Valuing.{run_at, gap_between, gap_at}
@@ -17,16 +17,16 @@ use borrow.Author.Rules.{rules}
 use Rattle.valuation.proofs.run_pair.Statement.{statement}
 use Rattle.valuation.proofs.run_pair.Tie as tie
 
-less : (c : tie.Start) → AtMost (At (c.args.figure - 1)) (limit_for c.args.unit.limits c.args.which)
+less : (c : tie.Start) → AtMost (Some (c.args.figure - 1)) (limit_for c.args.unit.limits c.args.which)
 less c = at-most-less (c.args.figure - 1) c.args.figure (limit_for c.args.unit.limits c.args.which) (omega arith) c.requires.1
 
-small : (c : tie.Start) (k : ℕ) → AtMost (At k) (limit_for c.args.unit.limits c.args.which) → {r : BestProfit}
+small : (c : tie.Start) (k : ℕ) → AtMost (Some k) (limit_for c.args.unit.limits c.args.which) → {r : BestProfit}
     → r ≡ profit_of (best (run_at c.args.unit c.args.which k) c.args.prices.now) → nat_abs (amount r) < most_amount
 small c k h e =
     let a = c.args in
     let limits = a.unit.limits in
     rw e
-    (run_small a.unit a.prices.now a.cells.now c.requires.0.0 (with_limit limits a.which (At k)) (under_one limits a.which (At k) h))
+    (run_small a.unit a.prices.now a.cells.now c.requires.0.0 (with_limit limits a.which (Some k)) (under_one limits a.which (Some k) h))
 
 returns : tie.Need-returns-then-figure-eq0
 returns c =

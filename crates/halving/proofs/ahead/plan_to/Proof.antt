@@ -1,10 +1,10 @@
 -- The pass marks the cell where the plan ends; what is left is a task.
+use Rattle.std.specs.Prelude.{None}
 use mathlib.Core.Path.{◌≡◌, ◌∙◌}
 use Prim.Native.Nat.{ℕ, ◌+◌, ◌-◌, ◌≤◌}
 use native.Mathlib.Omega.{arith}
 use lib.ListN.{length}
-use Rattle.commitment.specs.declared.BestProfit.{BestProfit}
-use Rattle.commitment.specs.declared.BestProfit.TheVariants.{Nothing}
+use Rattle.commitment.specs.Types.{BestProfit}
 use Rattle.commitment.specs.Bounds.{most_intervals}
 use Rattle.optimality.specs.declared.Cell.{Cell}
 use Rattle.optimality.specs.Cells.{value_at}
@@ -51,7 +51,7 @@ at-end : (c : tie.After-marked-at) →
     let a = o.args in
     (worth : Cell → BestProfit) (n : ℕ) (few : n + (a.l.to - a.l.from) ≤ most_intervals)
     (layer : LayerAt a.g.figures n worth (value_of a.g.figures a.g.width a.cells.now))
-    (some : value_at a.g.figures worth (quarters_over a.g a.prices.now a.l) a.l.cell ≡ Nothing → ⊥)
+    (some : value_at a.g.figures worth (quarters_over a.g a.prices.now a.l) a.l.cell ≡ None → ⊥)
     → c.marked-at.result
     ≡ (mark a.g a.cells.now a.prices.now a.room a.l (length a.schedule.now) (asked o) m.mark_ends.new.cells m.mark_ends.ensures worth n few
     layer some).at

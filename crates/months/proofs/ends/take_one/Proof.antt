@@ -4,7 +4,7 @@ use Prim.Native.Nat.{◌+◌}
 use lib.IntN.{pos}
 use lib.ListN.{get_or}
 use Rattle.integers.proofs.Ranges.{plain_fits}
-use Rattle.commitment.specs.declared.BestProfit.{BestProfit}
+use Rattle.commitment.specs.Types.{BestProfit}
 use Rattle.optimality.specs.declared.Cell.{Cell}
 use Rattle.optimality.specs.declared.Figures.{Figures}
 use Rattle.optimality.specs.Cells.{with_most}
