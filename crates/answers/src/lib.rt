@@ -20,7 +20,7 @@ pub const PRICE_ROOM: usize = 6144;
 
 pub const CELL_ROOM: usize = 4000;
 
-// 0 or the number of the cause, and how many bytes were written to the front of the buffer.
+// 0 or the number of the cause, and how many bytes were written to the front of the buffer. No Result: a refusal has its bytes, too.
 #[derive(Clone, Copy)]
 pub struct Answered {
     pub number: u64,

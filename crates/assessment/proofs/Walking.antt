@@ -94,27 +94,6 @@ module _ (u : UnitRecord) where
   abbrev pub profit_from : Bool → List ℤ → List ℕ → ℤ
   profit_from on prices s = earned_in u.generator u.costs prices s -ℤ pos (start_cost u.costs * starts_in on s)
 
-  -- ---- one interval of the walk over two slices
-
-  -- the walk from the interval behind i
-  abbrev next : Walk → List ℤ → List ℕ → ℕ → Walked
-  next at prices s i = walk_from u (stepped u at (get_or prices i (pos 0)) (get_or s i 0)) (drop (i + 1) prices) (drop (i + 1) s)
-
-  walk-next : (at : Walk) (prices : List ℤ) (s : List ℕ) (i : ℕ) → i < length prices → i < length s
-      → walk_from u at (drop i prices) (drop i s) ≡ cond (may_follow u at (get_or s i 0)) (next at prices s i) None
-  walk-next at prices s i h k = rw (drop-next prices i (pos 0) h, drop-next s i 0 k)
-
-  pub walk-on : (at : Walk) (prices : List ℤ) (s : List ℕ) (i : ℕ) → i < length prices → i < length s → may_follow u at (get_or s i 0) ≡ true
-      → next at prices s i ≡ walk_from u at (drop i prices) (drop i s)
-  walk-on at prices s i h k e = sym (walk-next at prices s i h k ∙ ap (λ (t : Bool). cond t (next at prices s i) None) e)
-
-  pub walk-broken : (at : Walk) (prices : List ℤ) (s : List ℕ) (i : ℕ) → i < length prices → i < length s → may_follow u at (get_or s i 0) ≡ false
-      → walk_from u at (drop i prices) (drop i s) ≡ None
-  walk-broken at prices s i h k e = walk-next at prices s i h k ∙ ap (λ (t : Bool). cond t (next at prices s i) None) e
-
-  pub walk-done : (at : Walk) (prices : List ℤ) (s : List ℕ) (i : ℕ) → length prices ≤ i → walk_from u at (drop i prices) (drop i s) ≡ Some at
-  walk-done at prices s i h = rw (drop_of_length-le prices {i = i} h)
-
   -- ---- what the walk concludes
 
   -- an interval that may follow where t holds, before a rest that ends in a

@@ -111,14 +111,11 @@ fn walk_whole(unit: UnitRecord, prices: &[i64], schedule: &[u64]) -> Option<Walk
     ensures { result ≡ walk_from unit (opening_walk unit.opening) prices.now schedule.now }
 {
     let mut at = open(unit);
-    let mut i = 0;
-    while i < prices.len() {
-        let output = schedule[i];
-        if !may_follow(unit, at, output) {
+    for (price, output) in prices.iter().zip(schedule) {
+        if !may_follow(unit, at, *output) {
             return None;
         }
-        at = step(unit, at, prices[i], output);
-        i += 1;
+        at = step(unit, at, *price, *output);
     }
     Some(at)
 }

@@ -28,19 +28,15 @@ pub fn months_kept(date: Date, limits: Limits, was: bool, schedule: &[u64]) -> b
     ensures { result ≡ keeps_months (months_of date limits (length schedule.now)) was schedule.now }
 {
     let cuts = cuts::cuts_of(date, schedule.len());
-    let at = cuts.at;
-    let count = cuts.count;
     let mut on = was;
-    let mut k = 0;
-    while k < count {
-        let from = at[k];
-        let to = at[k + 1];
+    for k in 0..cuts.count {
+        let from = cuts.at[k];
+        let to = cuts.at[k + 1];
         let spent = counts_in(on, &schedule[from..to]);
         if !crate::spent_within(limits, spent.starts, spent.running, spent.output) {
             return false;
         }
         on = spent.on;
-        k += 1;
     }
     true
 }

@@ -1,7 +1,7 @@
 -- The clock that is found runs as the days do. What it is ahead is what daylight time is at the hour, less what it was at the date's midnight; and a
 -- change of time is over at an hour exactly when as many hours have passed as the clock says.
 use mathlib.Core.Path.{◌≡◌, refl, sym, ap, ◌∙◌}
-use mathlib.Core.Logic.{◌⊎◌, ⊎_elim}
+use mathlib.Core.Logic.{⊎_elim}
 use mathlib.Core.Bool.{Bool, true, false, cond}
 use Prim.Native.Nat.{ℕ, ◌+◌, ◌-◌, ◌*◌, ◌%◌, ◌<◌, ◌≤◌}
 use native.Mathlib.Nat.{add-zero, eq-or-lt_of_le}

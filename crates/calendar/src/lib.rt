@@ -244,14 +244,12 @@ pub fn month_of(date: Date, interval: u64) -> u64
     requires { (dates.Within dates.last_year date) × (interval < months.year_intervals) }
     ensures { result ≡ months.month_of date interval }
 {
-    let mut month: u64 = 1;
-    while month < MOST_MONTHS {
+    for month in 1..MOST_MONTHS {
         if interval < month_begins(date, month + 1) {
             return month;
         }
-        month += 1;
     }
-    month
+    MOST_MONTHS
 }
 
 // ---- words of permitted hours

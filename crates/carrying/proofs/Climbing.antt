@@ -6,12 +6,15 @@ use mathlib.Core.Logic.{◌⊎◌, ⊎_elim, inl, inr}
 use Prim.Native.Nat.{ℕ, zero, suc, ◌+◌, ◌-◌, ◌^◌, ◌≤◌, ◌<◌}
 use native.Mathlib.Numerals.{add-one}
 use native.Mathlib.Omega.{arith}
+use lib.Dec.{lit<}
 use lib.IntN.{ℤ, pos, ◌+ℤ◌, ◌-ℤ◌, +ℤ-neg_ℤ_cancel}
 use lib.ListN.{get_or}
 use lib.Signed.{◌≤ℤ◌, ◌<ℤ◌, le_z, lt_z}
+use mir.Syntax.{w64}
+use mir.Val.{to_z, of_z}
 use Rattle.integers.proofs.Linear.{zarith, zsum}
 use Rattle.integers.proofs.Order.{lt_z-dec, le_z-true, le-le_z}
-use Rattle.integers.proofs.Ranges.{Within, within-abs, within-weaken, within-sum, within-diff}
+use Rattle.integers.proofs.Ranges.{Within, plain, within-abs, within-weaken, within-sum, within-diff}
 use Rattle.geometry.specs.Layers.{swing}
 use Rattle.intervals.specs.Ladders.{most_brought}
 use Rattle.carrying.specs.declared.images.Slope.{Slope}
@@ -24,6 +27,14 @@ le_z-false : (x y : ℤ) → le_z x y ≡ false → y <ℤ x
 le_z-false x y e =
     ⊎_elim (λ (w : (lt_z y x ≡ true) × (y <ℤ x)). w.1)
     (λ (w : (lt_z y x ≡ false) × (x ≤ℤ y)). absurd (false≢true (sym e ∙ le-le_z x y w.1))) (lt_z-dec y x)
+
+-- what is gained, and what is gained more, as the machine has them
+module _ {cells : List ℤ} {w : ℕ} {slope : Slope} (s : Sources cells w slope) where
+  pub gain-plain : to_z w64 (of_z w64 slope.gain) ≡ slope.gain
+  gain-plain = plain (within-weaken s.gains (within-abs slope.gain)) (lit< tt)
+
+  pub rise-plain : to_z w64 (of_z w64 slope.rise) ≡ slope.rise
+  rise-plain = plain (within-weaken s.rises (within-abs slope.rise)) (lit< tt)
 
 module _ (cells : List ℤ) (w : ℕ) (slope : Slope) where
   -- the i-th source, and its mark

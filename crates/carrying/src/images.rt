@@ -34,21 +34,16 @@ fn climb(cells: &[i64], w: usize, s: Slope, out: &mut [i64], to: usize)
     requires { (Sources cells.now w s) × (to + s.count ≤ piece) × (piece + piece ≤ length out.old) }
     ensures { Aside (UpPicked cells.now w s) out.old out.new to s.count }
 {
-    let from = s.from;
-    let count = s.count;
-    let gain = s.gain;
-    let rise = s.rise;
-    let mut best = cells[from] - rise;
+    let mut best = cells[s.from] - s.rise;
     let mut mark = 0;
-    let mut i = 0;
-    while i < count {
-        let number = cells[from + i];
-        let carried = best + rise;
+    for i in 0..s.count {
+        let at = s.from + i;
+        let number = cells[at];
+        let carried = best + s.rise;
         let taken = carried <= number;
         best = pairs::either(taken, number, carried);
-        mark = pairs::either(taken, cells[w + (from + i)], mark);
-        pairs::put(out, PIECE, to + i, best + gain, mark);
-        i += 1;
+        mark = pairs::either(taken, cells[w + at], mark);
+        pairs::put(out, PIECE, to + i, best + s.gain, mark);
     }
 }
 
@@ -58,23 +53,17 @@ fn descend(cells: &[i64], w: usize, s: Slope, out: &mut [i64], to: usize)
     requires { (Sources cells.now w s) × (to + s.count ≤ piece) × (piece + piece ≤ length out.old) }
     ensures { Descended cells.now w s out.old out.new to s.count }
 {
-    let from = s.from;
-    let count = s.count;
-    let gain = s.gain;
-    let fall = s.rise;
-    let last = count - 1;
-    let mut best = cells[from + last] - fall;
-    let mut mark = cells[w + (from + last)];
-    let mut i = 0;
-    while i < count {
-        let j = last - i;
-        let number = cells[from + j];
-        let carried = best + fall;
+    let last = s.from + (s.count - 1);
+    let mut best = cells[last] - s.rise;
+    let mut mark = cells[w + last];
+    for i in (0..s.count).rev() {
+        let at = s.from + i;
+        let number = cells[at];
+        let carried = best + s.rise;
         let taken = carried < number;
         best = pairs::either(taken, number, carried);
-        mark = pairs::either(taken, cells[w + (from + j)], mark);
-        pairs::join(out, PIECE, to + j, best + gain, mark);
-        i += 1;
+        mark = pairs::either(taken, cells[w + at], mark);
+        pairs::join(out, PIECE, to + i, best + s.gain, mark);
     }
 }
 
@@ -84,19 +73,17 @@ fn chunk(cells: &[i64], w: usize, p: Places, l: Ladder, out: &mut [i64], to: usi
     requires { (Chunk l cells.now w p) × (to + outputs l ≤ piece) × (piece + piece ≤ length out.old) }
     ensures { Chunked l cells.now w p out.old out.new to }
 {
-    let low = l.low;
-    let high = l.high;
     let up = Slope {
-        from: p.line + (p.first - low),
+        from: p.line + (p.first - l.low),
         count: p.count,
         gain: l.least,
         rise: l.rise,
     };
     climb(cells, w, up, &mut *out, to);
-    if (high < p.first) & (low < high) {
+    if l.high < p.first && l.low < l.high {
         let down = Slope {
-            from: p.line + (p.first - high),
-            count: high - low,
+            from: p.line + (p.first - l.high),
+            count: l.high - l.low,
             gain: rows::most(l),
             rise: 0 - l.rise,
         };
@@ -110,18 +97,13 @@ pub fn chunks(cells: &[i64], w: usize, p: Places, l: Ladder, out: &mut [i64])
     ensures { Imaged (λ i v m. PickedAt l cells.now w p.line (p.first + i) v m) out.old out.new p.count }
 {
     let size = l.high - l.low + 1;
-    let line = p.line;
-    let z = p.first;
-    let count = p.count;
-    let mut done = 0;
-    while done < count {
+    for done in (0..p.count).step_by(size) {
         let some = Places {
-            line,
-            first: z + done,
-            count: integers::smaller(size, count - done),
+            line: p.line,
+            first: p.first + done,
+            count: integers::smaller(size, p.count - done),
         };
         chunk(cells, w, some, l, out, done);
-        done += size;
     }
 }
 
@@ -130,10 +112,8 @@ pub fn nothing(out: &mut [i64], count: usize)
     requires { (count ≤ piece) × (piece + piece ≤ length out.old) }
     ensures { Imaged (λ i v m. v ≡ infeasible) out.old out.new count }
 {
-    let mut i = 0;
-    while i < count {
+    for i in 0..count {
         pairs::put(out, PIECE, i, geometry::INFEASIBLE, 0);
-        i += 1;
     }
 }
 
@@ -150,15 +130,8 @@ pub fn shifted(
     requires { (Shift cells.now w from count gain) × (to + count ≤ piece) × (piece + piece ≤ length out.old) }
     ensures { Aside (Shifted cells.now w from gain) out.old out.new to count }
 {
-    let mut i = 0;
-    while i < count {
-        pairs::put(
-            out,
-            PIECE,
-            to + i,
-            cells[from + i] + gain,
-            cells[w + (from + i)],
-        );
-        i += 1;
+    for i in 0..count {
+        let at = from + i;
+        pairs::put(out, PIECE, to + i, cells[at] + gain, cells[w + at]);
     }
 }

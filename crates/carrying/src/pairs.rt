@@ -3,6 +3,7 @@
 ghost use Rattle.std.specs.Prelude.{◌≡◌, cond, ◌+◌, ◌≤◌, ◌<◌, length};
 ghost use Rattle.carrying.specs.Pairs.{put_pair, join_pair, Pairs, JoinedFrom};
 
+// A function, whose two values are both worked out before the choice: a value and its mark are then selected by one fact each, not by cases.
 pub fn either(first: bool, a: i64, b: i64) -> i64
     ensures { result ≡ cond first a b }
 {
@@ -43,11 +44,7 @@ pub fn join_all(
     requires { (to + count ≤ behind) × (behind + behind ≤ length cells.old) × (count ≤ aside) × (aside + aside ≤ length image.now) }
     ensures { Pairs behind (JoinedFrom behind aside cells.old image.now to) cells.old cells.new to count }
 {
-    let mut i = 0;
-    while i < count {
-        let value = image[i];
-        let mark = image[aside + i];
-        join(cells, behind, to + i, value, mark);
-        i += 1;
+    for i in 0..count {
+        join(cells, behind, to + i, image[i], image[aside + i]);
     }
 }

@@ -123,7 +123,7 @@ fn limit_under(name: &[u8], row: &Row) -> Option<u64>
     limit(row.value_under(name))
 }
 
-// Above every range: what a field cannot hold.
+// Above every range: what a field cannot hold. A number and no Option, as the definitions `whole_of` and `limit_of` have it: 3 refuses it.
 pub const BEYOND: u64 = 10000000000;
 
 // A figure that has to be a number: `none` is put beyond every range, where 3 refuses it.

@@ -9,7 +9,7 @@ ghost use Rattle.casefile.specs.Reading.{unit_in, prices_in, case_in};
 
 use commitment::{Cause, Costs, Generator, Limits, Opening, UnitRecord};
 
-// The record of a text, and how many prices it has.
+// The record of a text, and how many prices it has, which go into a slice that is lent: nothing is allocated.
 #[derive(Clone, Copy)]
 pub struct Case {
     pub unit: UnitRecord,
@@ -53,7 +53,8 @@ pub fn read_into(text: &[u8], prices: &mut [i64]) -> Result<Case, Cause>
     Ok(case)
 }
 
-// The same, with the filled front part of the caller's own slice as the answer, empty on a refusal, and the number beside it.
+// The same, with the filled front part of the caller's own slice as the answer, empty on a refusal. The number goes through a reference, since its clause
+// `number.new` holds of an outside call.
 pub fn read<'a>(text: &[u8], prices: &'a mut [i64], number: &mut u64) -> &'a mut [i64]
     ensures { (result.now ≡ read_part text.now (length prices.old))
         × ((result.ref_ptr ≡ prices.entry.ref_ptr)
@@ -69,20 +70,14 @@ pub fn read<'a>(text: &[u8], prices: &'a mut [i64], number: &mut u64) -> &'a mut
 pub fn count_of(answer: Result<Case, Cause>) -> usize
     ensures { result ≡ read_count answer }
 {
-    match answer {
-        Ok(case) => case.count,
-        Err(_) => 0,
-    }
+    answer.map_or(0, |case| case.count)
 }
 
 // The record, on a refusal one of zeros with no limitation.
 pub fn unit_of(answer: Result<Case, Cause>) -> UnitRecord
     ensures { result ≡ read_unit answer }
 {
-    match answer {
-        Ok(case) => case.unit,
-        Err(_) => no_unit(),
-    }
+    answer.map_or(no_unit(), |case| case.unit)
 }
 
 // The record of no case.

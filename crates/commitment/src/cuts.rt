@@ -9,6 +9,7 @@ ghost use Rattle.commitment.specs.Cuts.{CutsOf};
 use calendar::Date;
 
 // Month k, counted from 0, has the intervals from `at[k]` to before `at[k + 1]`. A horizon of a year has thirteen months at most.
+// Nothing is allocated, so there is room for them all, and `count` says how many there are.
 #[derive(Clone, Copy)]
 pub struct Cuts {
     pub at: [usize; 14],

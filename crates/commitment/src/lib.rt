@@ -36,7 +36,7 @@ pub struct Costs {
     pub suc: u64,
 }
 
-// The state before interval 1, and the intervals spent in it.
+// The state before interval 1, and the intervals spent in it. `was` is a number, since a record may hold any, and gets number 3 above 1 (`opening_kept`).
 #[derive(Clone, Copy)]
 pub struct Opening {
     pub was: u64,

@@ -5,7 +5,7 @@ use commitment::{Cause, Costs, Generator, Limits, Opening, Outcome, Outcomes, Un
 use enumeration::enumerator::{Allowed, Case, PerLimit, ROOM, Worth};
 use enumeration::expectation::{Expected, Refusal, UNTOUCHED, refusal_of, refused, schedule_of};
 use enumeration::lending::{LENGTHS, Lent};
-use enumeration::numbers::{difference, one_if};
+use enumeration::numbers::difference;
 use enumeration::tally::Agreed;
 use enumeration::{enumerator, lending};
 use planner::{BestPlan, Report};
@@ -25,8 +25,8 @@ fn each_agreed(case: Case, prices: &[i64], expected: Expected, scratch: &mut [i6
         report: true,
         assess: same_profits(case, unit, prices),
     };
-    for length in LENGTHS {
-        let lent = lending::lent_of(case, length);
+    for number in 0..LENGTHS {
+        let lent = lending::lent_of(case, number);
         let answer = expected_with(case, expected, lent);
         agreed = both(
             agreed,
@@ -49,7 +49,7 @@ fn both(one: Agreed, other: Agreed) -> Agreed {
 fn expected_with(case: Case, expected: Expected, lent: Lent) -> Expected {
     match lent.used {
         Some(_) => expected,
-        None => refused(refusal_of(case, Refusal::Scratch)),
+        None => refused(refusal_of(case, u64::from(Refusal::Scratch))),
     }
 }
 
@@ -77,7 +77,8 @@ fn agreed_with(
 // That there is no schedule is found by planning; every other refusal comes before any work.
 fn used_for(expected: Expected, lent: Lent) -> usize {
     match expected.answer {
-        Ok(_) | Err(Refusal::NoSchedule) => lent.used.unwrap_or(0),
+        Ok(_) => lent.used.unwrap_or(0),
+        Err(number) if number == u64::from(Refusal::NoSchedule) => lent.used.unwrap_or(0),
         Err(_) => 0,
     }
 }
@@ -120,6 +121,7 @@ fn left_by<Call: FnOnce(&mut [i64]) -> bool>(scratch: &mut [i64], used: usize, c
 
 // ---- the case as the calls take it
 
+// No From: both types are of other crates.
 fn unit_of(case: Case) -> UnitRecord {
     let PerLimit { starts, hours, mwh } = case.limits;
     UnitRecord {
@@ -136,7 +138,7 @@ fn unit_of(case: Case) -> UnitRecord {
             suc: u64::from(case.suc),
         },
         opening: Opening {
-            was: one_if(case.was_on),
+            was: u64::from(case.was_on),
             held: u64::from(case.held),
         },
         limits: Limits {
@@ -148,6 +150,7 @@ fn unit_of(case: Case) -> UnitRecord {
     }
 }
 
+// No From: both types are of other crates.
 fn window_of(allowed: Allowed) -> Window {
     Window {
         date: Date {
@@ -179,7 +182,7 @@ pub fn same_plan(
 
 fn plan_agrees(answer: Result<BestPlan, Cause>, intervals: usize, expected: Expected) -> bool {
     match (answer, expected.answer) {
-        (Err(cause), Err(refusal)) => same_number(cause, refusal),
+        (Err(cause), Err(number)) => same_number(cause, number),
         (Ok(made), Ok(plan)) => (made.count == intervals) & (made.profit == plan.profit),
         _ => false,
     }
@@ -187,7 +190,7 @@ fn plan_agrees(answer: Result<BestPlan, Cause>, intervals: usize, expected: Expe
 
 fn same_value(unit: UnitRecord, prices: &[i64], expected: Expected, scratch: &mut [i64]) -> bool {
     match (planner::value(unit, prices, scratch), expected.answer) {
-        (Err(cause), Err(refusal)) => same_number(cause, refusal),
+        (Err(cause), Err(number)) => same_number(cause, number),
         (Ok(outcomes), Ok(plan)) => worths_of(outcomes) == plan.worths,
         _ => false,
     }
@@ -201,7 +204,7 @@ fn same_report(unit: UnitRecord, prices: &[i64], expected: Expected, scratch: &m
 
 fn report_agrees(answer: Result<Report, Cause>, intervals: usize, expected: Expected) -> bool {
     match (answer, expected.answer) {
-        (Err(cause), Err(refusal)) => same_number(cause, refusal),
+        (Err(cause), Err(number)) => same_number(cause, number),
         (Ok(report), Ok(plan)) => {
             (report.count == intervals)
                 & (report.profit == plan.profit)
@@ -211,8 +214,8 @@ fn report_agrees(answer: Result<Report, Cause>, intervals: usize, expected: Expe
     }
 }
 
-pub fn same_number(cause: Cause, refusal: Refusal) -> bool {
-    u64::from(cause) == u64::from(refusal)
+pub fn same_number(cause: Cause, number: u64) -> bool {
+    u64::from(cause) == number
 }
 
 // Every list handed in, kept or not: it is passed with its profit, or refused as not kept or for a date that does not exist.
@@ -225,12 +228,13 @@ fn same_profit(case: Case, unit: UnitRecord, prices: &[i64], number: u64) -> boo
     let schedule = schedule_of(case, number);
     let answer = assessment::assess(unit, prices, &schedule[..n]);
     match (answer, enumerator::judged(case, number)) {
-        (Err(cause), None) => same_number(cause, refusal_of(case, Refusal::NotKept)),
+        (Err(cause), None) => same_number(cause, refusal_of(case, u64::from(Refusal::NotKept))),
         (Ok(profit), Some(found)) => profit == enumerator::profit_of(found),
         _ => false,
     }
 }
 
+// No From: both types are of other crates.
 fn worths_of(outcomes: Outcomes) -> PerLimit<Worth> {
     PerLimit {
         starts: worth_of(outcomes.starts),

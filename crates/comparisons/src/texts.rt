@@ -8,7 +8,6 @@ use crate::comparison::same_number;
 use enumeration::enumerator;
 use enumeration::enumerator::{Allowed, Case, PerLimit, ROOM};
 use enumeration::expectation::{Expected, Refusal};
-use enumeration::numbers::one_if;
 use std::fmt::Write;
 use std::{array, fmt};
 
@@ -43,20 +42,20 @@ const PARTS: [Part; 6] = [
     Part::Window,
 ];
 
-// The sequence of the parts, and which of the last four stand: a set as bits, as the hour word is.
+// The sequence of the parts, and which of the last four stand.
 #[derive(Clone, Copy)]
 struct Sheet {
     sequence: [Part; 6],
-    four: u64,
+    four: [bool; 4],
 }
 
 // What reading the text says.
-pub fn reading_of(case: Case, number: u64) -> Result<(), Refusal> {
+pub fn reading_of(case: Case, number: u64) -> Result<(), u64> {
     if is_part(number) {
-        return Err(Refusal::Name);
+        return Err(u64::from(Refusal::Name));
     }
     if !enumerator::date_exists(case) {
-        return Err(Refusal::Date);
+        return Err(u64::from(Refusal::Date));
     }
     Ok(())
 }
@@ -76,7 +75,7 @@ pub fn same_text(
         casefile::read_into(page.written(), &mut prices),
         reading_of(case, number),
     ) {
-        (Err(cause), Err(refusal)) => same_number(cause, refusal),
+        (Err(cause), Err(number)) => same_number(cause, number),
         (Ok(read), Ok(())) => {
             (read.count == n) & comparison::same_plan(read.unit, &prices[..n], expected, scratch)
         }
@@ -106,20 +105,26 @@ fn sequence_of(number: u64) -> [Part; 6] {
 }
 
 // None or all of the four names, or one to three of them, which is refused.
-fn four_of(case: Case, number: u64) -> u64 {
+fn four_of(case: Case, number: u64) -> [bool; 4] {
     if is_part(number) {
-        return number % 14 + 1;
+        let set = number % 14 + 1;
+        return [
+            set % 2 == 1,
+            set / 2 % 2 == 1,
+            set / 4 % 2 == 1,
+            set / 8 % 2 == 1,
+        ];
     }
-    15 * one_if(case.allowed.is_some())
+    [case.allowed.is_some(); 4]
 }
 
-fn stands(part: Part, four: u64) -> bool {
+fn stands(part: Part, four: [bool; 4]) -> bool {
     match part {
         Part::Unit | Part::Rest => true,
-        Part::Year => four % 2 == 1,
-        Part::Month => four / 2 % 2 == 1,
-        Part::Day => four / 4 % 2 == 1,
-        Part::Window => four / 8 % 2 == 1,
+        Part::Year => four[0],
+        Part::Month => four[1],
+        Part::Day => four[2],
+        Part::Window => four[3],
     }
 }
 
@@ -128,21 +133,32 @@ fn stands(part: Part, four: u64) -> bool {
 // The hours are those drawn, of which a part may stand where the case has none.
 fn text_of(case: Case, hours: Allowed, sheet: Sheet) -> Page {
     let mut page = Page::new();
-    put_names(&mut page, sheet);
-    put_values(&mut page, case, hours, sheet);
+    put_line(&mut page, sheet, put_name);
+    put_line(
+        &mut page,
+        sheet,
+        |page, part| put_value(page, part, case, hours),
+    );
     page.push_all(b"\nprice\n");
     put_prices(&mut page, case);
     page
 }
 
-fn put_names(page: &mut Page, sheet: Sheet) {
+// A line of the parts that stand, in their sequence.
+fn put_line<Put: Fn(&mut Page, Part)>(page: &mut Page, sheet: Sheet, put: Put)
+    requires { Put.IsAlwaysCallable put }
+{
     for part in sheet.sequence {
         if stands(part, sheet.four) {
-            page.push_comma();
-            page.push_all(names_of(part));
+            put(&mut *page, part);
         }
     }
     page.push(b'\n');
+}
+
+fn put_name(page: &mut Page, part: Part) {
+    page.push_comma();
+    page.push_all(names_of(part));
 }
 
 fn names_of(part: Part) -> &'static [u8] {
@@ -156,16 +172,7 @@ fn names_of(part: Part) -> &'static [u8] {
     }
 }
 
-fn put_values(page: &mut Page, case: Case, hours: Allowed, sheet: Sheet) {
-    for part in sheet.sequence {
-        if stands(part, sheet.four) {
-            put_part(page, part, case, hours);
-        }
-    }
-    page.push(b'\n');
-}
-
-fn put_part(page: &mut Page, part: Part, case: Case, hours: Allowed) {
+fn put_value(page: &mut Page, part: Part, case: Case, hours: Allowed) {
     match part {
         Part::Unit => put_unit(page, case),
         Part::Rest => put_rest(page, case),
@@ -180,7 +187,7 @@ fn put_unit(page: &mut Page, case: Case) {
     for size in [case.block, case.pmin, case.pmax, case.mot, case.mdt] {
         page.push_figure(u64::from(size));
     }
-    page.push_figure(one_if(case.was_on));
+    page.push_figure(u64::from(case.was_on));
 }
 
 fn put_rest(page: &mut Page, case: Case) {

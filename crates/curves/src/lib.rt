@@ -42,7 +42,7 @@ pub struct Segment {
     pub price: i64,
 }
 
-// The final curve, a segment in the same place of the three lists, and how many there are; or 3, 11 or 7.
+// The final curve, and how many segments it has; or 3, 11 or 7. A point stands in the same place of two lists, a segment in that of three, as C lends them.
 pub fn curve_into(
     inputs: CurveInputs,
     levels: &[u64],
@@ -151,13 +151,11 @@ fn fill(
     let segments = levels.len() - 1;
     let mut last = own_segment(inputs, levels, rates, 0);
     let mut count = 0;
-    let mut i = 1;
-    while i < segments {
+    for i in 1..segments {
         let next = own_segment(inputs, levels, rates, i);
         let closed = dearer(last, next);
         count = close_if(closed, last, count, froms, tos, prices);
         last = open_after(closed, last, next);
-        i += 1;
     }
     put(last, count, froms, tos, prices);
     count + 1

@@ -2,8 +2,6 @@
 use Rattle.std.specs.Prelude.{ℕ, ◌+◌, ◌*◌, ◌/◌, ◌%◌, Bool, true, cond, Option, None, Some, ◌&&◌, ◌||◌, ◌==◌, nat_le, nat_lt}
 use Rattle.enumeration.specs.declared.enumerator.Allowed.{Allowed}
 use Rattle.enumeration.specs.declared.enumerator.Case.{Case}
-use Rattle.enumeration.specs.declared.expectation.Refusal.{Refusal}
-use Rattle.enumeration.specs.declared.expectation.Refusal.TheVariants.{Date}
 
 -- Zeller's congruence, for a year from 2000 to 2099 and a month from March on
 abbrev pub is_sunday : Allowed → Bool
@@ -31,6 +29,6 @@ on_a_day (Some a) = nat_le a.day (days_of a)
 unfoldable pub date_exists : Case → Bool
 date_exists case = on_a_day case.allowed
 
--- a call's refusal, or that of a date that does not exist
-abbrev pub refusal_of : Case → Refusal → Refusal
-refusal_of case refusal = cond (date_exists case) refusal Date
+-- the number of a call's refusal, or that of a date that does not exist
+abbrev pub refusal_of : Case → ℕ → ℕ
+refusal_of case number = cond (date_exists case) number 12

@@ -1,7 +1,6 @@
 -- What the enumerator's answers say of a limitation and of a case.
 use Rattle.std.specs.Prelude.{◌≡◌, ℕ, ◌+◌, ◌*◌, ◌/◌, ◌^◌, ◌≤◌, Option, IsNone, MatchOption, Ok, Err, IfOk, replicate, ℤ, pos, ◌-ℤ◌, ◌≢◌}
 use Rattle.enumeration.specs.declared.expectation.Expected.{Expected}
-use Rattle.enumeration.specs.declared.expectation.Refusal.{Refusal}
 use Rattle.enumeration.specs.declared.enumerator.Case.{Case}
 use Rattle.enumeration.specs.declared.found.Found.{Found}
 use Rattle.enumeration.specs.declared.enumerator.Sums.{Sums}
@@ -10,7 +9,6 @@ use Rattle.enumeration.specs.declared.enumerator.Worth.{Worth}
 use Rattle.enumeration.specs.declared.enumerator.Worth.TheVariants.{None, Empty, Never, Gap}
 use Rattle.enumeration.specs.Limits.{for_limit}
 use Rattle.enumeration.specs.Lists.{room, untouched}
-use Rattle.enumeration.specs.Refusals.{number_of}
 
 -- after i intervals
 pub record Summed (i : ℕ) (sums : Sums) : Type 0 where
@@ -44,11 +42,11 @@ WorthOf cap (Gap gap) = MatchOption cap ⊥ (λ most. most * 9 / 10 ≢ 0)
 
 -- a plan's number is 0
 abbrev pub number_in : Expected → ℕ
-number_in expected = elim expected.answer [ Ok plan ↦ 0 | Err refusal ↦ number_of refusal ]
+number_in expected = elim expected.answer [ Ok plan ↦ 0 | Err number ↦ number ]
 
 -- a refusal, and the entries as they were
-pub record Refused (refusal : Refusal) (expected : Expected) : Type 0 where
-  pub answer : expected.answer ≡ Err refusal
+pub record Refused (number : ℕ) (expected : Expected) : Type 0 where
+  pub answer : expected.answer ≡ Err number
   pub schedule : expected.schedule ≡ replicate room untouched
 
 -- with a plan, each limitation has its outcome

@@ -33,6 +33,13 @@ used_of long two cells = cond (nat_le long cells) (Some long) (cond (nat_le two 
 abbrev pub lent_with : ℕ → ℕ → ℕ → Lent
 lent_with long two cells = record { cells = cells; used = used_of long two cells }
 
+-- by number, the last for every number above
+abbrev pub length_for : ℕ → Length
+length_for zero = Long
+length_for (suc zero) = UnderLong
+length_for (suc (suc zero)) = TwoLayers
+length_for (suc (suc (suc number))) = UnderTwoLayers
+
 -- the long table, two layers, and one cell less than each
 abbrev pub length_of : ℕ → ℕ → Length → ℕ
 length_of long two Long = long
@@ -40,8 +47,8 @@ length_of long two UnderLong = one_less long
 length_of long two TwoLayers = two
 length_of long two UnderTwoLayers = one_less two
 
-abbrev pub lent_of : Case → Length → Lent
-lent_of case length =
+abbrev pub lent_of : Case → ℕ → Lent
+lent_of case number =
     let two = 2 * layer_of case in
     let long = layer_of case * (intervals_of case + 1) in
-    lent_with long two (length_of long two length)
+    lent_with long two (length_of long two (length_for number))

@@ -8,7 +8,7 @@ ghost use Rattle.enumeration.specs.Expecting.{Summed, OneMore, cap_of, earnings,
 ghost use Rattle.enumeration.specs.Limits.{for_limit, with_limit};
 
 use crate::found::Found;
-use crate::numbers::{difference, one_if, times};
+use crate::numbers::{difference, times};
 
 // The intervals that a list has room for, so that the third hour of the day is reached, and the outputs of an interval. specs/Lists.antt has the same.
 pub const ROOM: usize = 9;
@@ -39,7 +39,8 @@ pub struct Allowed {
     pub word: u32,
 }
 
-// A case in plain numbers: each limitation and the permitted hours where there are any. The price of interval i + 1 is up[i] − down.
+// A case in plain numbers: each limitation and the permitted hours where there are any. The price of interval i + 1 is up[i] − down. Nothing is
+// allocated, so `up` has room for the most intervals.
 #[derive(Clone, Copy)]
 pub struct Case {
     pub intervals: u8,
@@ -282,7 +283,7 @@ fn days_of(allowed: Allowed) -> u64
     ensures { result ≡ days_of allowed }
 {
     match allowed.month {
-        2 => 28 + one_if(allowed.year % 4 == 0),
+        2 => 28 + u64::from(allowed.year % 4 == 0),
         4 | 6 | 9 | 11 => 30,
         _ => 31,
     }
@@ -310,11 +311,11 @@ fn with_interval(case: Case, sums: Sums, output: u64, price: u64) -> Sums
     ensures { OneMore sums result }
 {
     let on = 0 < output;
-    let start = one_if(!sums.on & on);
+    let start = u64::from(!sums.on & on);
     Sums {
         on,
         starts: sums.starts + start,
-        running: sums.running + one_if(on),
+        running: sums.running + u64::from(on),
         output: sums.output + output,
         earned: sums.earned + times(output, price),
         spent: sums.spent + times(u64::from(case.suc), 4 * start) + spent_on(case, output),
@@ -354,7 +355,7 @@ pub fn judged(case: Case, number: u64) -> Option<Found> {
     })
 }
 
-// The better of two, the first where they tie.
+// The better of two, the first where they tie. Field by field, since a struct with ghost fields takes no `..`.
 fn better(first: Found, next: Found) -> Found {
     let one = first.earned + next.spent;
     let other = next.earned + first.spent;

@@ -44,18 +44,18 @@ pub struct Plan {
     pub worths: PerLimit<Worth>,
 }
 
-// The entries of the slice lent for the schedule, and the plan or why there is none.
+// The entries of the slice lent for the schedule, and the plan or the number of the refusal. `refused` takes any number, so that it is one here.
 #[derive(Clone, Copy)]
 pub struct Expected {
     pub schedule: [u64; ROOM],
-    pub answer: Result<Plan, Refusal>,
+    pub answer: Result<Plan, u64>,
 }
 
 pub fn expected_of(case: Case) -> Expected
     ensures { ExpectedOf case result }
 {
     let Some(best) = enumerator::best_of(case) else {
-        return refused(refusal_of(case, Refusal::NoSchedule));
+        return refused(refusal_of(case, u64::from(Refusal::NoSchedule)));
     };
     Expected {
         schedule: schedule_of(case, best.number),
@@ -72,23 +72,23 @@ pub fn expected_of(case: Case) -> Expected
 }
 
 // A refused call leaves the schedule as it was.
-pub fn refused(refusal: Refusal) -> Expected
-    ensures { Refused refusal result }
+pub fn refused(number: u64) -> Expected
+    ensures { Refused number result }
 {
     Expected {
         schedule: [UNTOUCHED; ROOM],
-        answer: Err(refusal),
+        answer: Err(number),
     }
 }
 
-// The call's refusal, or that the date does not exist.
-pub fn refusal_of(case: Case, refusal: Refusal) -> Refusal
-    ensures { result ≡ refusal_of case refusal }
+// The number of the call's refusal, or that of a date that does not exist.
+pub fn refusal_of(case: Case, number: u64) -> u64
+    ensures { result ≡ refusal_of case number }
 {
     if enumerator::date_exists(case) {
-        refusal
+        number
     } else {
-        Refusal::Date
+        u64::from(Refusal::Date)
     }
 }
 

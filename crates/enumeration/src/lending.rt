@@ -4,7 +4,7 @@
 ghost use Rattle.std.specs.Prelude.{◌≡◌, ◌+◌, ◌*◌, ◌^◌, ◌<◌, ◌≤◌, true, ◌↔◌, length};
 ghost use Rattle.enumeration.specs.Lists.{room};
 ghost use Rattle.enumeration.specs.Lists as lists;
-ghost use Rattle.enumeration.specs.Lengths.{most_left, layer_of, one_less, length_of, used_of, lent_with, lent_of};
+ghost use Rattle.enumeration.specs.Lengths.{most_left, layer_of, one_less, length_for, length_of, used_of, lent_with, lent_of};
 ghost use Rattle.enumeration.specs.Fillings.{left_at, cells_from};
 ghost use Rattle.enumeration.specs.Fillings as fillings;
 
@@ -12,20 +12,30 @@ use crate::enumerator;
 use crate::enumerator::Case;
 use crate::numbers::{difference, times};
 
-// The lengths that each case is tried with: the long table, two layers, and one cell less than each.
-pub const LENGTHS: [Length; 4] = [
-    Length::Long,
-    Length::UnderLong,
-    Length::TwoLayers,
-    Length::UnderTwoLayers,
-];
+// Each case is tried with so many lengths.
+pub const LENGTHS: u64 = 4;
 
+// The long table, two layers, and one cell less than each.
 #[derive(Clone, Copy, PartialEq, Eq)]
 pub enum Length {
     Long,
     UnderLong,
     TwoLayers,
     UnderTwoLayers,
+}
+
+// By number, the last for every number above.
+impl From<u64> for Length {
+    ghost from_gives = { λ number length. length ≡ length_for number };
+
+    fn from(number: u64) -> Length {
+        match number {
+            0 => Length::Long,
+            1 => Length::UnderLong,
+            2 => Length::TwoLayers,
+            _ => Length::UnderTwoLayers,
+        }
+    }
 }
 
 // The cells lent, and how many of them planning uses: none where it is refused for want of cells.
@@ -37,13 +47,14 @@ pub struct Lent {
 
 // ---- the lengths
 
-pub fn lent_of(case: Case, length: Length) -> Lent
-    ensures { result ≡ lent_of case length }
+// What a case is lent, the number saying which length: any number, as the definition `lent_of` has it.
+pub fn lent_of(case: Case, number: u64) -> Lent
+    ensures { result ≡ lent_of case number }
 {
     let layer = layer_of(case);
     let two = 2 * layer;
     let long = times(layer, intervals_of(case) + 1);
-    lend(long, two, length_of(long, two, length))
+    lend(long, two, length_of(long, two, Length::from(number)))
 }
 
 fn length_of(long: u64, two: u64, length: Length) -> u64

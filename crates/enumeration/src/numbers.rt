@@ -1,14 +1,7 @@
 // Small arithmetic whose bounds come from the types.
 
-ghost use Rattle.std.specs.Prelude.{◌≡◌, ◌*◌, ◌^◌, ◌<◌, ◌≤◌, pos, ◌-ℤ◌, if◌then◌else◌};
+ghost use Rattle.std.specs.Prelude.{◌≡◌, ◌*◌, ◌^◌, ◌<◌, ◌≤◌, pos, ◌-ℤ◌};
 ghost use Rattle.enumeration.specs.Counting as counting;
-
-// By hand: there is no From<bool> for u64.
-pub fn one_if(yes: bool) -> u64
-    ensures { (result ≡ (if yes then 1 else 0)) × (result ≤ 1) }
-{
-    if yes { 1 } else { 0 }
-}
 
 // A product whose bound is known.
 pub fn times(a: u64, b: u64) -> u64

@@ -7,7 +7,7 @@ ghost use Rattle.enumeration.specs.Expecting.{number_in};
 use crate::enumerator;
 use crate::enumerator::{Case, PerLimit, Worth};
 use crate::expectation::{Expected, Refusal};
-use crate::numbers::{counted, one_if};
+use crate::numbers::counted;
 use std::cmp::Ordering;
 
 // `dates` goes by the date of the permitted hours, `texts` by what reading says, `limited` by which limitations there are; `worths` by the outcomes of each
@@ -38,7 +38,7 @@ pub struct Agreed {
     pub assess: bool,
 }
 
-// Nothing is counted yet. Not a derive: an array has no Default.
+// Nothing is counted yet. Not a derive, so that `is_default` says `nothing`.
 impl Default for Tally {
     ghost is_default = { λ tally. tally ≡ counting.nothing };
 
@@ -81,12 +81,14 @@ pub fn with_case(tally: Tally, case: Case) -> Tally
     t
 }
 
-// The column of the table that is printed: 1 for starts, 2 for hours, 4 for mwh, added up.
+// The column of the table that is printed, by which its counts stand: 1 for starts, 2 for hours, 4 for mwh, added up.
 fn limits_in(case: Case) -> usize
     ensures { result < 8 }
 {
     let PerLimit { starts, hours, mwh } = case.limits;
-    (one_if(starts.is_some()) + 2 * one_if(hours.is_some()) + 4 * one_if(mwh.is_some())) as usize
+    (u64::from(starts.is_some())
+        + 2 * u64::from(hours.is_some())
+        + 4 * u64::from(mwh.is_some())) as usize
 }
 
 // The column: no hours, a date that does not exist, a date on which time does not change, the Sunday of March, that of November.
@@ -125,9 +127,9 @@ pub fn with_expected(tally: Tally, expected: Expected) -> Tally
             t.tied = counted(t.tied, plan.tied);
             t.worths = with_worths(t.worths, plan.worths);
         }
-        Err(refusal) => {
-            t.refused = counted(t.refused, refusal == Refusal::NoSchedule);
-            t.missing = counted(t.missing, refusal == Refusal::Date);
+        Err(number) => {
+            t.refused = counted(t.refused, number == u64::from(Refusal::NoSchedule));
+            t.missing = counted(t.missing, number == u64::from(Refusal::Date));
         }
     }
     t
@@ -181,8 +183,8 @@ fn differing(differences: u64, agrees: bool) -> u64
     counted(differences, !agrees)
 }
 
-// A text that is read otherwise is a difference, too.
-pub fn with_text(tally: Tally, reading: Result<(), Refusal>, agrees: bool) -> Tally
+// A text that is read otherwise is a difference, too. A refusal is any number, as `refused` takes it.
+pub fn with_text(tally: Tally, reading: Result<(), u64>, agrees: bool) -> Tally
     ensures { (result.differences ≡ counting.counted tally.differences (not agrees)) × (result.cases ≡ tally.cases) }
 {
     let at = text_in(reading);
@@ -193,12 +195,12 @@ pub fn with_text(tally: Tally, reading: Result<(), Refusal>, agrees: bool) -> Ta
 }
 
 // The column.
-fn text_in(reading: Result<(), Refusal>) -> usize
+fn text_in(reading: Result<(), u64>) -> usize
     ensures { result < 3 }
 {
     match reading {
         Ok(()) => 0,
-        Err(Refusal::Name) => 1,
+        Err(number) if number == u64::from(Refusal::Name) => 1,
         Err(_) => 2,
     }
 }

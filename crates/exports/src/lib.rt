@@ -23,6 +23,7 @@ ghost use Rattle.exports.specs.Answers.{assess_numbers, case_numbers, cells_numb
 ghost use Rattle.exports.specs.Answers.{plan_numbers, report_numbers, value_numbers, written_numbers};
 
 use calendar::Date;
+use commitment::{Outcomes, UnitRecord};
 use costs::CostInputs;
 use curves::CurveInputs;
 use numbers::{
@@ -37,7 +38,7 @@ pub extern "C" fn ralwinga_read(text: &[u8], prices: &mut [i64]) -> CaseNumbers
     ensures value { result ≡ case_numbers (read_case text.now (length prices.old)) }
     ensures prices_after { prices.new ≡ read_prices text.now prices.old }
 {
-    numbers::of_case(casefile::read_into(text, prices))
+    CaseNumbers::from(casefile::read_into(text, prices))
 }
 
 // vec, suc and mlc.
@@ -45,7 +46,7 @@ pub extern "C" fn ralwinga_read(text: &[u8], prices: &mut [i64]) -> CaseNumbers
 pub extern "C" fn ralwinga_figures(inputs: CostInputs, mws: &[u64], heats: &[u64]) -> FiguresNumbers
     ensures { result ≡ figures_numbers (costed inputs mws.now heats.now) }
 {
-    numbers::of_figures(costs::figures(inputs, mws, heats))
+    FiguresNumbers::from(costs::figures(inputs, mws, heats))
 }
 
 // The bid curve into the front of three lists, a segment in the same place of each.
@@ -67,7 +68,7 @@ pub extern "C" fn ralwinga_curve(
     ensures prices_after { prices.new
         ≡ prices_left inputs levels.now rates.now froms.old tos.old prices.old }
 {
-    numbers::of_curve(curves::curve_into(inputs, levels, rates, froms, tos, prices))
+    CurveNumbers::from(curves::curve_into(inputs, levels, rates, froms, tos, prices))
 }
 
 // The profit of a schedule handed in.
@@ -79,7 +80,7 @@ pub extern "C" fn ralwinga_assess(
 ) -> AssessNumbers
     ensures { result ≡ assess_numbers (assessed (record_of unit) prices.now schedule.now) }
 {
-    numbers::of_assessment(assessment::assess(numbers::record_of(unit), prices, schedule))
+    AssessNumbers::from(assessment::assess(UnitRecord::from(unit), prices, schedule))
 }
 
 // The cells of two layers, which a case of so many intervals needs, and of its long table; or 3, 4, 12 or 5. Its prices are not judged.
@@ -88,7 +89,7 @@ pub extern "C" fn ralwinga_cells(unit: UnitNumbers, intervals: usize) -> CellsNu
     ensures { result
         ≡ cells_numbers (case_checked (record_of unit) true intervals) (cells_needed (record_of unit) intervals) (cells_long (record_of unit) intervals) }
 {
-    let record = numbers::record_of(unit);
+    let record = UnitRecord::from(unit);
     match checking::check_case(record, true, intervals) {
         Ok(()) => CellsNumbers {
             number: 0,
@@ -115,7 +116,7 @@ pub extern "C" fn ralwinga_plan(
     ensures schedule_after { schedule.new ≡ schedule_left (record_of unit) prices.now (length scratch.old) schedule.old }
     ensures scratch_after { scratch.new ≡ scratch_left (record_of unit) prices.now (length schedule.old) scratch.old }
 {
-    numbers::of_plan(planner::plan_into(numbers::record_of(unit), prices, scratch, schedule))
+    PlanNumbers::from(planner::plan_into(UnitRecord::from(unit), prices, scratch, schedule))
 }
 
 // The three outcomes.
@@ -128,7 +129,7 @@ pub extern "C" fn ralwinga_value(
     ensures value { result ≡ value_numbers (valued (record_of unit) prices.now (length scratch.old)) }
     ensures scratch_after { scratch.new ≡ scratch_valued (record_of unit) prices.now scratch.old }
 {
-    numbers::of_value(planner::value(numbers::record_of(unit), prices, scratch))
+    ValueNumbers::from(planner::value(UnitRecord::from(unit), prices, scratch))
 }
 
 // Plan and outcomes from one fill of the table.
@@ -143,7 +144,7 @@ pub extern "C" fn ralwinga_report(
     ensures schedule_after { schedule.new ≡ schedule_left (record_of unit) prices.now (length scratch.old) schedule.old }
     ensures scratch_after { scratch.new ≡ scratch_left (record_of unit) prices.now (length schedule.old) scratch.old }
 {
-    numbers::of_report(planner::report_into(numbers::record_of(unit), prices, scratch, schedule))
+    ReportNumbers::from(planner::report_into(UnitRecord::from(unit), prices, scratch, schedule))
 }
 
 // The clock hour of an interval, counted from 1, when interval 1 begins at the midnight of a date; or 3 or 12.
@@ -156,7 +157,7 @@ pub extern "C" fn ralwinga_clock_hour(
 ) -> ClockNumbers
     ensures { result ≡ clock_numbers (clock_hour (date year month day) interval) }
 {
-    numbers::of_clock(checking::clock::clock_hour(Date { year, month, day }, interval))
+    ClockNumbers::from(checking::clock::clock_hour(Date { year, month, day }, interval))
 }
 
 // The clock hours of the first intervals, one in each entry of the slice; or 3 or 12, and the slice is as it was.
@@ -190,10 +191,10 @@ pub extern "C" fn ralwinga_listing(
         ≡ written_numbers (listing_written schedule.now profit (outcomes_from outcomes) (word_from window) (length out.old)) }
     ensures out_after { out.new ≡ listing_after schedule.now profit (outcomes_from outcomes) (word_from window) out.old }
 {
-    numbers::of_written(listing::write_listing(
+    WrittenNumbers::from(listing::write_listing(
         schedule,
         profit,
-        numbers::outcomes_from(outcomes),
+        Outcomes::from(outcomes),
         numbers::word_from(window),
         out,
     ))
@@ -205,5 +206,5 @@ pub extern "C" fn ralwinga_refusal(number: u64, out: &mut [u8]) -> WrittenNumber
     ensures value { result ≡ written_numbers (written_by (fitted (length (refusal number)) (length out.old))) }
     ensures out_after { out.new ≡ buffer_after (refusal number) out.old }
 {
-    numbers::of_written(listing::write_refusal(number, out))
+    WrittenNumbers::from(listing::write_refusal(number, out))
 }

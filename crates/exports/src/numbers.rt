@@ -1,4 +1,5 @@
-// Records and answers as structs of numbers, laid out as in C, and the way between them and the types of the calls.
+// Records and answers as structs of numbers, laid out as in C, and the way between them and the types of the calls. A kind, a flag or a cause stays a number
+// here: C reads it.
 
 ghost use Rattle.std.specs.Prelude.{◌≡◌};
 ghost use Rattle.exports.specs.Records as records;
@@ -186,70 +187,74 @@ pub fn word_from(word: u64) -> Option<u64>
 }
 
 // The host has one flat record; the library has its groups.
-pub fn record_of(unit: UnitNumbers) -> UnitRecord
-    ensures { result ≡ records.record_of unit }
-{
-    UnitRecord {
-        generator: Generator {
-            block: unit.block,
-            pmin: unit.pmin,
-            pmax: unit.pmax,
-            mot: unit.mot,
-            mdt: unit.mdt,
-        },
-        costs: Costs {
-            vec: unit.vec,
-            mlc: unit.mlc,
-            suc: unit.suc,
-        },
-        opening: Opening {
-            was: unit.was,
-            held: unit.held,
-        },
-        limits: Limits {
-            starts: limit_from(unit.starts),
-            hours: limit_from(unit.hours),
-            mwh: limit_from(unit.mwh),
-        },
-        permit: permit_from(
-            Date {
-                year: unit.year,
-                month: unit.month,
-                day: unit.day,
+impl From<UnitNumbers> for UnitRecord {
+    ghost from_gives = { λ numbers unit. unit ≡ records.record_of numbers };
+
+    fn from(unit: UnitNumbers) -> UnitRecord {
+        UnitRecord {
+            generator: Generator {
+                block: unit.block,
+                pmin: unit.pmin,
+                pmax: unit.pmax,
+                mot: unit.mot,
+                mdt: unit.mdt,
             },
-            unit.window,
-        ),
+            costs: Costs {
+                vec: unit.vec,
+                mlc: unit.mlc,
+                suc: unit.suc,
+            },
+            opening: Opening {
+                was: unit.was,
+                held: unit.held,
+            },
+            limits: Limits {
+                starts: limit_from(unit.starts),
+                hours: limit_from(unit.hours),
+                mwh: limit_from(unit.mwh),
+            },
+            permit: permit_from(
+                Date {
+                    year: unit.year,
+                    month: unit.month,
+                    day: unit.day,
+                },
+                unit.window,
+            ),
+        }
     }
 }
 
 // The way back, for a text that was read.
-fn unit_numbers(unit: UnitRecord) -> UnitNumbers
-    ensures { result ≡ records.unit_numbers unit }
-{
-    let g = unit.generator;
-    let k = unit.costs;
-    let opening = unit.opening;
-    let limits = unit.limits;
-    let window = window_numbers(unit.permit);
-    let date = window.date;
-    UnitNumbers {
-        block: g.block,
-        pmin: g.pmin,
-        pmax: g.pmax,
-        mot: g.mot,
-        mdt: g.mdt,
-        was: opening.was,
-        held: opening.held,
-        vec: k.vec,
-        mlc: k.mlc,
-        suc: k.suc,
-        starts: limit_number(limits.starts),
-        hours: limit_number(limits.hours),
-        mwh: limit_number(limits.mwh),
-        year: date.year,
-        month: date.month,
-        day: date.day,
-        window: window.word,
+impl From<UnitRecord> for UnitNumbers {
+    ghost from_gives = { λ unit numbers. numbers ≡ records.unit_numbers unit };
+
+    fn from(unit: UnitRecord) -> UnitNumbers {
+        let g = unit.generator;
+        let k = unit.costs;
+        let opening = unit.opening;
+        let limits = unit.limits;
+        let window = window_numbers(unit.permit);
+        let date = window.date;
+        UnitNumbers {
+            block: g.block,
+            pmin: g.pmin,
+            pmax: g.pmax,
+            mot: g.mot,
+            mdt: g.mdt,
+            was: opening.was,
+            held: opening.held,
+            vec: k.vec,
+            mlc: k.mlc,
+            suc: k.suc,
+            starts: limit_number(limits.starts),
+            hours: limit_number(limits.hours),
+            mwh: limit_number(limits.mwh),
+            year: date.year,
+            month: date.month,
+            day: date.day,
+            window: window.word,
+        }
     }
 }
 
@@ -292,104 +297,120 @@ fn outcome_from(kind: u64, gap: i64) -> Outcome
     }
 }
 
-fn outcome_numbers(outcome: Outcome) -> OutcomeNumbers
-    ensures { result ≡ records.outcome_numbers outcome }
-{
-    match outcome {
-        Outcome::None => OutcomeNumbers { kind: 0, gap: 0 },
-        Outcome::Empty => OutcomeNumbers { kind: 1, gap: 0 },
-        Outcome::Never => OutcomeNumbers { kind: 2, gap: 0 },
-        Outcome::Gap(gap) => OutcomeNumbers { kind: 3, gap },
+impl From<Outcome> for OutcomeNumbers {
+    ghost from_gives = { λ outcome numbers. numbers ≡ records.outcome_numbers outcome };
+
+    fn from(outcome: Outcome) -> OutcomeNumbers {
+        match outcome {
+            Outcome::None => OutcomeNumbers { kind: 0, gap: 0 },
+            Outcome::Empty => OutcomeNumbers { kind: 1, gap: 0 },
+            Outcome::Never => OutcomeNumbers { kind: 2, gap: 0 },
+            Outcome::Gap(gap) => OutcomeNumbers { kind: 3, gap },
+        }
     }
 }
 
 // Outcomes come back from the host to be listed.
-pub fn outcomes_from(outcomes: OutcomesNumbers) -> Outcomes
-    ensures { result ≡ records.outcomes_from outcomes }
-{
-    let starts = outcomes.starts;
-    let hours = outcomes.hours;
-    let mwh = outcomes.mwh;
-    Outcomes {
-        starts: outcome_from(starts.kind, starts.gap),
-        hours: outcome_from(hours.kind, hours.gap),
-        mwh: outcome_from(mwh.kind, mwh.gap),
+impl From<OutcomesNumbers> for Outcomes {
+    ghost from_gives = { λ numbers outcomes. outcomes ≡ records.outcomes_from numbers };
+
+    fn from(outcomes: OutcomesNumbers) -> Outcomes {
+        let starts = outcomes.starts;
+        let hours = outcomes.hours;
+        let mwh = outcomes.mwh;
+        Outcomes {
+            starts: outcome_from(starts.kind, starts.gap),
+            hours: outcome_from(hours.kind, hours.gap),
+            mwh: outcome_from(mwh.kind, mwh.gap),
+        }
     }
 }
 
-fn outcomes_numbers(outcomes: Outcomes) -> OutcomesNumbers
-    ensures { result ≡ records.outcomes_numbers outcomes }
-{
-    OutcomesNumbers {
-        starts: outcome_numbers(outcomes.starts),
-        hours: outcome_numbers(outcomes.hours),
-        mwh: outcome_numbers(outcomes.mwh),
+impl From<Outcomes> for OutcomesNumbers {
+    ghost from_gives = { λ outcomes numbers. numbers ≡ records.outcomes_numbers outcomes };
+
+    fn from(outcomes: Outcomes) -> OutcomesNumbers {
+        OutcomesNumbers {
+            starts: OutcomeNumbers::from(outcomes.starts),
+            hours: OutcomeNumbers::from(outcomes.hours),
+            mwh: OutcomeNumbers::from(outcomes.mwh),
+        }
     }
 }
 
 // ---- answers: 0 or the number of the cause, and on a refusal 0 in all else
 
 // A refused reading has no record to turn into numbers.
-pub fn of_case(answer: Result<Case, Cause>) -> CaseNumbers
-    ensures { result ≡ answers.case_numbers answer }
-{
-    match answer {
-        Ok(case) => CaseNumbers {
-            number: 0,
-            count: case.count,
-            unit: unit_numbers(case.unit),
-        },
-        Err(cause) => CaseNumbers {
-            number: u64::from(cause),
-            count: 0,
-            unit: no_numbers(),
-        },
+impl From<Result<Case, Cause>> for CaseNumbers {
+    ghost from_gives = { λ answer numbers. numbers ≡ answers.case_numbers answer };
+
+    fn from(answer: Result<Case, Cause>) -> CaseNumbers {
+        match answer {
+            Ok(case) => CaseNumbers {
+                number: 0,
+                count: case.count,
+                unit: UnitNumbers::from(case.unit),
+            },
+            Err(cause) => CaseNumbers {
+                number: u64::from(cause),
+                count: 0,
+                unit: no_numbers(),
+            },
+        }
     }
 }
 
-pub fn of_figures(answer: Result<CostFigures, Cause>) -> FiguresNumbers
-    ensures { result ≡ answers.figures_numbers answer }
-{
-    match answer {
-        Ok(figures) => FiguresNumbers {
-            number: 0,
-            vec: figures.vec,
-            suc: figures.suc,
-            mlc: figures.mlc,
-        },
-        Err(cause) => FiguresNumbers {
-            number: u64::from(cause),
-            vec: 0,
-            suc: 0,
-            mlc: 0,
-        },
+impl From<Result<CostFigures, Cause>> for FiguresNumbers {
+    ghost from_gives = { λ answer numbers. numbers ≡ answers.figures_numbers answer };
+
+    fn from(answer: Result<CostFigures, Cause>) -> FiguresNumbers {
+        match answer {
+            Ok(figures) => FiguresNumbers {
+                number: 0,
+                vec: figures.vec,
+                suc: figures.suc,
+                mlc: figures.mlc,
+            },
+            Err(cause) => FiguresNumbers {
+                number: u64::from(cause),
+                vec: 0,
+                suc: 0,
+                mlc: 0,
+            },
+        }
     }
 }
 
-pub fn of_curve(segments: Result<usize, Cause>) -> CurveNumbers
-    ensures { result ≡ answers.curve_numbers segments }
-{
-    CurveNumbers {
-        number: commitment::number_in(&segments),
-        count: segments.unwrap_or(0),
+impl From<Result<usize, Cause>> for CurveNumbers {
+    ghost from_gives = { λ segments numbers. numbers ≡ answers.curve_numbers segments };
+
+    fn from(segments: Result<usize, Cause>) -> CurveNumbers {
+        CurveNumbers {
+            number: commitment::number_in(&segments),
+            count: segments.unwrap_or(0),
+        }
     }
 }
 
-pub fn of_assessment(answer: Result<i64, Cause>) -> AssessNumbers
-    ensures { result ≡ answers.assess_numbers answer }
-{
-    AssessNumbers {
-        number: commitment::number_in(&answer),
-        profit: assessment::profit_of(answer),
+impl From<Result<i64, Cause>> for AssessNumbers {
+    ghost from_gives = { λ answer numbers. numbers ≡ answers.assess_numbers answer };
+
+    fn from(answer: Result<i64, Cause>) -> AssessNumbers {
+        AssessNumbers {
+            number: commitment::number_in(&answer),
+            profit: assessment::profit_of(answer),
+        }
     }
 }
 
-pub fn of_clock(answer: Result<u64, Cause>) -> ClockNumbers
-    ensures { result ≡ answers.clock_numbers answer }
-{
-    ClockNumbers {
-        number: commitment::number_in(&answer),
-        hour: answer.unwrap_or(0),
+impl From<Result<u64, Cause>> for ClockNumbers {
+    ghost from_gives = { λ answer numbers. numbers ≡ answers.clock_numbers answer };
+
+    fn from(answer: Result<u64, Cause>) -> ClockNumbers {
+        ClockNumbers {
+            number: commitment::number_in(&answer),
+            hour: answer.unwrap_or(0),
+        }
     }
 }
 
@@ -409,41 +430,49 @@ pub fn of_hours(answer: Result<(), Cause>, entries: usize) -> HoursNumbers
     }
 }
 
-pub fn of_plan(answer: Result<BestPlan, Cause>) -> PlanNumbers
-    ensures { result ≡ answers.plan_numbers answer }
-{
-    PlanNumbers {
-        number: commitment::number_in(&answer),
-        count: planner::contents::planned_count(answer),
-        profit: planner::contents::planned_profit(answer),
+impl From<Result<BestPlan, Cause>> for PlanNumbers {
+    ghost from_gives = { λ answer numbers. numbers ≡ answers.plan_numbers answer };
+
+    fn from(answer: Result<BestPlan, Cause>) -> PlanNumbers {
+        PlanNumbers {
+            number: commitment::number_in(&answer),
+            count: planner::contents::planned_count(answer),
+            profit: planner::contents::planned_profit(answer),
+        }
     }
 }
 
-pub fn of_value(answer: Result<Outcomes, Cause>) -> ValueNumbers
-    ensures { result ≡ answers.value_numbers answer }
-{
-    ValueNumbers {
-        number: commitment::number_in(&answer),
-        outcomes: outcomes_numbers(planner::contents::valued_outcomes(answer)),
+impl From<Result<Outcomes, Cause>> for ValueNumbers {
+    ghost from_gives = { λ answer numbers. numbers ≡ answers.value_numbers answer };
+
+    fn from(answer: Result<Outcomes, Cause>) -> ValueNumbers {
+        ValueNumbers {
+            number: commitment::number_in(&answer),
+            outcomes: OutcomesNumbers::from(planner::contents::valued_outcomes(answer)),
+        }
     }
 }
 
-pub fn of_report(answer: Result<Report, Cause>) -> ReportNumbers
-    ensures { result ≡ answers.report_numbers answer }
-{
-    ReportNumbers {
-        number: commitment::number_in(&answer),
-        count: planner::contents::reported_count(answer),
-        profit: planner::contents::reported_profit(answer),
-        outcomes: outcomes_numbers(planner::contents::reported_outcomes(answer)),
+impl From<Result<Report, Cause>> for ReportNumbers {
+    ghost from_gives = { λ answer numbers. numbers ≡ answers.report_numbers answer };
+
+    fn from(answer: Result<Report, Cause>) -> ReportNumbers {
+        ReportNumbers {
+            number: commitment::number_in(&answer),
+            count: planner::contents::reported_count(answer),
+            profit: planner::contents::reported_profit(answer),
+            outcomes: OutcomesNumbers::from(planner::contents::reported_outcomes(answer)),
+        }
     }
 }
 
-pub fn of_written(answer: Result<usize, Cause>) -> WrittenNumbers
-    ensures { result ≡ answers.written_numbers answer }
-{
-    WrittenNumbers {
-        number: commitment::number_in(&answer),
-        bytes: answer.unwrap_or(0),
+impl From<Result<usize, Cause>> for WrittenNumbers {
+    ghost from_gives = { λ answer numbers. numbers ≡ answers.written_numbers answer };
+
+    fn from(answer: Result<usize, Cause>) -> WrittenNumbers {
+        WrittenNumbers {
+            number: commitment::number_in(&answer),
+            bytes: answer.unwrap_or(0),
+        }
     }
 }

@@ -1,14 +1,14 @@
 -- A plan up to a layer that stands: it ends in the cell that its own is marked with, and is the plan of the task that ends there with nothing left.
 use Rattle.std.specs.Prelude.{None, Some}
-use mathlib.Core.Path.{◌≡◌, refl, sym, ap, ap₂, ◌∙◌, subst}
-use mathlib.Core.List.{List, [], ◌∷◌, ◌++◌, append-nil}
+use mathlib.Core.Path.{◌≡◌, sym, ap, ◌∙◌}
+use mathlib.Core.List.{List, [], ◌++◌, append-nil}
 use Prim.Native.Nat.{ℕ, ◌+◌, ◌-◌, ◌≤◌}
 use native.Mathlib.Omega.{arith}
 use lib.IntN.{ℤ, pos, ◌+ℤ◌}
 use lib.ListN.{length, take, drop}
 use Rattle.commitment.specs.Types.{BestProfit}
 use Rattle.commitment.specs.Types.{Hours}
-use Rattle.commitment.specs.Best.{Plan, plan, nothing, schedule_of}
+use Rattle.commitment.specs.Best.{Plan, plan, schedule_of}
 use Rattle.commitment.specs.Bounds.{most_intervals}
 use Rattle.commitment.specs.Tries.{tries_over}
 use Rattle.commitment.specs.Windows.{opens}
@@ -20,7 +20,7 @@ use Rattle.optimality.proofs.Quarters.{quarters-length}
 use Rattle.optimality.proofs.Rival.{not-plan}
 use Rattle.optimality.proofs.Turns.{value-end}
 use Rattle.optimality.proofs.Within.{within-within, less-within}
-use Rattle.geometry.specs.Geometry.{width, index}
+use Rattle.geometry.specs.Geometry.{index}
 use Rattle.geometry.specs.Layers.{LayerAt}
 use Rattle.layers.specs.Filling.{quarters_in}
 use Rattle.layers.proofs.Between.{between-length}
@@ -30,8 +30,7 @@ use Rattle.marks.specs.declared.Frame.{Frame}
 use Rattle.marks.proofs.Halving.{spends-within, earlier-half}
 use Rattle.halving.specs.declared.Task.{Task}
 use Rattle.halving.specs.declared.ahead.Leg.{Leg}
-use Rattle.halving.specs.declared.ahead.Reached.{Reached}
-use Rattle.halving.specs.Tasks.{boxed, plan_of, TaskAsked, Solved, MarkKept}
+use Rattle.halving.specs.Tasks.{plan_of, TaskAsked, Solved, MarkKept}
 use Rattle.halving.specs.Reaching.{quarters_over, LegAsked, ReachedBy}
 use Rattle.halving.proofs.Boxes.{boxed-width}
 use Rattle.halving.proofs.Joining.{planned}

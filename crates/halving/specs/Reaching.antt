@@ -7,7 +7,6 @@ use Rattle.commitment.specs.Ranges.{Priced}
 use Rattle.commitment.specs.Tries.{tries_over}
 use Rattle.commitment.specs.Windows.{Clocked}
 use Rattle.optimality.specs.declared.Cell.{Cell}
-use Rattle.optimality.specs.declared.Figures.{Figures}
 use Rattle.optimality.specs.Machine.{Quarter, go, in_quarter, walk}
 use Rattle.optimality.specs.Cells.{Sound, InTable, cell_step, plan_at, value_at}
 use Rattle.geometry.specs.Geometry.{width}

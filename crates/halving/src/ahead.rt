@@ -51,18 +51,14 @@ pub fn plan_to(
     ensures untouched { Untouched room cells.old cells.new }
 {
     let f = g.figures;
-    let hours = g.hours;
-    let from = l.from;
-    let to = l.to;
-    let c = l.cell;
-    mark_ends(&mut *cells, g, prices, from, to);
-    let at = crate::marked(&cells[..], g.width, f, c);
+    mark_ends(&mut *cells, g, prices, l.from, l.to);
+    let at = crate::marked(&cells[..], g.width, f, l.cell);
     let task = Task {
-        from,
-        to,
-        cell: crate::spent(c, at),
+        from: l.from,
+        to: l.to,
+        cell: crate::spent(l.cell, at),
         end: Some(at.state),
     };
-    let tries = crate::solve(cells, room, f, prices, hours, task, schedule);
+    let tries = crate::solve(cells, room, f, prices, g.hours, task, schedule);
     Reached { cell: at, tries }
 }

@@ -43,39 +43,18 @@ pub struct Task {
     pub end: Option<usize>,
 }
 
-// The figures with a cell's own budgets: more is never left on the way from it.
-fn boxed(f: Figures, c: Cell) -> Figures
-    ensures { result ≡ tasks.boxed f c }
-{
-    let takes = f.takes;
-    let most = c.left;
-    Figures {
-        block: f.block,
-        pmin: f.pmin,
-        pmax: f.pmax,
-        mot: f.mot,
-        mdt: f.mdt,
-        vec: f.vec,
-        mlc: f.mlc,
-        suc: f.suc,
-        takes,
-        most,
-    }
-}
-
 // What a plan spends between two cells, left to a cell in the first's state.
 fn spent(c: Cell, at: Cell) -> Cell
     requires { Within at.left c.left }
     ensures { result ≡ standing.spent c at }
 {
-    let left = Budgets {
-        starts: c.left.starts - at.left.starts,
-        ons: c.left.ons - at.left.ons,
-        blocks: c.left.blocks - at.left.blocks,
-    };
     Cell {
-        state: c.state,
-        left,
+        left: Budgets {
+            starts: c.left.starts - at.left.starts,
+            ons: c.left.ons - at.left.ons,
+            blocks: c.left.blocks - at.left.blocks,
+        },
+        ..c
     }
 }
 
@@ -88,7 +67,7 @@ fn midway(from: usize, to: usize) -> usize
 }
 
 // The layer after the last interval: 0 where a plan may end.
-fn put_end(cells: &mut [i64], at: usize, w: usize, f: Figures, end: Option<usize>)
+pub fn put_end(cells: &mut [i64], at: usize, w: usize, f: Figures, end: Option<usize>)
     requires { (Sound f) × (w ≡ width f) × (at + w ≤ length cells.old) × (Reachable f end) }
     ensures layer { Layer f (ends_by end) [] (stored_at f cells.new at) }
     ensures apart { Apart cells.old cells.new at w }
@@ -97,8 +76,7 @@ fn put_end(cells: &mut [i64], at: usize, w: usize, f: Figures, end: Option<usize
         None => rows::put(cells, at, w, 0),
         Some(s) => {
             rows::put(&mut *cells, at, w, INFEASIBLE);
-            let i = at + s * geometry::section_cells(f);
-            cells[i] = 0;
+            cells[at + s * geometry::section_cells(f)] = 0;
         }
     }
 }
@@ -110,12 +88,10 @@ fn pass(cells: &mut [i64], g: Frame, prices: &[i64], from: usize, to: usize, end
 {
     let mut begun = [0i64; BUFFER];
     let mut ran = [0i64; BUFFER];
-    let f = g.figures;
-    let w = g.width;
-    let hours = g.hours;
+    let (f, w) = (g.figures, g.width);
     let at = midway(from, to);
     put_end(&mut *cells, w, w, f, end);
-    pair::roll(&mut *cells, w, f, prices, hours, at, to);
+    pair::roll(&mut *cells, w, f, prices, g.hours, at, to);
     passes::mark(cells, g, prices, from, at, &mut begun, &mut ran);
 }
 
@@ -132,8 +108,7 @@ fn marked(cells: &[i64], w: usize, f: Figures, c: Cell) -> Cell
     requires { (Sound f) × (InTable f c) × (w + width f ≤ length cells.now) × (MarkKept f w cells.now c) }
     ensures { MarkedWith f w cells.now c result }
 {
-    let i = w + geometry::index(f, c);
-    let number = natural(cells[i]);
+    let number = natural(cells[w + geometry::index(f, c)]);
     geometry::cell_of(f, number as usize)
 }
 
@@ -143,16 +118,11 @@ fn leaf(cells: &mut [i64], g: Frame, prices: &[i64], t: Task, schedule: &mut [u6
     ensures solved { Solved g.figures prices.now g.hours t schedule.old schedule.new result }
     ensures untouched { Untouched ((t.to - t.from + 1) * g.width) cells.old cells.new }
 {
-    let f = g.figures;
-    let w = g.width;
-    let hours = g.hours;
-    let from = t.from;
-    let to = t.to;
-    let end = t.end;
-    put_end(&mut *cells, (to - from) * w, w, f, end);
-    let quarters = &prices[from..to];
-    layers::fill(&mut *cells, w, f, quarters, hours, from);
-    table::read_off(&cells[..], w, f, quarters, t.cell, &mut schedule[from..])
+    let (f, w) = (g.figures, g.width);
+    put_end(&mut *cells, (t.to - t.from) * w, w, f, t.end);
+    let quarters = &prices[t.from..t.to];
+    layers::fill(&mut *cells, w, f, quarters, g.hours, t.from);
+    table::read_off(&cells[..], w, f, quarters, t.cell, &mut schedule[t.from..])
 }
 
 // The same in cells of its own, which only this frame has.
@@ -169,13 +139,11 @@ fn early_half(t: Task, mid: usize, at: Cell) -> Task
     requires { Within at.left t.cell.left }
     ensures { result ≡ early_half t mid at }
 {
-    let cell = spent(t.cell, at);
-    let end = Some(at.state);
     Task {
-        from: t.from,
         to: mid,
-        cell,
-        end,
+        cell: spent(t.cell, at),
+        end: Some(at.state),
+        ..t
     }
 }
 
@@ -183,12 +151,10 @@ fn early_half(t: Task, mid: usize, at: Cell) -> Task
 fn late_half(t: Task, mid: usize, at: Cell) -> Task
     ensures { result ≡ late_half t mid at }
 {
-    let end = t.end;
     Task {
         from: mid,
-        to: t.to,
         cell: at,
-        end,
+        ..t
     }
 }
 
@@ -207,7 +173,11 @@ fn solve(
     ensures solved { Solved f prices.now hours t schedule.old schedule.new result }
     ensures untouched { Untouched room cells.old cells.new }
 {
-    let figures = boxed(f, t.cell);
+    // More than the cell's own budgets is never left on the way from it.
+    let figures = Figures {
+        most: t.cell.left,
+        ..f
+    };
     let width = geometry::layer_cells(figures);
     let g = Frame {
         figures,
@@ -221,8 +191,7 @@ fn solve(
     if width <= NEAR / layers {
         return near_leaf(g, prices, t, schedule);
     }
-    let end = t.end;
-    pass(&mut *cells, g, prices, t.from, t.to, end);
+    pass(&mut *cells, g, prices, t.from, t.to, t.end);
     halves(cells, room, g, prices, t, schedule)
 }
 
@@ -241,13 +210,12 @@ fn halves(
     ensures untouched { Untouched room cells.old cells.new }
 {
     let f = g.figures;
-    let hours = g.hours;
     let at = marked(&cells[..], g.width, f, t.cell);
     let mid = midway(t.from, t.to);
     let first = early_half(t, mid, at);
     let second = late_half(t, mid, at);
-    let early = solve(&mut *cells, room, f, prices, hours, first, &mut *schedule);
-    let late = solve(cells, room, f, prices, hours, second, schedule);
+    let early = solve(&mut *cells, room, f, prices, g.hours, first, &mut *schedule);
+    let late = solve(cells, room, f, prices, g.hours, second, schedule);
     early + late
 }
 
@@ -288,12 +256,11 @@ pub fn plan_from(
         width: w,
         hours,
     };
-    let end = None;
     let task = Task {
         from: 0,
         to: prices.len(),
         cell: from,
-        end,
+        end: None,
     };
     halves(cells, w + w, g, prices, task, schedule)
 }

@@ -1,5 +1,5 @@
 -- A stretch made segment by segment from the front, all of one size: the segments done are right, and all else is as it was.
-use mathlib.Core.Path.{◌≡◌, refl, ap, ◌∙◌}
+use mathlib.Core.Path.{◌≡◌, ap, refl, ◌∙◌}
 use mathlib.Core.List.{List}
 use mathlib.Core.Logic.{⊎_elim, inl, inr}
 use Prim.Native.Nat.{ℕ, ◌+◌, ◌-◌, ◌*◌, ◌≤◌, ◌<◌}
@@ -54,37 +54,21 @@ behind-within was s to from all at behind size b apart lo hi long same =
           rw (same (behind + i) (omega arith)) (rw e at (b.small (behind - from + i) (omega arith)));
     }
 
--- ---- the rounds of a loop that makes segment y from segment y - first of a stretch behind: where each stands
+-- ---- a loop that makes segment first + x from segment x of a stretch behind: what a round reads is behind what it makes, and as it was
 
-pub record Round (size first last to from y at behind : ℕ) : Type 0 where
-  pub low : first ≤ y
-  pub high : y ≤ last + 1
-  pub at-is : at ≡ to + y * size
-  pub behind-is : behind ≡ from + (y - first) * size
+module _ (size first to from x : ℕ) where
+  pub round-place : to + first * size + x * size ≡ to + (first + x) * size
+  round-place = omega arith
 
-pub round-first : (size first last to from : ℕ) → first ≤ last + 1 → Round size first last to from first (to + first * size) from
-round-first size first last to from h =
-    let e : first - first ≡ 0 = omega arith in
-    record { low = omega arith; high = h; at-is = refl; behind-is = rw e (omega arith) }
-
-module _ (size first last to from y at behind : ℕ) (inside : y ≤ last) (r : Round size first last to from y at behind) where
-  pub round-next : Round size first last to from (y + 1) (at + size) (behind + size)
-  round-next =
-      let next : (y + 1 - first) * size ≡ (y - first) * size + size = ap (λ (n : ℕ). n * size) (more y first r.low) ∙ one (y - first) size in
-      record { low = omega (arith, r.low); high = omega arith; at-is = omega (arith, r.at-is, one y size); behind-is = omega (arith, r.behind-is, next) }
+  pub round-source : from + x * size ≡ from + (first + x - first) * size
+  round-source = ap (λ (n : ℕ). from + n * size) (less first x)
     where
-      more : (y first : ℕ) → first ≤ y → y + 1 - first ≡ y - first + 1
-      more y first h = omega arith
+      less : (a b : ℕ) → b ≡ a + b - a
+      less a b = omega arith
 
-      one : (n size : ℕ) → (n + 1) * size ≡ n * size + size
-      one n size = omega arith
-
-  -- what is read in a round is behind what it makes, and as it was
-  pub round-behind : (was s : List ℤ) (all : ℕ) → Behind was to from all → y * size + size ≤ all → length s ≡ length was
-      → ((j : ℕ) → to + y * size ≤ j → get_or s j (pos 0) ≡ get_or was j (pos 0)) → Behind s at behind size
+  pub round-behind : (was s : List ℤ) (all : ℕ) → Behind was to from all → (first + x) * size + size ≤ all → length s ≡ length was
+      → ((j : ℕ) → to + (first + x) * size ≤ j → get_or s j (pos 0) ≡ get_or was j (pos 0))
+      → Behind s (to + first * size + x * size) (from + x * size) size
   round-behind was s all b room long same =
-      let back : (y - first) * size ≤ y * size = mul-le-mul_right size (omega arith) in
-      behind-within was s to from all at behind size b (omega (arith, r.at-is, r.behind-is, b.before)) (omega (arith, r.behind-is))
-      (omega (arith, r.behind-is))
-      long
-      (λ j h. same j (omega (arith, r.behind-is, b.before)))
+      behind-within was s to from all (to + first * size + x * size) (from + x * size) size b (omega (arith, b.before)) (omega arith) (omega arith) long
+      (λ j h. same j (omega (arith, b.before)))

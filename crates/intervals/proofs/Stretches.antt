@@ -1,16 +1,16 @@
 -- Stores into a stretch of a list, one after the other: what the stretch holds, and that nothing else is touched.
-use mathlib.Core.Path.{◌≡◌, refl, sym, ap, ◌∙◌}
+use mathlib.Core.Path.{◌≡◌, refl, sym, ◌∙◌}
 use mathlib.Core.Bool.{Bool, true, false}
-use mathlib.Core.List.{List, [], ◌∷◌, ◌++◌, append_assoc}
+use mathlib.Core.List.{List, ◌++◌}
 use mathlib.Core.Logic.{◌⊎◌, ⊎_elim, inl, inr}
 use Prim.Native.Nat.{ℕ, ◌+◌, ◌-◌, ◌≤◌, ◌<◌}
 use native.Mathlib.Omega.{arith}
 use borrow.Author.Tests.{ltb-true, ltb-false}
 use lib.Dec.{ltb}
 use lib.IntN.{ℤ, pos}
-use lib.ListN.{length, get_or, set, take, drop, replicate, length-append, length-drop, length-set, length-replicate, get_or-replicate, replicate-append-replicate}
-use lib.Seq.{get_or-set_same, get_or-set_other, length-take-le, ext_get_or, get_or-drop}
-use Rattle.lists.proofs.Fills.{fill-next, tail-before, part-read, part-after}
+use lib.ListN.{length, get_or, set, take, drop, replicate, length-drop, length-set, length-replicate, get_or-replicate}
+use lib.Seq.{get_or-set_same, get_or-set_other, ext_get_or, get_or-drop}
+use Rattle.lists.proofs.Fills.{tail-before, part-read, part-after}
 use Rattle.intervals.specs.Stretches.{Apart}
 
 pub last-or-before : (j i : ℕ) → j < i + 1 → (j ≡ i) ⊎ (j < i)
@@ -65,20 +65,6 @@ module _ (s : List ℤ) (to count : ℕ) (v : ℤ) (fits : to + count ≤ length
       ⊎_elim (λ (l : j < to). tail-before to s (replicate count v ++ drop (to + count) s) (omega arith) j (pos 0) l)
       (λ (l : to + count ≤ j). part-after to (to + count) s (replicate count v) (omega arith) fits room j (pos 0) l)
       out
-
--- one more of them
-pub put_next : (s : List ℤ) (to i : ℕ) (v : ℤ) → to + i < length s
-    → set (take to s ++ (replicate i v ++ drop (to + i) s)) (to + i) v ≡ take to s ++ (replicate (i + 1) v ++ drop (to + (i + 1)) s)
-put_next s to i v h =
-    let front = take to s ++ replicate i v in
-    let long : length front ≡ to + i = omega (arith, length-append (take to s) (replicate i v), length-take-le to s (omega arith), length-replicate i v) in
-    let n : to + i + 1 ≡ to + (i + 1) = omega arith in
-    ap (λ (t : List ℤ). set t (to + i) v) (sym (append_assoc (take to s) (replicate i v) (drop (to + i) s)))
-    ∙ fill-next front s (to + i) long v h
-    ∙ ap (λ (m : ℕ). front ++ (v ∷ []) ++ drop m s) n
-    ∙ ap (λ (t : List ℤ). t ++ drop (to + (i + 1)) s) (append_assoc (take to s) (replicate i v) (v ∷ []))
-    ∙ append_assoc (take to s) (replicate i v ++ (v ∷ [])) (drop (to + (i + 1)) s)
-    ∙ ap (λ (t : List ℤ). take to s ++ (t ++ drop (to + (i + 1)) s)) (replicate-append-replicate i 1 v)
 
 -- lists that agree from a place on
 pub same_from : (was cells : List ℤ) (m : ℕ) → length cells ≡ length was → ((j : ℕ) → m ≤ j → get_or cells j (pos 0) ≡ get_or was j (pos 0))

@@ -44,11 +44,7 @@ pub fn put(scratch: &mut [i64], to: usize, count: usize, v: i64)
     requires { to + count ≤ length scratch.old }
     ensures { scratch.new ≡ take to scratch.old ++ (replicate count v ++ drop (to + count) scratch.old) }
 {
-    let mut done = 0;
-    while done < count {
-        scratch[to + done] = v;
-        done += 1;
-    }
+    scratch[to..to + count].fill(v);
 }
 
 // The numbers of a stretch that lies apart.
@@ -56,11 +52,7 @@ pub fn copy(scratch: &mut [i64], to: usize, from: usize, count: usize)
     requires { Beside scratch.old to from count }
     ensures { Copied scratch.old scratch.new to from count }
 {
-    let mut i = 0;
-    while i < count {
-        scratch[to + i] = scratch[from + i];
-        i += 1;
-    }
+    scratch.copy_within(from..from + count, to);
 }
 
 // Each number raised to the one behind plus the gain, where that is larger.
@@ -68,11 +60,9 @@ pub fn raise(scratch: &mut [i64], to: usize, from: usize, count: usize, gain: i6
     requires { (Behind scratch.old to from count) × (nat_abs gain ≤ most_brought) }
     ensures { Raised scratch.old scratch.new to from count gain }
 {
-    let mut i = 0;
-    while i < count {
+    for i in 0..count {
         let on = scratch[from + i] + gain;
         scratch[to + i] = integers::larger(scratch[to + i], on);
-        i += 1;
     }
 }
 
@@ -109,11 +99,9 @@ fn sweep(
     ensures { Swept down scratch.old scratch.new to from count gain rise }
 {
     let mut best = BELOW;
-    let mut i = 0;
-    while i < count {
+    for i in 0..count {
         let at = place(down, count, i);
         best = pass(scratch, to + at, from + at, best, gain, rise);
-        i += 1;
     }
 }
 
@@ -123,13 +111,11 @@ fn raise_chunk(scratch: &mut [i64], to: usize, from: usize, cells: usize, l: Lad
     requires { (Steady l) × (a + l.high < cells) × (Behind scratch.old to from cells) }
     ensures { Reached l cells (Between l cells a (a + outputs l)) scratch.old scratch.new to from }
 {
-    let low = l.low;
-    let high = l.high;
-    let size = high - low + 1;
-    let down = integers::smaller(size, cells - high - a);
+    let size = l.high - l.low + 1;
+    let down = integers::smaller(size, cells - l.high - a);
     sweep(
         scratch,
-        to + (a + low),
+        to + (a + l.low),
         from + a,
         size,
         l.least,
@@ -138,7 +124,7 @@ fn raise_chunk(scratch: &mut [i64], to: usize, from: usize, cells: usize, l: Lad
     );
     sweep(
         scratch,
-        to + (a + high),
+        to + (a + l.high),
         from + a,
         down,
         most(l),
@@ -152,9 +138,8 @@ fn raise_last(scratch: &mut [i64], to: usize, from: usize, cells: usize, l: Ladd
     requires { (Steady l) × (Behind scratch.old to from cells) }
     ensures { Reached l cells (Past l cells) scratch.old scratch.new to from }
 {
-    let low = l.low;
     let a = cells - integers::smaller(l.high, cells);
-    let first = a + low;
+    let first = a + l.low;
     if first < cells {
         sweep(
             scratch,
@@ -173,10 +158,10 @@ fn raise_row(scratch: &mut [i64], to: usize, from: usize, cells: usize, l: Ladde
     requires { (Steady l) × (Behind scratch.old to from cells) }
     ensures { RowRaised l cells scratch.old scratch.new to from }
 {
-    let high = l.high;
-    let size = high - l.low + 1;
+    let size = l.high - l.low + 1;
+    // A `for` over `step_by` proves too, and a fill with 7 outputs then takes 3.4 per cent more instructions.
     let mut a = 0;
-    while a + high < cells {
+    while a + l.high < cells {
         raise_chunk(scratch, to, from, cells, l, a);
         a += size;
     }
@@ -189,13 +174,8 @@ pub fn raise_rows(scratch: &mut [i64], to: usize, from: usize, f: Figures, l: La
     ensures { SpanRaised f l scratch.old scratch.new to from }
 {
     let cells = geometry::row_cells(f);
-    let mut y = f.takes.ons;
-    let mut at = to + y * cells;
-    let mut behind = from;
-    while y <= f.most.ons {
-        raise_row(scratch, at, behind, cells, l);
-        at += cells;
-        behind += cells;
-        y += 1;
+    let first = to + f.takes.ons * cells;
+    for y in 0..f.most.ons + 1 - f.takes.ons {
+        raise_row(scratch, first + y * cells, from + y * cells, cells, l);
     }
 }

@@ -67,8 +67,7 @@ pub fn off_cell(f: Figures, c: Cell) -> Cell
     ensures { result ≡ off_cell f c }
 {
     let state = after_off(f, c.state);
-    let left = c.left;
-    Cell { state, left }
+    Cell { state, ..c }
 }
 
 // The cell that an interval on with k blocks leads to.
@@ -77,14 +76,14 @@ pub fn on_cell(f: Figures, c: Cell, k: usize) -> Cell
     requires affords { Affords f c k }
     ensures { result ≡ on_cell f c k }
 {
-    let state = after_on(f, c.state);
-    let starts = c.left.starts - start_takes(f, c.state);
-    let left = Budgets {
-        starts,
-        ons: c.left.ons - f.takes.ons,
-        blocks: c.left.blocks - k * f.takes.blocks,
-    };
-    Cell { state, left }
+    Cell {
+        state: after_on(f, c.state),
+        left: Budgets {
+            starts: c.left.starts - start_takes(f, c.state),
+            ons: c.left.ons - f.takes.ons,
+            blocks: c.left.blocks - k * f.takes.blocks,
+        },
+    }
 }
 
 // What an interval on with k blocks brings, less what its start costs.
@@ -115,12 +114,10 @@ pub fn ladder(f: Figures, price: i64, pays: usize) -> Ladder
     requires { (Interval f price) × (pays ≤ most_pays) }
     ensures { result ≡ ladder_of f price pays }
 {
-    let least = net(f, price, pays, f.pmin);
-    let rise = slope(f, price);
     Ladder {
         low: f.pmin,
         high: f.pmax,
-        least: least,
-        rise: rise,
+        least: net(f, price, pays, f.pmin),
+        rise: slope(f, price),
     }
 }

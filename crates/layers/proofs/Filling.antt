@@ -1,9 +1,9 @@
 -- The table, layer by layer from the last: a layer made from one that holds the values behind it holds the values one interval earlier.
-use mathlib.Core.Path.{◌≡◌, refl, sym, ap, subst, ◌∙◌}
+use mathlib.Core.Path.{◌≡◌, refl, sym, subst, ◌∙◌}
 use mathlib.Core.Bool.{Bool, true, false}
 use mathlib.Core.List.{List, [], ◌∷◌}
 use mathlib.Core.Logic.{inr}
-use Prim.Native.Nat.{ℕ, zero, suc, ◌+◌, ◌-◌, ◌*◌, ◌^◌, ◌≤◌, ◌<◌}
+use Prim.Native.Nat.{ℕ, suc, ◌+◌, ◌*◌, ◌^◌, ◌≤◌, ◌<◌}
 use native.Mathlib.Nat.{mul-le-mul_right}
 use native.Mathlib.Omega.{arith}
 use borrow.Author.Tests.{ltb-true, ltb-false}
@@ -124,14 +124,3 @@ filled-done f ends quarters was s d = record { layers = λ t h. d.layers t (omeg
 pub filled-beyond : (f : Figures) (ends : Cell → BestProfit) (quarters : List Quarter) (was s : List ℤ) → FilledFrom f ends quarters was s 0
     → drop (length quarters * width f) s ≡ drop (length quarters * width f) was
 filled-beyond f ends quarters was s d = same_from was s (length quarters * width f) d.same (λ j h. d.beyond j h)
-
--- where the next layer stands, t layers being left
-pub next-layer : (t n w at len : ℕ) → 0 < t → t ≤ n → at ≡ t * w → (n + 1) * w ≤ len → (w ≤ at) × (at - w ≡ (t - 1) * w) × (at + w ≤ len)
-next-layer zero n w at len h i e f = absurd (omega arith)
-next-layer (suc t) n w at len h i e f =
-    let d : (suc t + 1) * w ≤ (n + 1) * w = mul-le-mul_right w (omega arith) in
-    let p : (suc t - 1) * w ≡ t * w = ap (λ (k : ℕ). k * w) (before t) in
-    (omega arith, omega (arith, p), omega arith)
-  where
-    before : (t : ℕ) → suc t - 1 ≡ t
-    before t = omega arith

@@ -50,14 +50,10 @@ pub fn fill(
     ensures filled_by { FilledBy f (quarters_on hours first prices.now) scratch.old scratch.new }
     ensures beyond { Beyond (length prices.now * w) scratch.old scratch.new }
 {
-    let mut t = prices.len();
-    let mut at = t * w;
-    while 0 < t {
-        t -= 1;
-        at -= w;
+    for t in (0..prices.len()).rev() {
         fill_layer(
             scratch,
-            at,
+            t * w,
             w,
             f,
             prices[t],

@@ -34,14 +34,9 @@ fn raise_section(scratch: &mut [i64], to: usize, from: usize, f: Figures, takes:
 {
     let end = rows::better_end(l);
     let cells = geometry::span_cells(f);
-    let mut x = takes;
-    let mut at = to + x * cells;
-    let mut behind = from;
-    while x <= f.most.starts {
-        raise_span(scratch, at, behind, f, l, end);
-        at += cells;
-        behind += cells;
-        x += 1;
+    let first = to + takes * cells;
+    for x in 0..f.most.starts + 1 - takes {
+        raise_span(scratch, first + x * cells, from + x * cells, f, l, end);
     }
 }
 
@@ -105,10 +100,7 @@ pub fn fill_layer(scratch: &mut [i64], w: usize, f: Figures, price: i64, opens: 
     ensures { FrontMade f (quarter price opens) scratch.old scratch.new }
 {
     let cells = geometry::section_cells(f);
-    let all = f.mot + f.mdt;
-    let mut s = 0;
-    while s < all {
+    for s in 0..f.mot + f.mdt {
         fill_quarter(scratch, w, cells, f, price, opens, s);
-        s += 1;
     }
 }

@@ -55,7 +55,7 @@ fn write_kept(
     Ok(bytes)
 }
 
-// The line of a refusal.
+// The line of a refusal. It takes any number, since C hands in any (`ralwinga_refusal`).
 pub fn write_refusal(number: u64, out: &mut [u8]) -> Result<usize, Cause>
     ensures value { result ≡ written_by (fitted (length (refusal number)) (length out.old)) }
     ensures out_after { out.new ≡ buffer_after (refusal number) out.old }
@@ -143,11 +143,8 @@ fn put_intervals(out: &mut [u8], at: usize, schedule: &[u64]) -> usize
     ensures { Put out.old at (interval_lines 1 schedule.now) result out.new }
 {
     let mut place = at;
-    let mut i = 0;
-    while i < schedule.len() {
-        let mw = schedule[i];
-        i += 1;
-        place = put_interval(&mut *out, place, i as u64, mw);
+    for (i, mw) in schedule.iter().enumerate() {
+        place = put_interval(&mut *out, place, i as u64 + 1, *mw);
     }
     place
 }
@@ -216,7 +213,7 @@ fn put_listing(out: &mut [u8], schedule: &[u64], profit: i64, outcomes: Outcomes
 
 // ---- lengths: nothing is written before it is known to fit
 
-// 0 has one digit.
+// 0 has one digit. A while: each turn goes by the digits that are left.
 fn number_length(n: u64) -> usize
     ensures { result ≡ length (number n) }
 {
@@ -281,11 +278,8 @@ fn intervals_fit(schedule: &[u64], room: usize) -> Option<usize>
     ensures { result ≡ fitted (length (interval_lines 1 schedule.now)) room }
 {
     let mut bytes = 0;
-    let mut i = 0;
-    while i < schedule.len() {
-        let mw = schedule[i];
-        i += 1;
-        let line = number_length(i as u64) + number_length(mw) + 2;
+    for (i, mw) in schedule.iter().enumerate() {
+        let line = number_length(i as u64 + 1) + number_length(*mw) + 2;
         if room - bytes < line {
             return None;
         }

@@ -3,9 +3,10 @@ use mathlib.Core.Path.{◌≡◌, refl, sym, ap, ◌∙◌}
 use mathlib.Core.Bool.{Bool, true, false}
 use mathlib.Core.List.{List}
 use mathlib.Core.Logic.{◌⊎◌, ⊎_elim, inl, inr}
-use Prim.Native.Nat.{ℕ, ◌+◌, ◌-◌, ◌*◌, ◌/◌, ◌≤◌, ◌<◌}
+use Prim.Native.Nat.{ℕ, ◌+◌, ◌-◌, ◌*◌, ◌/◌, ◌%◌, ◌≤◌, ◌<◌, min}
 use native.Mathlib.Nat.{mul-le-mul_right, one-mul, add-mul, mul_assoc, div-add-mod', mod-lt}
 use native.Mathlib.Omega.{arith}
+use Rattle.std.proofs.lemmas.Grind.{div_ceil_times}
 use borrow.Author.Tests.{ltb-true, ltb-false}
 use lib.Dec.{ltb}
 use lib.IntN.{ℤ}
@@ -113,6 +114,18 @@ whole n most some =
     let m = mod-lt n some in
     (omega (arith, d), omega (arith, d, m))
 
+-- as many pieces as go up to the end of a line, none of them empty
+module _ (first long most pieces : ℕ) (some : 1 ≤ most) (as-many : pieces ≡ (long - first) / most + min 1 ((long - first) % most)) where
+  pub pieces_reach : long ≤ first + pieces * most
+  pieces_reach = let d = div_ceil_times (long - first) most some in rw as-many (omega (arith, d.0))
+
+  pub some_left : first ≤ long → (n : ℕ) → n < pieces → first + n * most < long
+  some_left inside n h =
+      let d = div_ceil_times (long - first) most some in
+      let m : (n + 1) * most ≤ pieces * most = mul-le-mul_right most (omega arith) in
+      let e : pieces * most ≡ ((long - first) / most + min 1 ((long - first) % most)) * most = ap (λ (k : ℕ). k * most) as-many in
+      omega (arith, m, e, d.1, add-mul n 1 most, one-mul most)
+
 -- whole chunks
 module _ (f : Figures) (ok : Sound f) where
   pub size_is : f.pmax - f.pmin + 1 ≡ rungs f
@@ -136,11 +149,8 @@ module _ (f : Figures) (ok : Sound f) where
 
 -- ---- line after line: the columns below are as they were
 
-pub one_less : (start n y : ℕ) → 0 < y → start + (y - 1) * n + n ≡ start + y * n
-one_less start n y h =
-    let e : y - 1 + 1 ≡ y = omega arith in
-    let m : (y - 1 + 1) * n ≡ y * n = ap (λ (k : ℕ). k * n) e in
-    omega (arith, m, add-mul (y - 1) 1 n, one-mul n)
+pub one_more : (start n y : ℕ) → start + y * n + n ≡ start + (y + 1) * n
+one_more start n y = omega (arith, add-mul y 1 n, one-mul n)
 
 pub before-next : (t : Step) (was cur : List ℤ) (at to : ℕ) → at ≤ to → Before t was to
     → Columns t.figures (quarter_of t) t.width was cur at to → Before t cur at

@@ -3,7 +3,7 @@ use Rattle.std.specs.Prelude.{None}
 use mathlib.Core.Path.{◌≡◌, refl, sym, ap, ◌∙◌, subst}
 use mathlib.Core.List.{List, [], ◌∷◌, ◌++◌}
 use mathlib.Core.Logic.{inl, inr}
-use Prim.Native.Nat.{ℕ, suc, ◌+◌, ◌-◌, ◌*◌, ◌≤◌, ◌<◌}
+use Prim.Native.Nat.{ℕ, suc, ◌+◌, ◌*◌, ◌≤◌, ◌<◌}
 use native.Mathlib.Nat.{add-zero}
 use native.Mathlib.Omega.{arith}
 use lib.IntN.{ℤ, pos, nat_abs, ◌+ℤ◌, +ℤ_idl}
@@ -22,7 +22,7 @@ use Rattle.geometry.specs.Geometry.{section, width, index}
 use Rattle.geometry.specs.Layers.{infeasible, LayerAt}
 use Rattle.geometry.proofs.Holding.{holds-small}
 use Rattle.geometry.proofs.Places.{in-section, index-lt}
-use Rattle.intervals.specs.Turns.{Interval, off_stored}
+use Rattle.intervals.specs.Turns.{off_stored}
 use Rattle.layers.proofs.Filling.{layer-earlier}
 use Rattle.table.specs.Reading.{chosen, next_cell}
 use Rattle.table.proofs.Choosing.{Chosen}

@@ -24,15 +24,14 @@ fn flat(cells: &[i64], w: usize, b: Back, p: Piece, out: &mut [i64])
     requires { (FlatLine cells.now w b p) × (piece + piece ≤ length out.old) }
     ensures { Imaged (FlatAt cells.now w b p.place) out.old out.new p.count }
 {
-    let count = p.count;
-    let lead = integers::smaller(count, b.skipped - integers::smaller(b.skipped, p.place));
+    let lead = integers::smaller(p.count, b.skipped - integers::smaller(b.skipped, p.place));
     images::nothing(&mut *out, lead);
-    if lead < count {
+    if lead < p.count {
         images::shifted(
             cells,
             w,
             b.line + (p.place + lead - b.skipped),
-            count - lead,
+            p.count - lead,
             b.gain,
             out,
             lead,
@@ -83,7 +82,7 @@ fn lined_image(cells: &[i64], t: Step, s: usize, p: Piece, l: Ladder, out: &mut 
     ensures { Imaged (OnOf t cells.now s p) out.old out.new p.count }
 {
     let f = t.figures;
-    if (p.starts < steps::start_takes(f, s)) | (p.ons < f.takes.ons) | (p.place < l.low) {
+    if p.starts < steps::start_takes(f, s) || p.ons < f.takes.ons || p.place < l.low {
         images::nothing(out, p.count);
     } else {
         let line = line_behind(t, s, p.starts);

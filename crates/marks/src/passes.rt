@@ -5,7 +5,7 @@ ghost use Rattle.carrying.specs.Images.{piece};
 ghost use Rattle.commitment.specs.Bounds.{most_intervals};
 ghost use Rattle.commitment.specs.Windows.{Clocked};
 ghost use Rattle.marks.specs.Lines.{quarter_of};
-ghost use Rattle.marks.specs.Passing.{Columns, LastPiece, Before, LineOf, OwnNumbers, first_of, piece_of, step_at};
+ghost use Rattle.marks.specs.Passing.{Columns, Before, LineOf, OwnNumbers, first_of, piece_of, step_at};
 ghost use Rattle.marks.specs.Standing.{SweepAsked, Swept, Numbered};
 ghost use Rattle.layers.specs.Filling.{quarters_in, between};
 ghost use Rattle.geometry.specs.Geometry as geometry;
@@ -13,14 +13,6 @@ ghost use Rattle.geometry.specs.Geometry as geometry;
 use crate::{Frame, Line, Piece, Step, turns};
 use carrying::images;
 use commitment::windows;
-
-// Where the last piece begins, of those of so many places from the first on.
-fn last_piece(first: usize, end: usize, most: usize) -> usize
-    requires { (first < end) × (1 ≤ most) }
-    ensures { LastPiece first end most result }
-{
-    first + (end - 1 - first) / most * most
-}
 
 // The places of a line from one on to another.
 fn piece_of(l: Line, at: usize, end: usize) -> Piece
@@ -51,11 +43,10 @@ fn upper_pieces(
 {
     let size = t.figures.pmax - t.figures.pmin + 1;
     let most = images::PIECE / size * size;
-    let mut end = l.long;
-    while first < end {
-        let at = last_piece(first, end, most);
+    for n in (0..(l.long - first).div_ceil(most)).rev() {
+        let at = first + n * most;
+        let end = integers::smaller(l.long, at + most);
         turns::step_piece(cells, t, piece_of(l, at, end), begun, ran);
-        end = at;
     }
 }
 
@@ -81,9 +72,7 @@ fn step_rows(cells: &mut [i64], t: Step, x: usize, begun: &mut [i64], ran: &mut 
 {
     let row = geometry::row_cells(t.figures);
     let first = x * geometry::span_cells(t.figures);
-    let mut y = t.figures.most.ons + 1;
-    while 0 < y {
-        y -= 1;
+    for y in (0..=t.figures.most.ons).rev() {
         let line = Line {
             starts: x,
             ons: y,
@@ -121,9 +110,7 @@ fn step_spans(cells: &mut [i64], t: Step, begun: &mut [i64], ran: &mut [i64])
     requires piece_in_bounds { (piece + piece ≤ length begun.old) × (piece + piece ≤ length ran.old) }
     ensures { Columns t.figures (quarter_of t) t.width cells.old cells.new 0 (geometry.section t.figures) }
 {
-    let mut x = t.figures.most.starts + 1;
-    while 0 < x {
-        x -= 1;
+    for x in (0..=t.figures.most.starts).rev() {
         step_span(cells, t, x, begun, ran);
     }
 }
@@ -134,7 +121,7 @@ pub fn step(cells: &mut [i64], t: Step, begun: &mut [i64], ran: &mut [i64])
     requires piece_in_bounds { (piece + piece ≤ length begun.old) × (piece + piece ≤ length ran.old) }
     ensures { Columns t.figures (quarter_of t) t.width cells.old cells.new 0 (geometry.section t.figures) }
 {
-    if (t.figures.takes.ons == 0) & (t.figures.takes.blocks == 0) {
+    if t.figures.takes.ons == 0 && t.figures.takes.blocks == 0 {
         let line = Line {
             starts: 0,
             ons: 0,
@@ -152,15 +139,12 @@ fn step_at(g: Frame, section: usize, price: i64, at: usize) -> Step
     requires { (at < most_intervals) × (Clocked g.hours) }
     ensures { result ≡ step_at g section price at }
 {
-    let figures = g.figures;
-    let hours = g.hours;
-    let opens = windows::opens_in(hours, at);
     Step {
-        figures,
+        figures: g.figures,
         width: g.width,
         section,
         price,
-        opens,
+        opens: windows::opens_in(g.hours, at),
     }
 }
 
@@ -180,9 +164,7 @@ fn sweep(
         (between (quarters_in g.hours prices.now) from to) }
 {
     let section = geometry::section_cells(g.figures);
-    let mut at = to;
-    while from < at {
-        at -= 1;
+    for at in (from..to).rev() {
         let t = step_at(g, section, prices[at], at);
         step(cells, t, begun, ran);
     }
@@ -193,10 +175,8 @@ fn mark_own(cells: &mut [i64], w: usize)
     requires { (w + w ≤ length cells.old) × (w < 2 ^ 62) }
     ensures { OwnNumbers w cells.old cells.new w }
 {
-    let mut i = 0;
-    while i < w {
+    for i in 0..w {
         cells[w + i] = integers::signed(i as u64);
-        i += 1;
     }
 }
 

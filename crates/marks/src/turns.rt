@@ -52,7 +52,7 @@ fn own_image(cells: &[i64], t: Step, s: usize, p: Piece, out: &mut [i64])
     requires serves_for { ServesFor t cells.now s p out.old }
     ensures { Imaged (OnHere t cells.now s p) out.old out.new p.count }
 {
-    if (s == 0) | (s + 1 < t.figures.mot) {
+    if s == 0 || s + 1 < t.figures.mot {
         on_image(cells, t, s, p, out);
     }
 }
@@ -97,11 +97,8 @@ fn inner_states(cells: &mut [i64], t: Step, p: Piece, ran: &mut [i64])
     requires { (PieceAsked t cells.old p) × (piece + piece ≤ length ran.old) }
     ensures { Partly t cells.old cells.new p (states t.figures - 1) }
 {
-    let last = t.figures.mot + t.figures.mdt - 1;
-    let mut s = 0;
-    while s < last {
+    for s in 0..t.figures.mot + t.figures.mdt - 1 {
         one_state(cells, t, s, p, ran);
-        s += 1;
     }
 }
 

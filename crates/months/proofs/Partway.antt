@@ -1,12 +1,11 @@
 -- The plan of a year, partway: the outputs of the months behind, and the plan of those ahead from the cell where they led.
 use Rattle.std.specs.Prelude.{None, Some}
 use mathlib.Core.Path.{◌≡◌, refl, sym, ap, ap₂, ◌∙◌, subst}
-use mathlib.Core.Bool.{true}
 use mathlib.Core.List.{List, [], ◌∷◌, ◌++◌, append_assoc, append-nil}
-use Prim.Native.Nat.{ℕ, suc, ◌+◌, ◌-◌, ◌*◌, ◌≤◌, ◌<◌}
+use Prim.Native.Nat.{ℕ, ◌+◌, ◌-◌, ◌*◌, ◌≤◌, ◌<◌}
 use native.Mathlib.Omega.{arith}
-use lib.IntN.{ℤ, pos, ◌+ℤ◌}
-use lib.ListN.{length, get_or, take, drop, length-append, length-drop}
+use lib.IntN.{ℤ, pos}
+use lib.ListN.{length, get_or, take, drop, length-append}
 use lib.Seq.{drop-drop, drop-length, drop-append-add, take-append_seam}
 use Rattle.lists.proofs.Fills.{drop-next}
 use Rattle.commitment.specs.Types.{BestProfit}
@@ -15,7 +14,6 @@ use Rattle.commitment.specs.Best.{Plan, nothing, plan, profit_of, schedule_of}
 use Rattle.commitment.specs.Bounds.{most_blocks}
 use Rattle.commitment.specs.Months.{Month}
 use Rattle.commitment.specs.Tries.{tries_over}
-use Rattle.commitment.specs.Windows.{opens}
 use Rattle.commitment.proofs.Tries.{tries-append}
 use Rattle.optimality.specs.declared.Budgets.{Budgets}
 use Rattle.optimality.specs.declared.Cell.{Cell}
@@ -30,10 +28,9 @@ use Rattle.layers.specs.Filling.{quarters_in}
 use Rattle.halving.specs.declared.ahead.Reached.{Reached}
 use Rattle.halving.specs.Tasks.{Untouched}
 use Rattle.months.specs.declared.annual.Year.{Year}
-use Rattle.months.specs.Capping.{box_of, over_of}
 use Rattle.months.specs.Chaining.{value_before}
-use Rattle.months.specs.Annual.{cut_at, cap_of, quarters_at, YearAsked, ChainAsked, Worths}
-use Rattle.months.specs.Planning.{MonthBy, MonthPlanned, YearOf, Stood, NextAsked, Kept, PlanAsked, PlanBy, Planned}
+use Rattle.months.specs.Annual.{cut_at, cap_of, quarters_at, ChainAsked, Worths}
+use Rattle.months.specs.Planning.{MonthBy, MonthPlanned, YearOf, Stood, NextAsked, Kept, PlanAsked, Planned}
 use Rattle.months.proofs.Years.{month-value}
 use Rattle.months.proofs.Standing.{month-long}
 

@@ -1,19 +1,19 @@
 -- One month of a plan: entered in its box, solved up to the layer of the next month, and raised again.
 use Rattle.std.specs.Prelude.{None}
-use mathlib.Core.Path.{◌≡◌, refl, sym, ap, ◌∙◌, subst}
+use mathlib.Core.Path.{◌≡◌, refl, sym, ◌∙◌, subst}
 use mathlib.Core.List.{List}
 use mathlib.Core.Logic.{inr}
 use Prim.Native.Nat.{ℕ, ◌+◌, ◌-◌, ◌≤◌}
 use native.Mathlib.Omega.{arith}
 use lib.IntN.{ℤ, pos}
-use lib.ListN.{length, get_or, drop, length-drop}
+use lib.ListN.{length, drop, length-drop}
 use lib.Seq.{get_or-drop}
 use Rattle.commitment.specs.Types.{BestProfit}
 use Rattle.commitment.specs.Bounds.{most_intervals}
 use Rattle.optimality.specs.declared.Budgets.{Budgets}
 use Rattle.optimality.specs.declared.Cell.{Cell}
 use Rattle.optimality.specs.declared.Figures.{Figures}
-use Rattle.optimality.specs.Cells.{InTable, with_most, plan_at, value_at}
+use Rattle.optimality.specs.Cells.{with_most, value_at}
 use Rattle.optimality.specs.Years.{raised}
 use Rattle.optimality.proofs.Within.{with-plan, with_value}
 use Rattle.geometry.specs.Geometry.{width, index}
@@ -24,7 +24,6 @@ use Rattle.halving.specs.declared.ahead.Reached.{Reached}
 use Rattle.halving.specs.Reaching.{LegAsked, ReachedBy}
 use Rattle.months.specs.declared.annual.Year.{Year}
 use Rattle.months.specs.Capping.{Above, box_of, over_of, EnterAsked, Entered}
-use Rattle.months.specs.Chaining.{value_before}
 use Rattle.months.specs.Annual.{cut_at, cap_of, quarters_at, place_of, YearAsked, Worths}
 use Rattle.months.specs.Planning.{frame_of, MonthPlanAsked, MonthBy}
 use Rattle.months.proofs.Raising.{box-sound, raised-inside}

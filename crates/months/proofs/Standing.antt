@@ -1,7 +1,7 @@
 -- A chain of months: each layer stands before the one of the next month, and those whose places are not taken again go on to stand.
-use mathlib.Core.Path.{◌≡◌, refl, sym, ap, ◌∙◌, subst}
+use mathlib.Core.Path.{◌≡◌, refl, sym, ◌∙◌, subst}
 use mathlib.Core.Bool.{true}
-use mathlib.Core.List.{List, []}
+use mathlib.Core.List.{List}
 use mathlib.Core.Logic.{◌⊎◌, ⊎_elim, inl, inr}
 use Prim.Native.Nat.{ℕ, ◌+◌, ◌-◌, ◌≤◌, ◌<◌}
 use native.Mathlib.Omega.{arith}
@@ -12,11 +12,11 @@ use Rattle.commitment.specs.Windows.{opens}
 use Rattle.optimality.specs.declared.Cell.{Cell}
 use Rattle.optimality.specs.declared.Figures.{Figures}
 use Rattle.optimality.specs.Machine.{anywhere}
-use Rattle.optimality.specs.Cells.{InTable, with_most}
+use Rattle.optimality.specs.Cells.{InTable}
 use Rattle.optimality.proofs.Quarters.{quarters-length}
 use Rattle.optimality.proofs.Turns.{value-end}
 use Rattle.geometry.specs.Geometry.{width, index}
-use Rattle.geometry.specs.Layers.{Holds, Layer, LayerAt, stored_at}
+use Rattle.geometry.specs.Layers.{Holds, LayerAt, stored_at}
 use Rattle.geometry.proofs.Places.{index-lt}
 use Rattle.layers.specs.Filling.{quarters_in}
 use Rattle.layers.proofs.Between.{between-length}
@@ -25,7 +25,7 @@ use Rattle.intervals.specs.Stretches.{Apart}
 use Rattle.intervals.proofs.Stretches.{last-or-before, put_in, put-apart}
 use Rattle.months.specs.declared.annual.Year.{Year}
 use Rattle.months.specs.Chaining.{MonthAsked, MonthMade}
-use Rattle.months.specs.Annual.{cut_at, cap_of, month_at, quarters_at, place_of, places_at, YearAsked, ChainAsked, Worths, Stands, Earlier, Chained}
+use Rattle.months.specs.Annual.{cut_at, month_at, quarters_at, place_of, places_at, YearAsked, ChainAsked, Stands, Earlier, Chained}
 use Rattle.months.proofs.Slots.{place-fits, places-apart}
 
 -- the same values

@@ -1,13 +1,11 @@
 -- The months of a horizon: where they begin, what each may spend, what the year is worth at the beginning of each, and where its layer stands.
 use Rattle.std.specs.Prelude.{◌≡◌, Bool, true, false, cond, List, ◌⊎◌, ℕ, ◌+◌, ◌-◌, ◌*◌, ◌%◌, ◌≤◌, ◌<◌, eqb, ℤ, length, get_or}
 use Rattle.commitment.specs.Types.{BestProfit}
-use Rattle.commitment.specs.Types.{Hours}
 use Rattle.commitment.specs.Bounds.{most_intervals}
 use Rattle.commitment.specs.Ranges.{Priced}
 use Rattle.commitment.specs.Windows.{Clocked}
 use Rattle.optimality.specs.declared.Budgets.{Budgets}
 use Rattle.optimality.specs.declared.Cell.{Cell}
-use Rattle.optimality.specs.declared.Figures.{Figures}
 use Rattle.optimality.specs.Machine.{Quarter, anywhere}
 use Rattle.optimality.specs.Cells.{Sound, Within, InTable, with_most}
 use Rattle.geometry.specs.Geometry.{width}
@@ -18,7 +16,7 @@ use Rattle.months.specs.declared.annual.Caps.{Caps}
 use Rattle.months.specs.declared.annual.Year.{Year}
 use Rattle.months.specs.declared.chains.Month.{Month}
 use Rattle.months.specs.declared.chains.Places.{Places}
-use Rattle.months.specs.Chaining.{value_before, MonthAsked}
+use Rattle.months.specs.Chaining.{value_before}
 
 -- ---- the months
 

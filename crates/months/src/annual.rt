@@ -35,19 +35,17 @@ fn cap_of(caps: Caps, k: usize) -> Budgets
     ensures { result ≡ cap_of caps k }
 {
     if k == caps.apart {
-        return caps.other;
+        caps.other
+    } else {
+        caps.each
     }
-    caps.each
 }
 
 // Which place a layer has.
 fn slot_of(all: bool, k: usize) -> usize
     ensures { result ≡ slot_of all k }
 {
-    if all {
-        return k;
-    }
-    k % 2
+    if all { k } else { k % 2 }
 }
 
 // Where the layer of month k stands; that of the horizon's end is one more.
@@ -63,12 +61,10 @@ pub fn month_at(y: Year, cuts: &[usize], k: usize) -> Month
     requires { k + 1 < length cuts.now }
     ensures { result ≡ month_at y cuts.now k }
 {
-    let caps = y.caps;
-    let cap = cap_of(caps, k);
     Month {
         from: cuts[k],
         to: cuts[k + 1],
-        cap,
+        cap: cap_of(y.caps, k),
     }
 }
 
@@ -92,9 +88,7 @@ fn earlier(cells: &mut [i64], y: Year, prices: &[i64], cuts: &[usize], k: usize)
 {
     let m = month_at(y, cuts, k);
     let at = places_at(y, k);
-    let f = y.figures;
-    let hours = y.hours;
-    ends::before_month_cheaper(cells, f, prices, hours, m, at);
+    ends::before_month_cheaper(cells, y.figures, prices, y.hours, m, at);
 }
 
 // From the layer of the horizon's end back to month `first`.
@@ -103,9 +97,7 @@ fn back(cells: &mut [i64], y: Year, prices: &[i64], cuts: &[usize], first: usize
     requires stands { Stands y prices.now cuts.now cells.old (length cuts.now - 1) }
     ensures { Chained y prices.now cuts.now first cells.old cells.new }
 {
-    let mut k = cuts.len() - 1;
-    while first < k {
-        k -= 1;
+    for k in (first..cuts.len() - 1).rev() {
         earlier(cells, y, prices, cuts, k);
     }
 }

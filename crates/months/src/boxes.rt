@@ -24,19 +24,7 @@ pub fn least(a: Budgets, b: Budgets) -> Budgets
 pub fn with_most(f: Figures, most: Budgets) -> Figures
     ensures { result ≡ with_most f most }
 {
-    let takes = f.takes;
-    Figures {
-        block: f.block,
-        pmin: f.pmin,
-        pmax: f.pmax,
-        mot: f.mot,
-        mdt: f.mdt,
-        vec: f.vec,
-        mlc: f.mlc,
-        suc: f.suc,
-        takes,
-        most,
-    }
+    Figures { most, ..f }
 }
 
 // The cell of the year above a cell of the month's box.
@@ -44,14 +32,13 @@ pub fn raised(f: Figures, above: Budgets, c: Cell) -> Cell
     requires { (Sound f) × (Within (plus c.left above) f.most) }
     ensures { result ≡ years.raised above c }
 {
-    let left = Budgets {
-        starts: c.left.starts + above.starts,
-        ons: c.left.ons + above.ons,
-        blocks: c.left.blocks + above.blocks,
-    };
     Cell {
-        state: c.state,
-        left,
+        left: Budgets {
+            starts: c.left.starts + above.starts,
+            ons: c.left.ons + above.ons,
+            blocks: c.left.blocks + above.blocks,
+        },
+        ..c
     }
 }
 
@@ -60,9 +47,7 @@ fn high_cell(f: Figures, cap: Budgets, above: Budgets, i: usize) -> Cell
     requires { (Above f cap above) × (i < width (with_most f cap)) }
     ensures { result ≡ high_cell f cap above i }
 {
-    let g = with_most(f, cap);
-    let c = geometry::cell_of(g, i);
-    raised(f, above, c)
+    raised(f, above, geometry::cell_of(with_most(f, cap), i))
 }
 
 // The layer after a month, as its box sees it: each cell has what the year's cell above it has.
@@ -71,11 +56,9 @@ pub fn enter(cells: &mut [i64], f: Figures, cap: Budgets, above: Budgets, from: 
     ensures { Entered f cap above cells.old cells.new from to }
 {
     let w = geometry::layer_cells(with_most(f, cap));
-    let mut i = 0;
-    while i < w {
+    for i in 0..w {
         let at = from + geometry::index(f, high_cell(f, cap, above, i));
         cells[to + i] = cells[at];
-        i += 1;
     }
 }
 
@@ -91,28 +74,20 @@ pub fn less(a: Budgets, b: Budgets) -> Budgets
     }
 }
 
-fn same(a: Budgets, b: Budgets) -> bool
-    ensures { result ≡ same_budgets a b }
-{
-    (a.starts == b.starts) & (a.ons == b.ons) & (a.blocks == b.blocks)
-}
-
 // What a cell of the year has above the box.
 pub fn over_of(cap: Budgets, z: Cell) -> Budgets
     ensures { result ≡ over_of cap z }
 {
-    let all = z.left;
-    less(all, least(all, cap))
+    less(z.left, least(z.left, cap))
 }
 
 // Its cell in the box.
 pub fn box_of(cap: Budgets, z: Cell) -> Cell
     ensures { result ≡ box_of cap z }
 {
-    let left = least(z.left, cap);
     Cell {
-        state: z.state,
-        left,
+        left: least(z.left, cap),
+        ..z
     }
 }
 
@@ -120,7 +95,7 @@ pub fn box_of(cap: Budgets, z: Cell) -> Cell
 fn is_over(cap: Budgets, above: Budgets, z: Cell) -> bool
     ensures { result ≡ same_budgets (over_of cap z) above }
 {
-    same(over_of(cap, z), above)
+    over_of(cap, z) == above
 }
 
 // The i-th cell of the box, where it is that of the year's cell above it.
@@ -149,9 +124,7 @@ pub fn store(cells: &mut [i64], f: Figures, cap: Budgets, above: Budgets, from: 
     ensures { Stored f cap above cells.old cells.new from to }
 {
     let w = geometry::layer_cells(with_most(f, cap));
-    let mut i = 0;
-    while i < w {
+    for i in 0..w {
         store_one(cells, f, cap, above, from, to, i);
-        i += 1;
     }
 }

@@ -55,13 +55,11 @@ fn one_class(
     requires { ClassAsked f cells.old prices.now hours m at above }
     ensures { ClassMade f (between (quarters_in hours prices.now) m.from m.to) m at above cells.old cells.new }
 {
-    let cap = m.cap;
-    let g = boxes::with_most(f, cap);
-    let work = at.work;
-    let behind = work + geometry::layer_cells(g);
-    boxes::enter(&mut *cells, f, cap, above, at.after, behind);
-    roll_box(&mut *cells, g, prices, hours, m, work);
-    boxes::store(cells, f, cap, above, work, at.here);
+    let g = boxes::with_most(f, m.cap);
+    let behind = at.work + geometry::layer_cells(g);
+    boxes::enter(&mut *cells, f, m.cap, above, at.after, behind);
+    roll_box(&mut *cells, g, prices, hours, m, at.work);
+    boxes::store(cells, f, m.cap, above, at.work, at.here);
 }
 
 // All cells of the year, by what may lie above the box.
@@ -76,15 +74,9 @@ pub fn before_month(
     requires { MonthAsked f cells.old prices.now hours m at }
     ensures { MonthMade f (between (quarters_in hours prices.now) m.from m.to) m at cells.old cells.new }
 {
-    let most = f.most;
-    let cap = m.cap;
-    let h = boxes::with_most(f, boxes::less(most, cap));
-    let count = geometry::section_cells(h);
-    let mut j = 0;
-    while j < count {
-        let c = geometry::cell_of(h, j);
-        let above = c.left;
+    let h = boxes::with_most(f, boxes::less(f.most, m.cap));
+    for j in 0..geometry::section_cells(h) {
+        let above = geometry::cell_of(h, j).left;
         one_class(cells, f, prices, hours, m, at, above);
-        j += 1;
     }
 }

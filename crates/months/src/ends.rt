@@ -32,15 +32,13 @@ pub struct Way {
 }
 
 // Each number raised to another plus the gain, where that is larger.
+// `intervals::rows::raise` takes its sources from behind; the year's two layers take turns, so here they may lie before (`RowAsked`).
 fn raise_row(cells: &mut [i64], to: usize, from: usize, count: usize, gain: i64)
     requires { RowAsked cells.old to from count gain }
     ensures { Raised cells.old cells.new to from count gain }
 {
-    let mut i = 0;
-    while i < count {
-        let on = cells[from + i] + gain;
-        cells[to + i] = integers::larger(cells[to + i], on);
-        i += 1;
+    for i in 0..count {
+        cells[to + i] = integers::larger(cells[to + i], cells[from + i] + gain);
     }
 }
 
@@ -76,11 +74,8 @@ fn raise_span(cells: &mut [i64], f: Figures, at: Places, w: Way, x: usize)
     requires { (WayAsked f cells.old at w) × (w.from.left.starts ≤ x) × (x ≤ f.most.starts) }
     ensures { Brought f at w (InSpan w x (f.most.ons + 1)) cells.old cells.new }
 {
-    let most = f.most.ons;
-    let mut y = w.from.left.ons;
-    while y <= most {
+    for y in w.from.left.ons..=f.most.ons {
         raise_at(cells, f, at, w, x, y);
-        y += 1;
     }
 }
 
@@ -89,11 +84,8 @@ fn raise_by(cells: &mut [i64], f: Figures, at: Places, w: Way)
     requires { WayAsked f cells.old at w }
     ensures { Brought f at w (InSection w (f.most.starts + 1)) cells.old cells.new }
 {
-    let most = f.most.starts;
-    let mut x = w.from.left.starts;
-    while x <= most {
+    for x in w.from.left.starts..=f.most.starts {
         raise_span(cells, f, at, w, x);
-        x += 1;
     }
 }
 
@@ -111,15 +103,12 @@ fn shifted(b: Budgets) -> Budgets
 fn shifted_way(w: Way) -> Way
     ensures { result ≡ shifted_way w }
 {
-    let left = shifted(w.from.left);
-    let from = Cell {
-        state: w.from.state,
-        left,
-    };
     Way {
-        from,
-        to: w.to,
-        gain: w.gain,
+        from: Cell {
+            left: shifted(w.from.left),
+            ..w.from
+        },
+        ..w
     }
 }
 
@@ -128,14 +117,13 @@ fn raise_spans(cells: &mut [i64], f: Figures, at: Places, w: Way)
     requires { WayAsked f cells.old at w }
     ensures { Brought f at w (InSection w (f.most.starts + 1)) cells.old cells.new }
 {
-    let most = f.most;
-    if 0 < most.blocks {
+    if 0 < f.most.blocks {
         raise_by(cells, f, at, w);
         return;
     }
     raise_by(
         cells,
-        boxes::with_most(f, shifted(most)),
+        boxes::with_most(f, shifted(f.most)),
         at,
         shifted_way(w),
     );
@@ -146,14 +134,13 @@ fn raise_all(cells: &mut [i64], f: Figures, at: Places, w: Way)
     requires { WayAsked f cells.old at w }
     ensures { Brought f at w (InSection w (f.most.starts + 1)) cells.old cells.new }
 {
-    let most = f.most;
-    if 0 < most.blocks {
+    if 0 < f.most.blocks {
         raise_by(cells, f, at, w);
         return;
     }
     raise_spans(
         cells,
-        boxes::with_most(f, shifted(most)),
+        boxes::with_most(f, shifted(f.most)),
         at,
         shifted_way(w),
     );
@@ -175,8 +162,7 @@ fn take_one(cells: &mut [i64], f: Figures, cap: Budgets, at: Places, to: usize, 
     ensures { Taken f at (cell_of (with_most f cap) j) to (told (get_or cells.old (at.work + j) (pos 0))) cells.old cells.new }
 {
     let from = geometry::cell_of(boxes::with_most(f, cap), j);
-    let work = at.work;
-    let earned = geometry::told(cells[work + j]);
+    let earned = geometry::told(cells[at.work + j]);
     take(cells, f, at, from, to, earned);
 }
 
@@ -185,23 +171,9 @@ fn take_all(cells: &mut [i64], f: Figures, cap: Budgets, at: Places, to: usize)
     requires { WaysAsked f cap cells.old at to }
     ensures { WaysTaken f cap at to (width (with_most f cap)) cells.old cells.new }
 {
-    let count = geometry::layer_cells(boxes::with_most(f, cap));
-    let mut j = 0;
-    while j < count {
+    for j in 0..geometry::layer_cells(boxes::with_most(f, cap)) {
         take_one(cells, f, cap, at, to, j);
-        j += 1;
     }
-}
-
-// The layer after the month: 0 in a state with nothing left, and nowhere else a plan may end.
-fn put_state(cells: &mut [i64], g: Figures, at: usize, s: usize)
-    requires { (Sound g) × (at + width g ≤ length cells.old) × (s < states g) }
-    ensures { (Layer g (ends_in s) [] (stored_at g cells.new at)) × (Apart cells.old cells.new at (width g)) }
-{
-    let w = geometry::layer_cells(g);
-    rows::put(&mut *cells, at, w, INFEASIBLE);
-    let i = at + s * geometry::section_cells(g);
-    cells[i] = 0;
 }
 
 // One state at the month's end: the month rolled to it, and its ways taken.
@@ -217,13 +189,11 @@ fn one_end(
     requires { EndAsked f cells.old prices.now hours m at t }
     ensures { EndsTaken f (between (quarters_in hours prices.now) m.from m.to) m at t (t + 1) cells.old cells.new }
 {
-    let cap = m.cap;
-    let g = boxes::with_most(f, cap);
-    let work = at.work;
-    let behind = work + geometry::layer_cells(g);
-    put_state(&mut *cells, g, behind, t);
-    chains::roll_box(&mut *cells, g, prices, hours, m, work);
-    take_all(cells, f, cap, at, t);
+    let g = boxes::with_most(f, m.cap);
+    let w = geometry::layer_cells(g);
+    halving::put_end(&mut *cells, at.work + w, w, g, Some(t));
+    chains::roll_box(&mut *cells, g, prices, hours, m, at.work);
+    take_all(cells, f, m.cap, at, t);
 }
 
 // All states.
@@ -238,11 +208,8 @@ fn all_ends(
     requires { MonthAsked f cells.old prices.now hours m at }
     ensures { EndsTaken f (between (quarters_in hours prices.now) m.from m.to) m at 0 (states f) cells.old cells.new }
 {
-    let count = f.mot + f.mdt;
-    let mut t = 0;
-    while t < count {
+    for t in 0..f.mot + f.mdt {
         one_end(cells, f, prices, hours, m, at, t);
-        t += 1;
     }
 }
 
@@ -268,10 +235,8 @@ pub fn before_month_by_ends(
 fn fewer_by_ends(f: Figures, m: Month) -> bool
     requires { (Sound f) × (Within m.cap f.most) × (m.from < m.to) × (m.to ≤ most_intervals) }
 {
-    let most = f.most;
-    let cap = m.cap;
     let long = m.to - m.from;
-    let parts = geometry::section_cells(boxes::with_most(f, boxes::less(most, cap)));
+    let parts = geometry::section_cells(boxes::with_most(f, boxes::less(f.most, m.cap)));
     let all = (f.mot + f.mdt) * long + geometry::layer_cells(f);
     all <= integers::capped_product(integers::LARGEST, parts, long)
 }

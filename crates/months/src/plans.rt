@@ -21,10 +21,9 @@ fn frame_of(figures: Figures, hours: Option<Allowed>) -> Frame
     requires { Sound figures }
     ensures { result ≡ frame_of figures hours }
 {
-    let width = geometry::layer_cells(figures);
     Frame {
         figures,
-        width,
+        width: geometry::layer_cells(figures),
         hours,
     }
 }
@@ -61,26 +60,20 @@ fn plan_month(
     ensures apart { Apart cells.old cells.new y.work y.room }
 {
     let m = annual::month_at(y, cuts, k);
-    let cap = m.cap;
     let f = y.figures;
-    let hours = y.hours;
-    let work = y.work;
-    let above = boxes::over_of(cap, at);
+    let above = boxes::over_of(m.cap, at);
     let after = annual::place_of(y, k + 1);
-    boxes::enter(&mut *cells, f, cap, above, after, work);
-    let g = frame_of(boxes::with_most(f, cap), hours);
-    let cell = boxes::box_of(cap, at);
+    boxes::enter(&mut *cells, f, m.cap, above, after, y.work);
+    let g = frame_of(boxes::with_most(f, m.cap), y.hours);
     let leg = Leg {
         from: m.from,
         to: m.to,
-        cell,
+        cell: boxes::box_of(m.cap, at),
     };
-    let end = plan_in(cells, work, y.room, g, prices, leg, schedule);
-    let c = end.cell;
-    let cell = boxes::raised(f, above, c);
+    let end = plan_in(cells, y.work, y.room, g, prices, leg, schedule);
     Reached {
-        cell,
-        tries: end.tries,
+        cell: boxes::raised(f, above, end.cell),
+        ..end
     }
 }
 
@@ -128,12 +121,10 @@ pub fn plan_year(
 {
     let mut at = from;
     let mut tries = 0;
-    let mut k = 0;
-    while k + 1 < cuts.len() {
+    for k in 0..cuts.len() - 1 {
         let r = next_month(cells, y, prices, cuts, k, at, schedule);
         at = r.cell;
         tries += r.tries;
-        k += 1;
     }
     tries
 }

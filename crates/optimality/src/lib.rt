@@ -4,7 +4,7 @@
 // What is counted of the three limitations: starts, on-intervals and output blocks.
 #![tactic(auto)]
 
-#[derive(Clone, Copy)]
+#[derive(Clone, Copy, PartialEq, Eq)]
 pub struct Budgets {
     pub starts: usize,
     pub ons: usize,

@@ -24,7 +24,7 @@ pub fn roll_all(scratch: &mut [i64], w: usize, f: Figures, prices: &[i64], hours
     ensures layer { Layer f anywhere (quarters_in hours prices.now) (in_front f scratch.new) }
     ensures beyond { Beyond (w + w) scratch.old scratch.new }
 {
-    rows::put(&mut *scratch, w, w, 0);
+    rows::put(scratch, w, w, 0);
     roll(scratch, w, f, prices, hours, 0, prices.len());
 }
 
@@ -42,12 +42,10 @@ pub fn roll(
     ensures rolled_by { RolledBy f (between (quarters_in hours prices.now) from to) scratch.old scratch.new }
     ensures beyond { Beyond (w + w) scratch.old scratch.new }
 {
-    let mut t = to - 1;
-    while from < t {
+    for t in (from + 1..to).rev() {
         earlier(scratch, w, f, prices[t], windows::opens_in(hours, t));
-        t -= 1;
     }
-    states::fill_layer(scratch, w, f, prices[t], windows::opens_in(hours, t));
+    states::fill_layer(scratch, w, f, prices[from], windows::opens_in(hours, from));
 }
 
 // The layer behind, one interval earlier.

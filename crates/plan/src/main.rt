@@ -39,7 +39,7 @@ fn run(rt: &(impl Input + Print), text: &mut [u8], out: &mut [u8]) -> anyhow::Re
         .context("plan: writing failed")
 }
 
-// Reads until the text ends or the slice is full. Only a read of no bytes is the end.
+// Reads until the text ends or the slice is full. Only a read of no bytes is the end. A while: each turn goes on by as much as was read.
 fn read_text(input: &mut impl Read, text: &mut [u8]) -> io::Result<usize>
     ensures { Within result (length text.old) }
 {

@@ -10,6 +10,7 @@ ghost use Rattle.planner.specs.Valuing.{valued_by};
 
 use crate::{Report, models, reading};
 use commitment::{Cause, Outcomes, UnitRecord};
+use valuation::Runs;
 
 // A plan is read here, so that the pass through two layers marks the middle.
 pub fn report_case(
@@ -42,8 +43,12 @@ pub fn value_case(unit: UnitRecord, prices: &[i64], scratch: &mut [i64]) -> Resu
 {
     let model = models::model_of(unit, prices, scratch.len());
     models::first_layer(unit, model, prices, &mut *scratch, false);
-    let f = model.figures;
-    let answer = reading::read_outcomes(unit, f, prices, &scratch[..]);
+    let answer = reading::read_outcomes(&Runs {
+        unit,
+        figures: model.figures,
+        prices,
+        cells: &scratch[..],
+    });
     let used = models::cells_used(unit, prices.len(), model.long);
     layers::clear(scratch, used);
     answer

@@ -13,20 +13,14 @@ use commitment::{Cause, Outcome, Outcomes};
 pub fn planned_profit(answer: Result<BestPlan, Cause>) -> i64
     ensures { result ≡ planned_profit answer }
 {
-    match answer {
-        Ok(plan) => plan.profit,
-        Err(_) => 0,
-    }
+    answer.map_or(0, |plan| plan.profit)
 }
 
 // The intervals planned, 0 on a refusal.
 pub fn planned_count(answer: Result<BestPlan, Cause>) -> usize
     ensures { result ≡ planned_count answer }
 {
-    match answer {
-        Ok(plan) => plan.count,
-        Err(_) => 0,
-    }
+    answer.map_or(0, |plan| plan.count)
 }
 
 // A report without its outcomes.
@@ -45,28 +39,19 @@ pub fn plan_of(answer: Result<Report, Cause>) -> Result<BestPlan, Cause>
 pub fn reported_count(answer: Result<Report, Cause>) -> usize
     ensures { result ≡ reported_count answer }
 {
-    match answer {
-        Ok(report) => report.count,
-        Err(_) => 0,
-    }
+    answer.map_or(0, |report| report.count)
 }
 
 pub fn reported_profit(answer: Result<Report, Cause>) -> i64
     ensures { result ≡ reported_profit answer }
 {
-    match answer {
-        Ok(report) => report.profit,
-        Err(_) => 0,
-    }
+    answer.map_or(0, |report| report.profit)
 }
 
 pub fn reported_outcomes(answer: Result<Report, Cause>) -> Outcomes
     ensures { result ≡ reported_outcomes answer }
 {
-    match answer {
-        Ok(report) => report.outcomes,
-        Err(_) => no_outcomes(),
-    }
+    answer.map_or(no_outcomes(), |report| report.outcomes)
 }
 
 // ---- the outcomes alone
@@ -74,10 +59,7 @@ pub fn reported_outcomes(answer: Result<Report, Cause>) -> Outcomes
 pub fn valued_outcomes(answer: Result<Outcomes, Cause>) -> Outcomes
     ensures { result ≡ valued_outcomes answer }
 {
-    match answer {
-        Ok(outcomes) => outcomes,
-        Err(_) => no_outcomes(),
-    }
+    answer.unwrap_or(no_outcomes())
 }
 
 fn no_outcomes() -> Outcomes

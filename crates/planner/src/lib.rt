@@ -17,7 +17,7 @@ ghost use Rattle.planner.specs.Valuing.{valued, scratch_valued};
 
 use commitment::{Cause, Outcomes, UnitRecord};
 
-// The best plan: the intervals planned, and its profit.
+// The best plan: the intervals planned, whose outputs go into a slice that is lent, since nothing is allocated; and its profit.
 #[derive(Clone, Copy)]
 pub struct BestPlan {
     pub count: usize,
@@ -71,7 +71,8 @@ pub fn report_into(
     cases::report_case(unit, prices, scratch, schedule)
 }
 
-// The best plan as the filled front part of the caller's own slice, empty on a refusal; the number and the profit go through the references.
+// The best plan as the filled front part of the caller's own slice, empty on a refusal. The number and the profit go through references, since its clauses
+// `number_after` and `profit_after` hold of an outside call.
 pub fn plan<'a>(
     unit: UnitRecord,
     prices: &[i64],

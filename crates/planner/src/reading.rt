@@ -8,14 +8,13 @@ ghost use Rattle.commitment.specs.Valuing.{outcomes_of};
 ghost use Rattle.layers.specs.Filling.{Beyond};
 ghost use Rattle.planner.specs.Planning.{schedule_checked, schedule_after};
 ghost use Rattle.planner.specs.Reporting.{reported_by};
-ghost use Rattle.valuation.specs.Telling.{ToldBy};
 ghost use Rattle.planner.specs.Models.{Ready};
 ghost use Rattle.planner.specs.Valuing.{valued_by};
 
 use crate::Report;
 use crate::models::Model;
 use commitment::{Cause, Outcomes, UnitRecord};
-use optimality::Figures;
+use valuation::Runs;
 
 // Profit and outcomes come first: in two layers the plan is worked out in their place.
 pub fn read_report(
@@ -31,10 +30,14 @@ pub fn read_report(
         ≡ schedule_after (schedule_checked unit prices.now) (best unit prices.now) schedule.old }
     ensures beyond { Beyond (cells_used unit (length prices.now) (length scratch.old)) scratch.old scratch.new }
 {
-    let f = model.figures;
-    let best = valuation::whole_profit(unit, f, prices, &scratch[..]);
-    let profit = best.ok_or(Cause::NoSchedule)?;
-    let outcomes = valuation::outcomes_in(unit, f, prices, &scratch[..]);
+    let runs = Runs {
+        unit,
+        figures: model.figures,
+        prices,
+        cells: &scratch[..],
+    };
+    let profit = runs.whole_profit().ok_or(Cause::NoSchedule)?;
+    let outcomes = runs.outcomes();
     read_plan(unit, model, prices, scratch, schedule);
     Ok(Report {
         count: prices.len(),
@@ -68,16 +71,9 @@ fn read_plan(
 }
 
 // 9 where the case has no schedule; else all runs from this one layer.
-pub fn read_outcomes(
-    unit: UnitRecord,
-    f: Figures,
-    prices: &[i64],
-    cells: &[i64],
-) -> Result<Outcomes, Cause>
-    requires { ToldBy f unit prices.now cells.now }
-    ensures { result ≡ valued_by (schedule_checked unit prices.now) (outcomes_of unit prices.now) }
+pub fn read_outcomes(runs: &Runs) -> Result<Outcomes, Cause>
+    ensures { result ≡ valued_by (schedule_checked runs.now.unit runs.now.prices.now) (outcomes_of runs.now.unit runs.now.prices.now) }
 {
-    let best = valuation::whole_profit(unit, f, prices, cells);
-    best.ok_or(Cause::NoSchedule)?;
-    Ok(valuation::outcomes_in(unit, f, prices, cells))
+    runs.whole_profit().ok_or(Cause::NoSchedule)?;
+    Ok(runs.outcomes())
 }

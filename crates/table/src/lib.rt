@@ -42,21 +42,15 @@ pub fn read_off(
     ensures read_off { ReadOff f prices.now scratch.now from schedule.old schedule.new result }
     ensures upper_bound { result ≤ length prices.now * (most_blocks + 1) }
 {
-    let n = prices.len();
-    let mut at = 0;
     let mut c = from;
     let mut tries = 0;
-    let mut t = 0;
-    while t < n {
-        let i = at + geometry::index(f, c);
-        let best = scratch[i];
-        at += w;
-        let found = reading::choose(scratch, at, f, prices[t], c, best);
-        let k = found.blocks;
+    for (t, price) in prices.iter().enumerate() {
+        let at = t * w;
+        let best = scratch[at + geometry::index(f, c)];
+        let found = reading::choose(scratch, at + w, f, *price, c, best);
         tries += found.tries;
-        schedule[t] = (k * f.block) as u64;
-        c = reading::moved(f, c, k);
-        t += 1;
+        schedule[t] = (found.blocks * f.block) as u64;
+        c = reading::moved(f, c, found.blocks);
     }
     tries
 }

@@ -54,8 +54,7 @@ fn off_stored(scratch: &[i64], at: usize, f: Figures, c: Cell) -> i64
     if f.mot + f.mdt <= next.state {
         return geometry::INFEASIBLE;
     }
-    let i = at + geometry::index(f, next);
-    scratch[i]
+    scratch[at + geometry::index(f, next)]
 }
 
 // The first output on that reaches the best, off having been tried before it.
@@ -70,18 +69,18 @@ fn first_on(scratch: &[i64], at: usize, f: Figures, price: i64, c: Cell, best: i
         at: at + on_row(f, c),
         blocks: c.left.blocks,
     };
-    let mut above = 0;
-    let mut tries = 1;
-    loop {
-        let k = f.pmin + above;
-        tries += 1;
+    for k in f.pmin..f.pmax {
         if reaches(scratch, row, f, price, pays, k, best) {
             return Tried {
                 blocks: k,
-                tries: tries,
+                tries: k - f.pmin + 2,
             };
         }
-        above += 1;
+    }
+    // One of them does.
+    Tried {
+        blocks: f.pmax,
+        tries: f.pmax - f.pmin + 2,
     }
 }
 
@@ -91,14 +90,10 @@ fn on_row(f: Figures, c: Cell) -> usize
     ensures { result ≡ geometry.index f (cell (after_on f c.state) (c.left.starts - start_takes f c.state) (c.left.ons - f.takes.ons) 0) }
 {
     let left = Budgets {
-        starts: c.left.starts,
-        ons: c.left.ons,
         blocks: 0,
+        ..c.left
     };
-    let first = Cell {
-        state: c.state,
-        left,
-    };
+    let first = Cell { left, ..c };
     geometry::index(f, steps::on_cell(f, first, 0))
 }
 
@@ -121,10 +116,7 @@ fn reaches(
     }
     let i = row.at + (row.blocks - spent);
     let v = scratch[i] + steps::net(f, price, pays, k);
-    if v < best {
-        return false;
-    }
-    true
+    best <= v
 }
 
 // The cell that k blocks lead to.

@@ -4,8 +4,7 @@
 ghost use Rattle.std.specs.Prelude.{◌≡◌, ◌≤◌, length, take};
 ghost use Rattle.std.specs.Io.{ReadsAtMost};
 
-use commitment::{Outcomes, UnitRecord, Window};
-use enumeration::numbers::one_if;
+use commitment::{Outcomes, UnitRecord};
 use enumeration::printing::{line, text};
 use std::env::{Env, FillError};
 use std::io::Read;
@@ -114,12 +113,9 @@ fn try_plan(
         &mut number,
         &mut profit,
     );
-    planned(rt, &plan[..], profit, outcomes, word_of(unit.permit))?;
+    let word = unit.permit.map(|window| window.word);
+    planned(rt, &plan[..], profit, outcomes, word)?;
     hand_in(rt, unit, prices, &plan[..], profit)
-}
-
-fn word_of(permit: Option<Window>) -> Option<u64> {
-    permit.map(|window| window.word)
 }
 
 fn planned(
@@ -148,6 +144,7 @@ fn put_listing(
     listing::write_listing(schedule, profit, outcomes, word, out).unwrap_or(0)
 }
 
+// The number is that which `casefile::read` gives.
 fn refused(rt: &impl Print, number: u64) -> io::Result<()> {
     let mut out = [0u8; 32];
     let bytes = put_refusal(number, &mut out);
@@ -171,6 +168,10 @@ pub fn hand_in(
 ) -> io::Result<()> {
     match assessment::assess(unit, prices, schedule) {
         Err(cause) => line(rt, b"handed in and refused,", u64::from(cause)),
-        Ok(earned) => line(rt, b"handed in with that profit,", one_if(earned == profit)),
+        Ok(earned) => line(
+            rt,
+            b"handed in with that profit,",
+            u64::from(earned == profit),
+        ),
     }
 }

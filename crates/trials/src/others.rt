@@ -4,8 +4,8 @@ use crate::files::{contents, hand_in, try_case};
 use casefile::Case;
 use commitment::{Cause, UnitRecord};
 use enumeration::lending;
-use enumeration::numbers::one_if;
 use enumeration::printing::{line, text};
+use planner::BestPlan;
 use std::io;
 use std::rt::Files;
 
@@ -56,28 +56,28 @@ fn try_scratch(rt: &impl Print, unit: UnitRecord, prices: &[i64]) -> io::Result<
     line(
         rt,
         b"c1 planned with 588 cells,",
-        planned(unit, prices, &mut long),
+        commitment::number_in(&planned(unit, prices, &mut long)),
     )?;
     lending::fill(&mut between);
     line(
         rt,
         b"c1 planned with 587 cells,",
-        planned(unit, prices, &mut between),
+        commitment::number_in(&planned(unit, prices, &mut between)),
     )?;
     line(
         rt,
         b"168 cells 0 and the others as they were,",
-        one_if(lending::is_left(&between, 168)),
+        u64::from(lending::is_left(&between, 168)),
     )?;
     line(
         rt,
         b"c1 planned with 168 cells,",
-        planned(unit, prices, &mut two),
+        commitment::number_in(&planned(unit, prices, &mut two)),
     )?;
     line(
         rt,
         b"c1 planned with 167 cells,",
-        planned(unit, prices, &mut short),
+        commitment::number_in(&planned(unit, prices, &mut short)),
     )
 }
 
@@ -90,12 +90,12 @@ fn try_one_price(rt: &(impl Files + Print)) -> io::Result<()> {
     line(
         rt,
         b"c3 planned with 32 cells,",
-        planned(unit, &prices, &mut enough),
+        commitment::number_in(&planned(unit, &prices, &mut enough)),
     )?;
     line(
         rt,
         b"c3 planned with 31 cells,",
-        planned(unit, &prices, &mut short),
+        commitment::number_in(&planned(unit, &prices, &mut short)),
     )
 }
 
@@ -114,9 +114,9 @@ fn try_two_layers(rt: &(impl Files + Print)) -> io::Result<()> {
 }
 
 // With room for six intervals, the most that these cases have.
-fn planned(unit: UnitRecord, prices: &[i64], scratch: &mut [i64]) -> u64 {
+fn planned(unit: UnitRecord, prices: &[i64], scratch: &mut [i64]) -> Result<BestPlan, Cause> {
     let mut schedule = [0u64; 6];
-    commitment::number_in(&planner::plan_into(unit, prices, scratch, &mut schedule))
+    planner::plan_into(unit, prices, scratch, &mut schedule)
 }
 
 fn try_schedules(rt: &impl Print, unit: UnitRecord, prices: &[i64]) -> io::Result<()> {

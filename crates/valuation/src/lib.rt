@@ -12,95 +12,76 @@ ghost use Rattle.valuation.specs.Telling.{ToldBy, amount, most_amount};
 use commitment::{Limitation, Limits, Outcome, Outcomes, UnitRecord};
 use optimality::Figures;
 
-// All from one first layer: a run with less is a cell of it with less left.
-pub fn outcomes_in(unit: UnitRecord, f: Figures, prices: &[i64], cells: &[i64]) -> Outcomes
-    requires { ToldBy f unit prices.now cells.now }
-    ensures { result ≡ outcomes_of unit prices.now }
-{
-    Outcomes {
-        starts: outcome_in(unit, f, prices, cells, Limitation::Starts),
-        hours: outcome_in(unit, f, prices, cells, Limitation::Hours),
-        mwh: outcome_in(unit, f, prices, cells, Limitation::Mwh),
+// A case, its figures, and the first layer, which tells the best profit of every cell: a run with less is a cell with less left.
+#[derive(Clone, Copy)]
+pub struct Runs<'a> {
+    pub unit: UnitRecord,
+    pub figures: Figures,
+    pub prices: &'a [i64],
+    pub cells: &'a [i64],
+    ghost told: { ToldBy figures unit prices.now cells.now },
+}
+
+impl<'a> Runs<'a> {
+    // All from one first layer.
+    pub fn outcomes(&self) -> Outcomes
+        ensures { result ≡ outcomes_of self.now.unit self.now.prices.now }
+    {
+        Outcomes {
+            starts: self.outcome(Limitation::Starts),
+            hours: self.outcome(Limitation::Hours),
+            mwh: self.outcome(Limitation::Mwh),
+        }
     }
-}
 
-// What is not limited is not valued.
-fn outcome_in(
-    unit: UnitRecord,
-    f: Figures,
-    prices: &[i64],
-    cells: &[i64],
-    which: Limitation,
-) -> Outcome
-    requires { ToldBy f unit prices.now cells.now }
-    ensures { result ≡ outcome_of unit prices.now which }
-{
-    match commitment::limit_for(unit.limits, which) {
-        None => Outcome::None,
-        Some(figure) => run_pair(unit, f, prices, cells, which, budgets::lowered(figure)),
+    // What is not limited is not valued.
+    fn outcome(&self, which: Limitation) -> Outcome
+        ensures { result ≡ outcome_of self.now.unit self.now.prices.now which }
+    {
+        match commitment::limit_for(self.unit.limits, which) {
+            None => Outcome::None,
+            Some(figure) => self.pair(which, budgets::lowered(figure)),
+        }
     }
-}
 
-// The run at the lowered figure, and the lower run.
-fn run_pair(
-    unit: UnitRecord,
-    f: Figures,
-    prices: &[i64],
-    cells: &[i64],
-    which: Limitation,
-    figure: u64,
-) -> Outcome
-    requires told_by { ToldBy f unit prices.now cells.now }
-    requires at_most { AtMost (Some figure) (limit_for unit.limits which) }
-    ensures { result ≡ gap_at (λ k. profit_of (best (run_at unit which k) prices.now)) figure }
-{
-    if figure == 0 {
-        return Outcome::Empty;
+    // The run at the lowered figure, and the lower run.
+    fn pair(&self, which: Limitation, figure: u64) -> Outcome
+        requires { AtMost (Some figure) (limit_for self.now.unit.limits which) }
+        ensures { result ≡ gap_at (λ k. profit_of (best (run_at self.now.unit which k) self.now.prices.now)) figure }
+    {
+        if figure == 0 {
+            return Outcome::Empty;
+        }
+        let first = self.profit(which, figure);
+        let lower = self.profit(which, figure - 1);
+        gap_between(first, lower)
     }
-    let first = run_profit(unit, f, prices, cells, which, figure);
-    let lower = run_profit(unit, f, prices, cells, which, figure - 1);
-    gap_between(first, lower)
-}
 
-// The best profit with one limitation at a figure, the other two whole.
-fn run_profit(
-    unit: UnitRecord,
-    f: Figures,
-    prices: &[i64],
-    cells: &[i64],
-    which: Limitation,
-    figure: u64,
-) -> Option<i64>
-    requires told_by { ToldBy f unit prices.now cells.now }
-    requires at_most { AtMost (Some figure) (limit_for unit.limits which) }
-    ensures { result ≡ profit_of (best (run_at unit which figure) prices.now) }
-{
-    let lower = commitment::with_limit(unit.limits, which, Some(figure));
-    profit_under(unit, lower, f, prices, cells)
-}
+    // The best profit with one limitation at a figure, the other two whole.
+    fn profit(&self, which: Limitation, figure: u64) -> Option<i64>
+        requires { AtMost (Some figure) (limit_for self.now.unit.limits which) }
+        ensures { result ≡ profit_of (best (run_at self.now.unit which figure) self.now.prices.now) }
+    {
+        let lower = commitment::with_limit(self.unit.limits, which, Some(figure));
+        self.profit_under(lower)
+    }
 
-// The best profit of the case itself.
-pub fn whole_profit(unit: UnitRecord, f: Figures, prices: &[i64], cells: &[i64]) -> Option<i64>
-    requires { ToldBy f unit prices.now cells.now }
-    ensures { result ≡ profit_of (best unit prices.now) }
-{
-    profit_under(unit, unit.limits, f, prices, cells)
-}
+    // The best profit of the case itself.
+    pub fn whole_profit(&self) -> Option<i64>
+        ensures { result ≡ profit_of (best self.now.unit self.now.prices.now) }
+    {
+        self.profit_under(self.unit.limits)
+    }
 
-// Under limitations at most the unit's.
-fn profit_under(
-    unit: UnitRecord,
-    limits: Limits,
-    f: Figures,
-    prices: &[i64],
-    cells: &[i64],
-) -> Option<i64>
-    requires told_by { ToldBy f unit prices.now cells.now }
-    requires under { Under limits unit.limits }
-    ensures { result ≡ profit_of (best (limited unit limits) prices.now) }
-{
-    let run = commitment::under_limits(unit, limits);
-    table::best_at(cells, f, budgets::opening_cell(run, prices.len()))
+    // Under limitations at most the unit's.
+    fn profit_under(&self, limits: Limits) -> Option<i64>
+        requires { Under limits self.now.unit.limits }
+        ensures { result ≡ profit_of (best (limited self.now.unit limits) self.now.prices.now) }
+    {
+        let run = commitment::under_limits(self.unit, limits);
+        let opening = budgets::opening_cell(run, self.prices.len());
+        table::best_at(self.cells, self.figures, opening)
+    }
 }
 
 // Without a schedule of the lower run there is nothing to compare with.

@@ -1,8 +1,7 @@
 -- The cycle of calls {halves, solve}.
-use Rattle.std.proofs.Common.{◌≡◌, ◌+◌, ◌-◌, ◌<◌, length, ℕ, arith, rules}
-use Rattle.geometry.specs.Geometry.{width}
-use Rattle.halving.specs.Tasks.{near, boxed, midway, early_half, late_half, TaskAsked, Halves, Solved}
-use Rattle.halving.proofs.Boxes.{as-leaf, as_passed, as-halves, unboxed, boxed-sound, table_fits}
+use Rattle.std.proofs.Common.{length, arith}
+use Rattle.halving.specs.Tasks.{near}
+use Rattle.halving.proofs.Boxes.{as-leaf, as_passed, as-halves, unboxed}
 use Rattle.halving.proofs.Joining.{middle-apart, mark, mark-kept, spends-all, early-task, late-task, both-solved}
 use Rattle.halving.proofs.+halves_solve.Goals as goal
 
@@ -77,50 +76,45 @@ halves-returns-clause-solved t c =
 pub solve-leaf-requires : goal.solve-leaf-requires
 solve-leaf-requires t c =
     let a = c.args in
-    rw c.boxed-figures.ensures
-    (as-leaf a.f a.prices.now a.hours a.room a.t (length a.cells.now) (length a.schedule.now) c.requires c.layer_cells-width.result
-    (rw c.boxed-figures.ensures at c.layer_cells-width.ensures) a.room (length a.cells.now) c.requires.fits c.if-width-room.true)
+    as-leaf a.f a.prices.now a.hours a.room a.t (length a.cells.now) (length a.schedule.now) c.requires c.layer_cells-width.result
+    c.layer_cells-width.ensures a.room (length a.cells.now) c.requires.fits c.if-width-room.true
 
 pub solve-returns-then-width-room-clause-solved : goal.solve-returns-then-width-room-clause-solved
 solve-returns-then-width-room-clause-solved t c =
     let a = c.args in
     unboxed a.f a.prices.now a.hours a.room a.t (length a.cells.now) (length a.schedule.now) c.requires _ _ _
-    (rw c.boxed-figures.ensures at c.leaf.ensures.solved)
+    c.leaf.ensures.solved
 
 pub solve-near_leaf-requires : goal.solve-near_leaf-requires
 solve-near_leaf-requires t c =
     let a = c.args in
-    rw c.boxed-figures.ensures
-    (as-leaf a.f a.prices.now a.hours a.room a.t (length a.cells.now) (length a.schedule.now) c.requires c.layer_cells-width.result
-    (rw c.boxed-figures.ensures at c.layer_cells-width.ensures) near near (omega arith) c.if-width-layers.true)
+    as-leaf a.f a.prices.now a.hours a.room a.t (length a.cells.now) (length a.schedule.now) c.requires c.layer_cells-width.result
+    c.layer_cells-width.ensures near near (omega arith) c.if-width-layers.true
 
 pub solve-returns-then-width-layers-clause-solved :
     goal.solve-returns-then-width-layers-clause-solved
 solve-returns-then-width-layers-clause-solved t c =
     let a = c.args in
     unboxed a.f a.prices.now a.hours a.room a.t (length a.cells.now) (length a.schedule.now) c.requires _ _ _
-    (rw c.boxed-figures.ensures at c.near_leaf.ensures)
+    c.near_leaf.ensures
 
 pub solve-pass-requires : goal.solve-pass-requires
 solve-pass-requires t c =
     let a = c.args in
-    rw c.boxed-figures.ensures
-    (as_passed a.f a.prices.now a.hours a.room a.t (length a.cells.now) (length a.schedule.now) c.requires
-    c.layer_cells-width.result (rw c.boxed-figures.ensures at c.layer_cells-width.ensures) c.if-width-room.false)
+    as_passed a.f a.prices.now a.hours a.room a.t (length a.cells.now) (length a.schedule.now) c.requires
+    c.layer_cells-width.result c.layer_cells-width.ensures c.if-width-room.false
 
 pub solve-halves-requires : goal.solve-halves-requires
 solve-halves-requires t c =
     let a = c.args in (
       omega arith,
-      rw c.boxed-figures.ensures
-          (as-halves a.f a.prices.now a.hours a.room a.t (length a.cells.now) (length a.schedule.now) c.requires
-          c.layer_cells-width.result (rw c.boxed-figures.ensures at c.layer_cells-width.ensures) c.if-width-room.false c.pass.new.cells
-          (omega (arith, c.pass.auto.cells, c.requires.fits))
-          (rw c.boxed-figures.ensures at c.pass.ensures.marked)),
+      as-halves a.f a.prices.now a.hours a.room a.t (length a.cells.now) (length a.schedule.now) c.requires
+          c.layer_cells-width.result c.layer_cells-width.ensures c.if-width-room.false c.pass.new.cells
+          (omega (arith, c.pass.auto.cells, c.requires.fits)) c.pass.ensures.marked,
     )
 
 pub solve-returns-clause-solved : goal.solve-returns-clause-solved
 solve-returns-clause-solved t c =
     let a = c.args in
     unboxed a.f a.prices.now a.hours a.room a.t (length a.cells.now) (length a.schedule.now) c.requires _ _ _
-    (rw c.boxed-figures.ensures at c.halves.ensures.solved)
+    c.halves.ensures.solved

@@ -13,12 +13,12 @@ use Rattle.planner.proofs.reading.read_outcomes.Goals as goal
 
 pub returns-in_err-ok_or : goal.returns-in_err-ok_or
 returns-in_err-ok_or c =
-    rw (no-plan (best c.args.unit c.args.prices.now) (sym c.whole_profit-best.ensures ∙ err-was _ _ _ c.in_err-ok_or.ensures.value)) (search rules)
+    rw (no-plan (best c.args.runs.now.unit c.args.runs.now.prices.now) (sym c.whole_profit.ensures ∙ err-was _ _ _ c.in_err-ok_or.ensures.value)) (search rules)
 
 pub returns : goal.returns
 returns c =
-    let u = c.args.unit in
-    let prices = c.args.prices.now in
-    let some = some-plan (best u prices) c.in_ok-ok_or.field-0 (sym c.whole_profit-best.ensures ∙ ok-was _ _ _ c.in_ok-ok_or.ensures.value) in
-    ap Ok c.outcomes_in.ensures
+    let u = c.args.runs.now.unit in
+    let prices = c.args.runs.now.prices.now in
+    let some = some-plan (best u prices) c.in_ok-ok_or.field-0 (sym c.whole_profit.ensures ∙ ok-was _ _ _ c.in_ok-ok_or.ensures.value) in
+    ap Ok c.outcomes.ensures
     ∙ ap (λ (b : Plan). valued_by (unless (has_schedule b) NoSchedule (Ok tt)) (outcomes_of u prices)) (sym some.1)

@@ -24,45 +24,39 @@ answer u prices b = reported_by (unless (has_schedule b) NoSchedule (Ok tt)) b (
 abbrev schedule : List ℕ → Plan → List ℕ
 schedule was b = schedule_after (unless (has_schedule b) NoSchedule (Ok tt)) b was
 
-pub whole_profit-best-requires : goal.whole_profit-best-requires
-whole_profit-best-requires c =
+pub invariant_of-runs : goal.invariant_of-runs
+invariant_of-runs c =
     let a = c.args in
     let ready = c.requires.0 in
-    (told a.unit a.prices.now a.model a.scratch.now ready.model ready.begun, ready.model.figures)
-
-pub outcomes_in-outcomes-requires : goal.outcomes_in-outcomes-requires
-outcomes_in-outcomes-requires c =
-    let a = c.args in
-    let ready = c.requires.0 in
-    (told a.unit a.prices.now a.model a.scratch.now ready.model ready.begun, ready.model.figures)
+    record { told = (told a.unit a.prices.now a.model a.scratch.now ready.model ready.begun, ready.model.figures) }
 
 pub read_plan-requires-clause-fact : goal.read_plan-requires-clause-fact
-read_plan-requires-clause-fact c none = no-earning (sym none ∙ sym c.whole_profit-best.ensures ∙ ok-was _ _ _ c.in_ok-profit.ensures.value)
+read_plan-requires-clause-fact c none = no-earning (sym none ∙ sym c.whole_profit.ensures ∙ ok-was _ _ _ c.in_ok-profit.ensures.value)
 
 pub returns-in_err-profit-clause-value : goal.returns-in_err-profit-clause-value
 returns-in_err-profit-clause-value c =
-    rw (no-plan (best c.args.unit c.args.prices.now) (sym c.whole_profit-best.ensures ∙ err-was _ _ _ c.in_err-profit.ensures.value)) (search rules)
+    rw (no-plan (best c.args.unit c.args.prices.now) (sym c.whole_profit.ensures ∙ err-was _ _ _ c.in_err-profit.ensures.value)) (search rules)
 
 pub returns-in_err-profit-clause-schedule_after : goal.returns-in_err-profit-clause-schedule_after
 returns-in_err-profit-clause-schedule_after c =
     ap (schedule c.args.schedule.now)
-    (sym (no-plan (best c.args.unit c.args.prices.now) (sym c.whole_profit-best.ensures ∙ err-was _ _ _ c.in_err-profit.ensures.value)))
+    (sym (no-plan (best c.args.unit c.args.prices.now) (sym c.whole_profit.ensures ∙ err-was _ _ _ c.in_err-profit.ensures.value)))
 
 pub returns-clause-value : goal.returns-clause-value
 returns-clause-value c =
     let u = c.args.unit in
     let prices = c.args.prices.now in
     let profit = c.in_ok-profit.profit in
-    let some = some-plan (best u prices) profit (sym c.whole_profit-best.ensures ∙ ok-was _ _ _ c.in_ok-profit.ensures.value) in
+    let some = some-plan (best u prices) profit (sym c.whole_profit.ensures ∙ ok-was _ _ _ c.in_ok-profit.ensures.value) in
     let order = c.requires.0.model.order in
     let long = plan-length u order.ranges order.shape prices some.0 profit some.1 in
-    same-report (sym long) (search rules) c.outcomes_in-outcomes.ensures ∙ ap (answer u prices) (sym some.1)
+    same-report (sym long) (search rules) c.outcomes-outcomes.ensures ∙ ap (answer u prices) (sym some.1)
 
 pub returns-clause-schedule_after : goal.returns-clause-schedule_after
 returns-clause-schedule_after c =
     let u = c.args.unit in
     let prices = c.args.prices.now in
-    let some = some-plan (best u prices) c.in_ok-profit.profit (sym c.whole_profit-best.ensures ∙ ok-was _ _ _ c.in_ok-profit.ensures.value) in
+    let some = some-plan (best u prices) c.in_ok-profit.profit (sym c.whole_profit.ensures ∙ ok-was _ _ _ c.in_ok-profit.ensures.value) in
     c.read_plan.ensures.schedule_after
     ∙ ap (λ (b : Plan). schedule_after (Ok tt) b c.args.schedule.now) some.1
     ∙ ap (schedule c.args.schedule.now) (sym some.1)
