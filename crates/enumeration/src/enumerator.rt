@@ -1,7 +1,7 @@
 // Every list of outputs of a small case, tried in order (specification 7) and judged by the rules of specification 4 to 6. It shares nothing with the planner.
 // Money is kept as what is earned and what is spent, two natural numbers, so that no sum is signed.
 
-ghost use Rattle.std.specs.Prelude.{◌≡◌, ◌+◌, ◌*◌, ◌/◌, ◌^◌, ◌<◌, ◌≤◌, length};
+ghost use Rattle.std.specs.Prelude.{◌≡◌, IfSome, false, ◌+◌, ◌*◌, ◌/◌, ◌^◌, ◌<◌, ◌≤◌, length};
 ghost use Rattle.enumeration.specs.Lists.{room, most_outputs, intervals_of, outputs_of, output_of, lists_of, in_front};
 ghost use Rattle.enumeration.specs.Dates.{is_sunday, goes_forward, goes_back, days_of, date_exists};
 ghost use Rattle.enumeration.specs.Expecting.{Summed, OneMore, cap_of, earnings, WorthOf};
@@ -337,7 +337,9 @@ fn spent_on(case: Case, output: u64) -> u64
 // ---- the first best
 
 // Only a list that keeps the times and the hours is added up.
-pub fn judged(case: Case, number: u64) -> Option<Found> {
+pub fn judged(case: Case, number: u64) -> Option<Found>
+    ensures { IfSome result (λ found. (found.number ≡ number) × (found.tied ≡ false) × (found.earned < 2 ^ 60) × (found.spent < 2 ^ 60)) }
+{
     let outputs = list_of(case, number);
     let list = &outputs[..intervals_of(case)];
     if !(date_exists(case) && times_kept(case, list) && hours_kept(case, list)) {
@@ -380,7 +382,9 @@ fn best_with(best: Option<Found>, next: Option<Found>) -> Option<Found> {
 }
 
 // By counting up, so that of lists that tie the first stays.
-pub fn best_of(case: Case) -> Option<Found> {
+pub fn best_of(case: Case) -> Option<Found>
+    ensures { IfSome result (λ found. (found.earned < 2 ^ 60) × (found.spent < 2 ^ 60)) }
+{
     let mut best = None;
     for number in 0..lists_of(case) {
         best = best_with(best, judged(case, number));
