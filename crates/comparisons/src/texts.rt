@@ -16,15 +16,15 @@ const PAGE: usize = 512;
 
 // The bytes written so far, in memory of a fixed size: what a page has no room for is left out.
 #[derive(Clone, Copy)]
-struct Page {
-    bytes: [u8; PAGE],
-    used: usize,
+pub struct Page {
+    pub bytes: [u8; PAGE],
+    pub used: usize,
     ghost within: { used ≤ 512 },
 }
 
 // Two parts of the thirteen names, and each of the four of the permitted hours.
 #[derive(Clone, Copy, PartialEq, Eq)]
-enum Part {
+pub enum Part {
     Unit,
     Rest,
     Year,
@@ -44,9 +44,9 @@ const PARTS: [Part; 6] = [
 
 // The sequence of the parts, and which of the last four stand.
 #[derive(Clone, Copy)]
-struct Sheet {
-    sequence: [Part; 6],
-    four: [bool; 4],
+pub struct Sheet {
+    pub sequence: [Part; 6],
+    pub four: [bool; 4],
 }
 
 // What reading the text says.

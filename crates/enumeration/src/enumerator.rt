@@ -7,7 +7,7 @@ ghost use Rattle.enumeration.specs.Dates.{is_sunday, goes_forward, goes_back, da
 ghost use Rattle.enumeration.specs.Expecting.{Summed, OneMore, cap_of, earnings, WorthOf};
 ghost use Rattle.enumeration.specs.Limits.{for_limit, with_limit};
 
-use crate::found::Found;
+pub use crate::found::Found;
 use crate::numbers::{difference, times};
 
 // The intervals that a list has room for, so that the third hour of the day is reached, and the outputs of an interval. specs/Lists.antt has the same.
@@ -173,7 +173,9 @@ fn spells_last(list: &[u32], on: bool, before: u64, least: u64) -> bool {
 }
 
 // The intervals spent before interval 1 in the state asked for.
-fn held_in(case: Case, on: bool) -> u64 {
+fn held_in(case: Case, on: bool) -> u64
+    ensures { result < 2 ^ 8 }
+{
     if case.was_on == on {
         u64::from(case.held)
     } else {

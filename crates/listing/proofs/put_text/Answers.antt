@@ -1,17 +1,14 @@
-use Rattle.std.proofs.Common.{refl, ◌∙◌, length, arith}
-use Rattle.std.proofs.lemmas.Slice.{put_mid-paste}
-use Rattle.std.proofs.lemmas.List.Edits.{paste_all}
-use Rattle.listing.specs.Writing.{written}
+use mathlib.Core.Path.{ap, ◌∙◌}
+use Rattle.std.proofs.Common.{List, ℕ, ◌+◌, slice_set, slice_index_or}
+use Rattle.listing.proofs.Writing.{copied_none, copied_next}
 use Rattle.listing.proofs.put_text.Goals as goal
 
-pub returns : goal.returns
-unfolding written
-returns c =
+pub loop-i-init : goal.loop-i-init
+loop-i-init c = copied_none c.args.out.now c.args.at c.args.text.now c.requires
+
+pub loop-i-preserved : goal.loop-i-preserved
+loop-i-preserved c =
     let a = c.args in
-    let n = length a.text.now in
-    record {
-      place = refl;
-      bytes =
-          put_mid-paste a.at _ a.out.now _ a.text.now n c.copy_from_slice.ensures.after (omega arith) refl
-          ∙ paste_all a.out.now a.at a.text.now n refl;
-    }
+    let l = c.loop-i in
+    ap (λ (b : List ℕ). slice_set b (a.at + l.i) (slice_index_or a.text.now l.i 0)) l.invariant
+    ∙ copied_next a.out.now a.at a.text.now c.requires l.i c.loop-i-test.true
